@@ -1,0 +1,51 @@
+-- 01 'The run sheet': its example. The fifteen calls, and the values a, b, c that the answers give; `cut` is a scan.
+use mathlib.Core.Path.{_≡_, refl}
+use mathlib.Core.List.{List, [], _∷_, map}
+use lib.ListN.{replicate}
+use Rattle.model.specs.declared.Phase.the-variants.{Closing}
+use Rattle.model.specs.declared.Answer.{Answer}
+use Rattle.model.specs.declared.Answer.the-variants as A
+use Rattle.model.specs.Abort.{abort}
+use Rattle.model.specs.Answers.{Values, values, valuesOf}
+use Rattle.model.specs.Calls.{Call, Start, Put, Get, Commit, Step, Abort, Collect, Scan, does, answers}
+use Rattle.model.specs.Collect.{collect}
+use Rattle.model.specs.Commit.{withPhase, highestFree, clockFor, commit}
+use Rattle.model.specs.Effects.{stored, says, saysStoring, refusals, wrongLength, unsound}
+use Rattle.model.specs.Get.{choiceOf, withReads, withRead, versionAt, noRoom, notCarried, answered, get}
+use Rattle.model.specs.Ids.{older, sameId, newerOf, greatest}
+use Rattle.model.specs.Limits.{storeSize}
+use Rattle.model.specs.Lists.{_and_, _or_, all, any, first, filter, count, insert, padded, from, member, ascending, distinct, same, anyBelow, greatestBelow}
+use Rattle.model.specs.Put.{withWrites, withWrite, put}
+use Rattle.model.specs.Reading.{readOfWriter, lowerBound, conflictsWith, conflicts, passes, keepNewer, newest, chosen, choose}
+use Rattle.model.specs.Records.{bytes, number, idIn, markIn, entryIn, valueOf, headBytes, commitRecord, versionRecord, zeroRecord, entryRules, commitRules, carriesEntry, carriesVersion, recordAt, withRecord, recordOf}
+use Rattle.model.specs.Scan.{slotsSeen, entrySeen, isCommitted, breaks, lowestBroken, scanned, scan}
+use Rattle.model.specs.Slots.{versionsCarry, judged, seen}
+use Rattle.model.specs.Sound.{isNoWrite, isNoRead, isNoEntry, isNoLive, zeroPastCounts, setsRight, names, inUse, closingRight, placeRight, entryRight, sound}
+use Rattle.model.specs.Start.{opened, start}
+use Rattle.model.specs.Stations.{emptyStation, writesOf, readsOf, keysOf, wrote, hasWritten, hasRead, valueIn, isClosing, closingSlot, closingClock, recordsStored, liveAt, entryAt, setLive, setEntry, liveTxns, heldTxns, isLive, isHeld, placeOf, slotOf, holds, slotMark, closingSlots, isFree}
+use Rattle.model.specs.Step.{entryFor, oneMore, step}
+use Rattle.model.specs.Supersedence.{newerOn, superseded, isReadBy, isRead}
+
+unfoldable pub sheetCalls : List Call
+sheetCalls =
+    Start 5 ∷ Put 5 2 40 ∷ Put 5 1 7 ∷ Get 5 2 ∷ Commit 5 100 ∷ Step 5 ∷ Step 5 ∷ Step 5
+    ∷ Scan ∷ Start 6 ∷ Get 6 2 ∷ Get 6 9 ∷ Commit 5 200 ∷ Collect 63 ∷ Abort 6 ∷ []
+
+unfoldable pub sheetAnswers : List Answer
+sheetAnswers =
+    A.Started ∷ A.Kept ∷ A.Kept ∷ A.Own 40 ∷ A.Closing 63 ∷ A.Stored 1 ∷ A.Stored 2 ∷ A.Slipped 63
+    ∷ A.Found 1 ∷ A.Started ∷ A.Version 40 (record { clock = 100; txn = 5 }) ∷ A.None ∷ A.Done (record { clock = 100; txn = 5 })
+    ∷ A.Refused 15 0 ∷ A.Dropped ∷ []
+
+unfoldable pub sheetValues : List Values
+sheetValues =
+    values 0 0 0 ∷ values 0 0 0 ∷ values 0 0 0 ∷ values 40 0 0 ∷ values 63 0 0 ∷ values 1 0 0 ∷ values 2 0 0 ∷ values 63 0 0
+    ∷ values 1 0 0 ∷ values 0 0 0 ∷ values 40 100 5 ∷ values 0 0 0 ∷ values 0 100 5 ∷ values 15 0 0 ∷ values 0 0 0 ∷ []
+
+pub sheet-answers : answers sheetCalls emptyStation (replicate storeSize 0) ≡ sheetAnswers
+unfolding sheetCalls sheetAnswers _and_ _or_ all any first filter count insert padded from member ascending distinct same anyBelow greatestBelow older sameId newerOf greatest emptyStation writesOf readsOf keysOf wrote hasWritten hasRead valueIn isClosing closingSlot closingClock recordsStored liveAt entryAt setLive setEntry liveTxns heldTxns isLive isHeld placeOf slotOf holds slotMark closingSlots isFree bytes number idIn markIn entryIn valueOf headBytes commitRecord versionRecord zeroRecord entryRules commitRules carriesEntry carriesVersion recordAt withRecord recordOf versionsCarry judged seen isNoWrite isNoRead isNoEntry isNoLive zeroPastCounts setsRight names inUse closingRight placeRight entryRight sound readOfWriter lowerBound conflictsWith conflicts passes keepNewer newest chosen choose newerOn superseded isReadBy isRead stored says saysStoring refusals wrongLength unsound opened start withWrites withWrite put choiceOf withReads withRead versionAt noRoom notCarried answered get withPhase highestFree clockFor commit entryFor oneMore step abort collect slotsSeen entrySeen isCommitted breaks lowestBroken scanned scan does answers
+sheet-answers = refl
+
+pub sheet-values : map valuesOf sheetAnswers ≡ sheetValues
+unfolding sheetAnswers sheetValues valuesOf
+sheet-values = refl

@@ -1,0 +1,44 @@
+-- 01 'Calls': "commit ticket, clock."
+use Prim.Native.Nat.{ℕ}
+use mathlib.Core.Bool.{not, cond}
+use mathlib.Core.List.{[], _∷_}
+use lib.Dec.{eqb, leb}
+use Rattle.model.specs.declared.Live.{Live}
+use Rattle.model.specs.declared.Station.{Station}
+use Rattle.model.specs.declared.Phase.{Phase}
+use Rattle.model.specs.declared.Phase.the-variants.{Closing}
+use Rattle.model.specs.declared.Answer.the-variants as A
+use Rattle.model.specs.Effects.{Effect, says, _when_, refusals, unsound}
+use Rattle.model.specs.Limits.{slots}
+use Rattle.model.specs.Lists.{_and_, anyBelow, greatestBelow}
+use Rattle.model.specs.Stations.{noLive, isClosing, liveAt, entryAt, setLive, isLive, isHeld, placeOf, slotOf, isFree}
+
+unfoldable pub withPhase : Phase → Live → Live
+withPhase p l = record { txn = l .txn; phase = p; «write_count» = l .«write_count»; writes = l .writes; «read_count» = l .«read_count»; reads = l .reads }
+
+-- "the highest-numbered free drawer"
+unfoldable pub highestFree : Station → ℕ
+highestFree st = greatestBelow (isFree st) slots
+
+-- the clock that a commit gets: the one given
+unfoldable pub clockFor : Station → ℕ → ℕ
+clockFor st c = c
+
+unfoldable pub commit : Station → ℕ → ℕ → Effect
+commit st t c =
+    let i : ℕ = placeOf t st in let l : Live = liveAt st i in let d : ℕ = highestFree st in
+    refusals (
+      2 when unsound st
+      ∷ 3 when eqb t 0
+      ∷ 5 when eqb c 0
+      ∷ 8 when (not (isLive t st) and not (isHeld t st))
+      ∷ 9 when isClosing (l .phase)
+      ∷ 13 when (leb 1 (l .«write_count») and not (anyBelow (isFree st) slots))
+      ∷ []
+    ) st
+    -- "Already committed and held: done, with the stored id, whichever clock above 0 is given (a retry)."
+    (cond (isHeld t st) (says (A.Done (entryAt st (slotOf t st) .id)) st)
+    -- "Open with an empty write list: empty, nothing stored, the ticket is forgotten."
+    (cond (eqb (l .«write_count») 0) (says A.Empty (setLive st i noLive))
+    -- "Else it becomes closing and takes the highest-numbered free drawer; nothing is stored yet."
+    (says (A.Closing d) (setLive st i (withPhase (Closing d (clockFor st c) 0) l)))))

@@ -1,0 +1,44 @@
+-- 01 'Words': the limits, by name.
+use Prim.Native.Nat.{ℕ, _+_, _*_, _^_}
+
+-- "Key: 0 to 63."
+abbrev pub keys : ℕ
+keys = 64
+
+-- "A station holds eight live places and 64 drawer entries."
+abbrev pub livePlaces : ℕ
+livePlaces = 8
+
+abbrev pub slots : ℕ
+slots = 64
+
+-- "a write list (at most 8 keys ..) and a read list (at most 16 keys ..)"
+abbrev pub writeLimit : ℕ
+writeLimit = 8
+
+abbrev pub readLimit : ℕ
+readLimit = 16
+
+-- "64 drawers of 9 slips of 24 bytes": a commit record, and a version record for each key of a write set
+abbrev pub recordSize : ℕ
+recordSize = 24
+
+abbrev pub width : ℕ
+width = writeLimit + 1
+
+abbrev pub slotSize : ℕ
+slotSize = recordSize * width
+
+-- "Store: 13,824 lent bytes"
+abbrev pub storeSize : ℕ
+storeSize = slotSize * slots
+
+-- "Ticket: 1 to 2^32 − 1", "Value: a whole number below 2^64", "Clock: 1 to 2^64 − 1"; a key or a slot is handed over in a byte
+abbrev pub txnRange : ℕ
+txnRange = 2 ^ 32
+
+abbrev pub numberRange : ℕ
+numberRange = 2 ^ 64
+
+abbrev pub byteRange : ℕ
+byteRange = 2 ^ 8

@@ -1,0 +1,58 @@
+-- 01 'Calls', get: Algorithm 1 of the paper, over any list of entries es and any list of reads rs.
+use Prim.Native.Nat.{ℕ, suc}
+use mathlib.Core.Bool.{Bool, true, false, not, cond}
+use mathlib.Core.List.{List, [], _∷_, map}
+use mathlib.Core.Option.{Option, some, none}
+use lib.ListN.{getD}
+use Rattle.model.specs.declared.Id.{Id}
+use Rattle.model.specs.declared.Read.{Read}
+use Rattle.model.specs.declared.Entry.{Entry}
+use Rattle.model.specs.Ids.{older, sameId, greatest}
+use Rattle.model.specs.Lists.{_and_, any, filter}
+use Rattle.model.specs.Stations.{noEntry, wrote}
+
+-- a read whose transaction, among the entries, wrote the key
+unfoldable pub readOfWriter : List Entry → ℕ → Read → Bool
+readOfWriter es k r = any (λ e. sameId (e .id) (r .id) and wrote e k) es
+
+-- "The lower bound is the greatest id in the read list whose transaction wrote this key, or none."
+unfoldable pub lowerBound : List Entry → List Read → ℕ → Id
+lowerBound es rs k = greatest (map (λ (r : Read). r .id) (filter (readOfWriter es k) rs))
+
+-- "An entry conflicts when it wrote some key whose read version is older than the entry."
+unfoldable pub conflictsWith : Entry → Read → Bool
+conflictsWith e r = wrote e (r .key) and older (r .id) (e .id)
+
+unfoldable pub conflicts : Entry → List Read → Bool
+conflicts e rs = any (conflictsWith e) rs
+
+-- "wrote the key, is not below the bound, and conflicts with no read"
+unfoldable pub passes : List Entry → List Read → ℕ → Entry → Bool
+passes es rs k e = wrote e k and not (older (e .id) (lowerBound es rs k)) and not (conflicts e rs)
+
+-- "the newest entry that ..": the position of the newest of those that pass, of equal ids the first
+unfoldable pub keepNewer : Bool → Entry → List Entry → Option ℕ → Option ℕ
+keepNewer false e es none = none
+keepNewer false e es (some d) = some (suc d)
+keepNewer true e es none = some 0
+keepNewer true e es (some d) = cond (older (e .id) (getD es d noEntry .id)) (some (suc d)) (some 0)
+
+unfoldable pub newest : (Entry → Bool) → List Entry → Option ℕ
+newest p [] = none
+newest p (e ∷ es) = keepNewer (p e) e es (newest p es)
+
+-- what a get is answered from: its own write's value, no version, no version that fits, or the version in a slot
+pub data Choice : Type 0 where
+  own : ℕ → Choice
+  absent : Choice
+  nofit : Choice
+  version : ℕ → Choice
+
+-- "If no entry wrote the key: none. If some did but none passes: nofit."
+unfoldable pub chosen : Bool → Option ℕ → Choice
+chosen written (some d) = version d
+chosen true none = nofit
+chosen false none = absent
+
+unfoldable pub choose : List Entry → List Read → ℕ → Choice
+choose es rs k = chosen (any (λ e. wrote e k) es) (newest (passes es rs k) es)

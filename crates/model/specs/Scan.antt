@@ -1,0 +1,46 @@
+-- 01 'Calls': "scan store: a station with no live tickets and one entry for each committed drawer. It writes nothing."
+use Prim.Native.Nat.{ℕ}
+use mathlib.Core.Bool.{Bool, true, false, cond}
+use mathlib.Core.List.{List, [], _∷_, map}
+use lib.Dec.{ltb}
+use lib.ListN.{length, take, getD, replicate}
+use Rattle.model.specs.declared.Entry.{Entry}
+use Rattle.model.specs.declared.Answer.the-variants as A
+use Rattle.model.specs.Effects.{Effect, says, _when_, refusals, wrongLength}
+use Rattle.model.specs.Limits.{livePlaces, slots}
+use Rattle.model.specs.Lists.{first, count, from, member}
+use Rattle.model.specs.Slots.{Seen, free, committed, damaged, seen}
+use Rattle.model.specs.Stations.{noLive, noEntry, emptyStation}
+
+-- what is read of each slot
+unfoldable pub slotsSeen : List ℕ → List Seen
+slotsSeen s = from slots 0 (seen s)
+
+unfoldable pub entrySeen : Seen → Entry
+entrySeen free = noEntry
+entrySeen (committed e) = e
+entrySeen damaged = noEntry
+
+unfoldable pub isCommitted : Seen → Bool
+isCommitted free = false
+isCommitted (committed e) = true
+isCommitted damaged = false
+
+-- row 18: a slot "whose slips break the slip rules, or whose ticket a lower committed drawer has"
+unfoldable pub breaks : List Seen → Seen → Bool
+breaks lower free = false
+breaks lower (committed e) = member (e .id .txn) (map (λ (x : Seen). entrySeen x .id .txn) lower)
+breaks lower damaged = true
+
+-- the "lowest drawer" that does; the number of slots if none does
+unfoldable pub lowestBroken : List Seen → ℕ
+lowestBroken xs = first (λ d. breaks (take d xs) (getD xs d free)) (from (length xs) 0 (λ d. d))
+
+unfoldable pub scanned : List Seen → Effect
+scanned xs =
+    cond (ltb (lowestBroken xs) (length xs)) (says (A.Refused 18 (lowestBroken xs)) emptyStation)
+    (says (A.Found (count isCommitted xs)) (record { live = replicate livePlaces noLive; entries = map entrySeen xs }))
+
+-- "a refused scan hands back the empty station"
+unfoldable pub scan : List ℕ → Effect
+scan s = refusals (1 when wrongLength s ∷ []) emptyStation (scanned (slotsSeen s))

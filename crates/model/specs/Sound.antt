@@ -1,0 +1,73 @@
+-- 01 'Sound stations', sentence by sentence. "At most 8 live tickets": a station has 8 live places.
+use Prim.Native.Nat.{_+_}
+use mathlib.Core.Bool.{Bool, not}
+use mathlib.Core.List.{List, _++_, map}
+use lib.Dec.{eqb, ltb, leb}
+use lib.ListN.{drop}
+use Rattle.model.specs.declared.Write.{Write}
+use Rattle.model.specs.declared.Read.{Read}
+use Rattle.model.specs.declared.Live.{Live}
+use Rattle.model.specs.declared.Entry.{Entry}
+use Rattle.model.specs.declared.Station.{Station}
+use Rattle.model.specs.declared.Phase.{Phase}
+use Rattle.model.specs.declared.Phase.the-variants.{Unused, Open, Closing}
+use Rattle.model.specs.Ids.{sameId, noId}
+use Rattle.model.specs.Limits.{keys, slots, writeLimit, readLimit}
+use Rattle.model.specs.Lists.{_and_, _or_, all, any, count, ascending, distinct}
+use Rattle.model.specs.Records.{entryRules}
+use Rattle.model.specs.Stations.{writesOf, readsOf, wrote, writeKey, readKey, closingSlot, closingClock, recordsStored, liveTxns, heldTxns, holds, closingSlots}
+
+-- ── "All fields of unused places, entries and list positions are zero." ──
+unfoldable pub isNoWrite : Write → Bool
+isNoWrite w = eqb (w .key) 0 and eqb (w .value) 0
+
+unfoldable pub isNoRead : Read → Bool
+isNoRead r = eqb (r .key) 0 and sameId (r .id) noId
+
+unfoldable pub isNoEntry : Entry → Bool
+isNoEntry e = sameId (e .id) noId and eqb (e .count) 0 and all (eqb 0) (e .keys)
+
+unfoldable pub isNoLive : Live → Bool
+isNoLive l = eqb (l .txn) 0 and eqb (l .«write_count») 0 and eqb (l .«read_count») 0 and all isNoWrite (l .writes) and all isNoRead (l .reads)
+
+unfoldable pub zeroPastCounts : Live → Bool
+zeroPastCounts l = all isNoWrite (drop (l .«write_count») (l .writes)) and all isNoRead (drop (l .«read_count») (l .reads))
+
+-- ── "Write and read lists are within their limits and strictly ascending, keys below 64." ──
+unfoldable pub setsRight : Live → Bool
+setsRight l =
+    leb (l .«write_count») writeLimit and leb (l .«read_count») readLimit
+    and ascending 0 keys (map writeKey (writesOf l)) and ascending 0 keys (map readKey (readsOf l))
+
+-- ── "Every read names an entry that wrote that key." ──
+unfoldable pub names : List Entry → Read → Bool
+names es r = any (λ e. sameId (e .id) (r .id) and wrote e (r .key)) es
+
+-- ── a live transaction: its number is nonzero, and the three sentences above hold ──
+unfoldable pub inUse : List Entry → Live → Bool
+inUse es l = leb 1 (l .txn) and setsRight l and all (names es) (readsOf l) and zeroPastCounts l
+
+-- ── "A closing ticket has 1 to 8 keys, a clock at least 1, 0 to n + 1 slips stored and a drawer below 64 that nothing else has." ──
+-- (that no other closing transaction has it is said of the whole station)
+unfoldable pub closingRight : Station → Live → Bool
+closingRight st l =
+    leb 1 (l .«write_count») and leb 1 (closingClock (l .phase)) and leb (recordsStored (l .phase)) (l .«write_count» + 1)
+    and ltb (closingSlot (l .phase)) slots and not (holds st (closingSlot (l .phase)))
+
+unfoldable pub placeRight : Station → Phase → Live → Bool
+placeRight st Unused l = isNoLive l
+placeRight st Open l = inUse (st .entries) l
+placeRight st (Closing d c n) l = inUse (st .entries) l and closingRight st l
+
+-- ── "Entries keep the commit slip's rules." ──
+unfoldable pub entryRight : Entry → Bool
+entryRight e = isNoEntry e or entryRules e
+
+unfoldable pub sound : Station → Bool
+sound st =
+    all entryRight (st .entries)
+    and all (λ l. placeRight st (l .phase) l) (st .live)
+    -- "All tickets, live and held, are nonzero and different."
+    and distinct (liveTxns st ++ heldTxns st)
+    -- ".. a drawer .. that nothing else has"
+    and distinct (closingSlots st)

@@ -1,0 +1,50 @@
+-- 01 'Calls': "step ticket (closing, n keys)."
+use Prim.Native.Nat.{ℕ, _+_}
+use mathlib.Core.Bool.{not, cond}
+use mathlib.Core.List.{List, [], _∷_, map}
+use lib.Dec.{eqb, ltb}
+use lib.ListN.{getD}
+use Rattle.model.specs.declared.Write.{Write}
+use Rattle.model.specs.declared.Live.{Live}
+use Rattle.model.specs.declared.Entry.{Entry}
+use Rattle.model.specs.declared.Station.{Station}
+use Rattle.model.specs.declared.Phase.{Phase}
+use Rattle.model.specs.declared.Phase.the-variants.{Unused, Open, Closing}
+use Rattle.model.specs.declared.Answer.the-variants as A
+use Rattle.model.specs.Commit.{withPhase}
+use Rattle.model.specs.Effects.{Effect, says, saysStoring, _when_, refusals, wrongLength, unsound}
+use Rattle.model.specs.Limits.{keys}
+use Rattle.model.specs.Lists.{count}
+use Rattle.model.specs.Records.{commitRecord, versionRecord}
+use Rattle.model.specs.Stations.{noWrite, noLive, writeKey, isClosing, closingSlot, closingClock, recordsStored, liveAt, setLive, setEntry, isLive, placeOf}
+
+-- the entry that a closing transaction becomes
+unfoldable pub entryFor : Live → Entry
+entryFor l = record { id = record { clock = closingClock (l .phase); txn = l .txn }; count = l .«write_count»; keys = map writeKey (l .writes) }
+
+-- one record more is stored
+unfoldable pub oneMore : Phase → Phase
+oneMore Unused = Unused
+oneMore Open = Open
+oneMore (Closing d c n) = Closing d c (n + 1)
+
+unfoldable pub step : Station → List ℕ → ℕ → Effect
+step st s t =
+    let i : ℕ = placeOf t st in let l : Live = liveAt st i in
+    let d : ℕ = closingSlot (l .phase) in let j : ℕ = recordsStored (l .phase) in
+    let w : Write = getD (l .writes) j noWrite in
+    let on : Station = setLive st i (withPhase (oneMore (l .phase)) l) in
+    refusals (
+      1 when wrongLength s
+      ∷ 2 when unsound st
+      ∷ 3 when eqb t 0
+      ∷ 8 when not (isLive t st)
+      ∷ 10 when not (isClosing (l .phase))
+      ∷ []
+    ) st
+    -- "The first n steps store version slips 1 to n."
+    (cond (ltb j (l .«write_count»)) (saysStoring (A.Stored (w .key)) on d (j + 1) (versionRecord (w .key) (entryFor l .id) (w .value)))
+    -- "Step n + 1 stores the commit slip."
+    (cond (eqb j (l .«write_count»)) (saysStoring (A.Slipped d) on d 0 (commitRecord (entryFor l)))
+    -- "Step n + 2 stores nothing: it makes the entry, ends the ticket and acknowledges (§3.3)."
+    (says (A.Done (entryFor l .id)) (setEntry (setLive st i noLive) d (entryFor l)))))

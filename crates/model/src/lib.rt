@@ -1,0 +1,98 @@
+// The types of the store: a station's live transactions and its commit set, and what a call answers.
+// What each call does to them is defined in specs/.
+ghost use mathlib.Core.Path.{_≡_};
+ghost use Rattle.model.specs.Stations.{emptyStation};
+
+// 01's id: the pair (clock, ticket) of a committed transaction.
+pub struct Id {
+    pub clock: u64,
+    pub txn: u32,
+}
+
+// How far a live transaction is: 01's open, or closing with its slot (drawer), clock and records (slips) stored so far.
+pub enum Phase {
+    Unused,
+    Open,
+    Closing(u8, u64, u8),
+}
+
+// A key of the write set (01's write list) with its last value.
+pub struct Write {
+    pub key: u8,
+    pub value: u64,
+}
+
+// A key of the read set (01's read list) with the id of the version read.
+pub struct Read {
+    pub key: u8,
+    pub id: Id,
+}
+
+// A place for a live transaction (01's live ticket).
+pub struct Live {
+    pub txn: u32,
+    pub phase: Phase,
+    pub write_count: u8,
+    pub writes: [Write; Station::WRITES],
+    pub read_count: u8,
+    pub reads: [Read; Station::READS],
+}
+
+// A committed transaction of the commit set (01's entry, a held drawer): its id and write set.
+pub struct Entry {
+    pub id: Id,
+    pub count: u8,
+    pub keys: [u8; Station::WRITES],
+}
+
+// 01's station, the paper's node: all that is lost when power goes.
+pub struct Station {
+    pub live: [Live; Station::LIVE],
+    pub entries: [Entry; Station::SLOTS],
+}
+
+// What a call answers; the variants are 01's output words. Refused holds the number and, with 18, the slot.
+pub enum Answer {
+    Started,
+    Kept,
+    Own(u64),
+    Version(u64, Id),
+    None,
+    Nofit,
+    Closing(u8),
+    Empty,
+    Done(Id),
+    Stored(u8),
+    Slipped(u8),
+    Dropped,
+    Collected(Id),
+    Found(u8),
+    Refused(u8, u8),
+}
+
+impl Station {
+    // Live transactions, slots, keys in a write set and keys in a read set, each at most.
+    pub const LIVE: usize = 8;
+    pub const SLOTS: usize = 64;
+    pub const WRITES: usize = 8;
+    pub const READS: usize = 16;
+
+    // The station made from nothing.
+    pub fn empty() -> Station
+        ensures { λ r. ⌜ r ≡ emptyStation ⌝ }
+    {
+        let id = Id { clock: 0, txn: 0 };
+        let write = Write { key: 0, value: 0 };
+        let read = Read { key: 0, id: id };
+        let live = Live {
+            txn: 0,
+            phase: Phase::Unused,
+            write_count: 0,
+            writes: [write; Station::WRITES],
+            read_count: 0,
+            reads: [read; Station::READS],
+        };
+        let entry = Entry { id: id, count: 0, keys: [0; Station::WRITES] };
+        Station { live: [live; Station::LIVE], entries: [entry; Station::SLOTS] }
+    }
+}
