@@ -1,2 +1,4 @@
+pub mod Tests
+pub mod ListLaws
 pub mod BenchTable
 pub mod RunSheet

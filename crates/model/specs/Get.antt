@@ -13,11 +13,11 @@ use Rattle.model.specs.Effects.{Effect, says, _when_, refusals, wrongLen
 use Rattle.model.specs.Limits.{keys, readLimit}
 use Rattle.model.specs.Lists.{_and_, insert, padded}
 use Rattle.model.specs.Reading.{Choice, own, absent, nofit, version, choose}
-use Rattle.model.specs.Records.{valueOf, carriesVersion, recordAt, recordOf}
-use Rattle.model.specs.Stations.{noRead, writesOf, readsOf, readKey, hasWritten, hasRead, valueIn, isClosing, liveAt, entryAt, setLive, isLive, placeOf}
+use Rattle.model.specs.Records.{valueIn, carriesVersion, recordAt, recordOf}
+use Rattle.model.specs.Stations.{noRead, writesOf, readsOf, readKey, hasWritten, hasRead, valueUnder, isClosing, liveAt, entryAt, setLive, isLive, placeOf}
 
 unfoldable pub choiceOf : Station → Live → ℕ → Choice
-choiceOf st l k = cond (hasWritten k l) (own (valueIn k (writesOf l))) (choose (st .entries) (readsOf l) k)
+choiceOf st l k = cond (hasWritten k l) (own (valueUnder k (writesOf l))) (choose (st .entries) (readsOf l) k)
 
 -- "The key and id join the read list."
 unfoldable pub withReads : List Read → Live → Live
@@ -50,7 +50,7 @@ answered st s i k (own v) = says (A.Own v) st
 answered st s i k absent = says A.None st
 answered st s i k nofit = says A.Nofit st
 answered st s i k (version d) =
-    says (A.Version (valueOf (versionAt st s k d)) (entryAt st d .id)) (setLive st i (withRead k (entryAt st d .id) (liveAt st i)))
+    says (A.Version (valueIn (versionAt st s k d)) (entryAt st d .id)) (setLive st i (withRead k (entryAt st d .id) (liveAt st i)))
 
 unfoldable pub get : Station → List ℕ → ℕ → ℕ → Effect
 get st s t k =

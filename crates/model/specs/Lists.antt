@@ -1,6 +1,6 @@
 -- Tests, and lists searched by a test: what the other definitions are written in.
 use Prim.Native.Nat.{ℕ, zero, suc, _-_}
-use mathlib.Core.Bool.{Bool, true, false, not, cond}
+use mathlib.Core.Bool.{Bool, true, false, not}
 use mathlib.Core.List.{List, [], _∷_, _++_}
 use lib.Dec.{eqb, ltb, leb}
 use lib.ListN.{length, replicate}
@@ -21,31 +21,35 @@ module _ {A : Type 0} where
   -- all of a list pass; some does
   unfoldable pub all : (A → Bool) → List A → Bool
   all p [] = true
-  all p (x ∷ xs) = cond (p x) (all p xs) false
+  all p (x ∷ xs) = elim (p x) [ true ↦ all p xs | false ↦ false ]
 
   unfoldable pub any : (A → Bool) → List A → Bool
   any p [] = false
-  any p (x ∷ xs) = cond (p x) true (any p xs)
+  any p (x ∷ xs) = elim (p x) [ true ↦ true | false ↦ any p xs ]
 
   -- the position of the first that passes; the length if none does
   unfoldable pub first : (A → Bool) → List A → ℕ
   first p [] = 0
-  first p (x ∷ xs) = cond (p x) 0 (suc (first p xs))
+  first p (x ∷ xs) = elim (p x) [ true ↦ 0 | false ↦ suc (first p xs) ]
 
   -- those that pass
   unfoldable pub filter : (A → Bool) → List A → List A
   filter p [] = []
-  filter p (x ∷ xs) = cond (p x) (x ∷ filter p xs) (filter p xs)
+  filter p (x ∷ xs) = elim (p x) [ true ↦ x ∷ filter p xs | false ↦ filter p xs ]
 
   -- how many pass
   unfoldable pub count : (A → Bool) → List A → ℕ
   count p [] = 0
-  count p (x ∷ xs) = cond (p x) (suc (count p xs)) (count p xs)
+  count p (x ∷ xs) = elim (p x) [ true ↦ suc (count p xs) | false ↦ count p xs ]
 
   -- x put into a list that ascends by key: in the place of the one with its key, or before the first with a greater
   unfoldable pub insert : (A → ℕ) → A → List A → List A
   insert key x [] = x ∷ []
-  insert key x (y ∷ ys) = cond (ltb (key y) (key x)) (y ∷ insert key x ys) (cond (eqb (key x) (key y)) (x ∷ ys) (x ∷ y ∷ ys))
+  insert key x (y ∷ ys) =
+      elim (ltb (key y) (key x)) [
+        | true ↦ y ∷ insert key x ys
+        | false ↦ elim (eqb (key x) (key y)) [ true ↦ x ∷ ys | false ↦ x ∷ y ∷ ys ]
+      ]
 
   -- a list with the rest of n positions filled up
   unfoldable pub padded : A → ℕ → List A → List A
@@ -62,19 +66,19 @@ member n xs = any (eqb n) xs
 -- strictly ascending, all at least lo and below hi
 unfoldable pub ascending : ℕ → ℕ → List ℕ → Bool
 ascending lo hi [] = true
-ascending lo hi (n ∷ ns) = cond (leb lo n and ltb n hi) (ascending (suc n) hi ns) false
+ascending lo hi (n ∷ ns) = elim (leb lo n and ltb n hi) [ true ↦ ascending (suc n) hi ns | false ↦ false ]
 
 -- no number but 0 stands twice
 unfoldable pub distinct : List ℕ → Bool
 distinct [] = true
-distinct (n ∷ ns) = cond (eqb n 0 or not (member n ns)) (distinct ns) false
+distinct (n ∷ ns) = elim (eqb n 0 or not (member n ns)) [ true ↦ distinct ns | false ↦ false ]
 
 -- the same numbers in the same order
 unfoldable pub same : List ℕ → List ℕ → Bool
 same [] [] = true
 same [] (y ∷ ys) = false
 same (x ∷ xs) [] = false
-same (x ∷ xs) (y ∷ ys) = cond (eqb x y) (same xs ys) false
+same (x ∷ xs) (y ∷ ys) = elim (eqb x y) [ true ↦ same xs ys | false ↦ false ]
 
 -- some number below n passes; the greatest that does, 0 if none does
 unfoldable pub anyBelow : (ℕ → Bool) → ℕ → Bool
@@ -83,4 +87,4 @@ anyBelow p (suc n) = p n or anyBelow p n
 
 unfoldable pub greatestBelow : (ℕ → Bool) → ℕ → ℕ
 greatestBelow p zero = 0
-greatestBelow p (suc n) = cond (p n) n (greatestBelow p n)
+greatestBelow p (suc n) = elim (p n) [ true ↦ n | false ↦ greatestBelow p n ]

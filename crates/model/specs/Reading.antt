@@ -7,17 +7,13 @@ use lib.ListN.{getD}
 use Rattle.model.specs.declared.Id.{Id}
 use Rattle.model.specs.declared.Read.{Read}
 use Rattle.model.specs.declared.Entry.{Entry}
-use Rattle.model.specs.Ids.{older, sameId, greatest}
+use Rattle.model.specs.Ids.{older, greatest}
 use Rattle.model.specs.Lists.{_and_, any, filter}
-use Rattle.model.specs.Stations.{noEntry, wrote}
-
--- a read whose transaction, among the entries, wrote the key
-unfoldable pub readOfWriter : List Entry → ℕ → Read → Bool
-readOfWriter es k r = any (λ e. sameId (e .id) (r .id) and wrote e k) es
+use Rattle.model.specs.Stations.{noEntry, wrote, wroteAs}
 
 -- "The lower bound is the greatest id in the read list whose transaction wrote this key, or none."
 unfoldable pub lowerBound : List Entry → List Read → ℕ → Id
-lowerBound es rs k = greatest (map (λ (r : Read). r .id) (filter (readOfWriter es k) rs))
+lowerBound es rs k = greatest (map (λ (r : Read). r .id) (filter (λ r. wroteAs es (r .id) k) rs))
 
 -- "An entry conflicts when it wrote some key whose read version is older than the entry."
 unfoldable pub conflictsWith : Entry → Read → Bool

@@ -34,8 +34,8 @@ unfoldable pub entryIn : List ℕ → Entry
 entryIn r = record { id = idIn r; count = getD r 1 0; keys = take writeLimit (drop 16 r) }
 
 -- "Version slip: key 1, three zeros, ticket 4, clock 8, value 8."
-unfoldable pub valueOf : List ℕ → ℕ
-valueOf r = number (take 8 (drop 16 r))
+unfoldable pub valueIn : List ℕ → ℕ
+valueIn r = number (take 8 (drop 16 r))
 
 -- ── the bytes of a record ──
 -- "Mark is 0 (drawer free, the rest not read) or 1 (committed)."

@@ -13,9 +13,9 @@ use Rattle.model.specs.declared.Phase.{Phase}
 use Rattle.model.specs.declared.Phase.the-variants.{Unused, Open, Closing}
 use Rattle.model.specs.Ids.{sameId, noId}
 use Rattle.model.specs.Limits.{keys, slots, writeLimit, readLimit}
-use Rattle.model.specs.Lists.{_and_, _or_, all, any, count, ascending, distinct}
+use Rattle.model.specs.Lists.{_and_, _or_, all, count, ascending, distinct}
 use Rattle.model.specs.Records.{entryRules}
-use Rattle.model.specs.Stations.{writesOf, readsOf, wrote, writeKey, readKey, closingSlot, closingClock, recordsStored, liveTxns, heldTxns, holds, closingSlots}
+use Rattle.model.specs.Stations.{writesOf, readsOf, wroteAs, writeKey, readKey, closingSlot, closingClock, recordsStored, liveTxns, heldTxns, holds, closingSlots}
 
 -- ── "All fields of unused places, entries and list positions are zero." ──
 unfoldable pub isNoWrite : Write → Bool
@@ -41,7 +41,7 @@ setsRight l =
 
 -- ── "Every read names an entry that wrote that key." ──
 unfoldable pub names : List Entry → Read → Bool
-names es r = any (λ e. sameId (e .id) (r .id) and wrote e (r .key)) es
+names es r = wroteAs es (r .id) (r .key)
 
 -- ── a live transaction: its number is nonzero, and the three sentences above hold ──
 unfoldable pub inUse : List Entry → Live → Bool

@@ -4,6 +4,7 @@ use mathlib.Core.Bool.{Bool, true, false, not}
 use mathlib.Core.List.{List, [], map}
 use lib.Dec.{eqb}
 use lib.ListN.{take, getD, replicate, set}
+use Rattle.model.specs.declared.Id.{Id}
 use Rattle.model.specs.declared.Write.{Write}
 use Rattle.model.specs.declared.Read.{Read}
 use Rattle.model.specs.declared.Live.{Live}
@@ -11,9 +12,9 @@ use Rattle.model.specs.declared.Entry.{Entry}
 use Rattle.model.specs.declared.Station.{Station}
 use Rattle.model.specs.declared.Phase.{Phase}
 use Rattle.model.specs.declared.Phase.the-variants.{Unused, Open, Closing}
-use Rattle.model.specs.Ids.{noId}
+use Rattle.model.specs.Ids.{sameId, noId}
 use Rattle.model.specs.Limits.{keys, livePlaces, slots, writeLimit, readLimit}
-use Rattle.model.specs.Lists.{_and_, first, count, member}
+use Rattle.model.specs.Lists.{_and_, any, first, count, member}
 
 -- ── unused: "All fields of unused places, entries and list positions are zero." ──
 abbrev pub noWrite : Write
@@ -45,6 +46,10 @@ keysOf e = take (e .count) (e .keys)
 unfoldable pub wrote : Entry → ℕ → Bool
 wrote e k = member k (keysOf e)
 
+-- the transaction with an id is among the entries and wrote the key
+unfoldable pub wroteAs : List Entry → Id → ℕ → Bool
+wroteAs es i k = any (λ e. sameId (e .id) i and wrote e k) es
+
 -- the keys of a write set and of a read set
 abbrev pub writeKey : Write → ℕ
 writeKey w = w .key
@@ -59,8 +64,8 @@ unfoldable pub hasRead : ℕ → Live → Bool
 hasRead k l = member k (map readKey (readsOf l))
 
 -- the value under a key of a write set
-unfoldable pub valueIn : ℕ → List Write → ℕ
-valueIn k ws = getD ws (first (eqb k) (map writeKey ws)) noWrite .value
+unfoldable pub valueUnder : ℕ → List Write → ℕ
+valueUnder k ws = getD ws (first (eqb k) (map writeKey ws)) noWrite .value
 
 -- ── how far a transaction is ──
 unfoldable pub isClosing : Phase → Bool

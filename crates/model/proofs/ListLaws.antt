@@ -1,0 +1,266 @@
+-- Laws of the searches and tests on lists (specs/Lists), over plain lists.
+use Prim.Native.Nat.{ℕ, zero, suc, _+_, _<_, suc-le-suc}
+use mathlib.Core.Path.{_≡_, refl, sym, ap, subst, _∙_}
+use mathlib.Core.Logic.{_≢_, ⊎-elim}
+use mathlib.Core.Bool.{Bool, true, false, not, true≢false, false≢true}
+use mathlib.Core.List.{List, [], _∷_, List·Memᴰ, List·Memᴰ·head, List·Memᴰ·tail, List·Memᴰ·not-nil, List·Memᴰ·cases-cons}
+use lib.Dec.{eqb}
+use lib.ListN.{length, getD, replicate, set}
+use lib.Seq.{getD-set-same, getD-set-other}
+use native.Mathlib.Nat.{le-of-suc-le-suc, not-suc-le-zero, zero-lt-suc}
+use native.Mathlib.Decide.{ℕ-discrete}
+use native.Mathlib.Omega.{arith}
+use borrow.Author.Tests.{eqb-true, eqb-false, not-false, eq-eqb, ne-eqb}
+use Rattle.model.specs.Lists.{_or_, all, any, first, from, member, distinct}
+use Rattle.model.proofs.Tests.{or-left, or-right}
+
+module _ {A : Type 0} where
+  -- a list with one element replaced, place by place
+  pub at-set : (P : ℕ → A → Type 0) (l : List A) (i : ℕ) (a d : A) → i < length l → P i a
+      → ((j : ℕ) → j ≢ i → P j (getD l j d)) → (j : ℕ) → P j (getD (set l i a) j d)
+  at-set P l i a d h pa po j = go (ℕ-discrete j i)
+    where
+      go : Dec (j ≡ i) → P j (getD (set l i a) j d)
+      go (yes e) = subst (λ (k : ℕ). P k (getD (set l i a) k d)) (sym e) (subst (P i) (sym (getD-set-same l i a d h)) pa)
+      go (no n) = subst (P j) (sym (getD-set-other l i j a d n)) (po j n)
+
+  -- ── first ──
+  pub first-yes : (p : A → Bool) (x : A) (xs : List A) → p x ≡ true → first p (x ∷ xs) ≡ 0
+  unfolding first
+  first-yes p x xs h = rw (h, first)
+
+  pub first-no : (p : A → Bool) (x : A) (xs : List A) → p x ≡ false → first p (x ∷ xs) ≡ suc (first p xs)
+  unfolding first
+  first-no p x xs h = rw (h, first)
+
+  pub first-finds : (p : A → Bool) (l : List A) (d : A) (j : ℕ) → p (getD l j d) ≡ true → j < length l
+      → (first p l < length l) × (p (getD l (first p l) d) ≡ true)
+  first-finds p [] d j h o = absurd (not-suc-le-zero o)
+  first-finds p (x ∷ xs) d zero h o = rw (first-yes p x xs h) (zero-lt-suc _, h)
+  first-finds p (x ∷ xs) d (suc j) h o = go (p x) refl (first-finds p xs d j h (le-of-suc-le-suc o))
+    where
+      go : (b : Bool) → p x ≡ b → (first p xs < length xs) × (p (getD xs (first p xs) d) ≡ true)
+          → (first p (x ∷ xs) < length (x ∷ xs)) × (p (getD (x ∷ xs) (first p (x ∷ xs)) d) ≡ true)
+      go true e ih = rw (first-yes p x xs e) (zero-lt-suc _, e)
+      go false e ih = rw (first-no p x xs e) (suc-le-suc (ih .0), ih .1)
+
+  pub first-none : (p : A → Bool) (l : List A) (d : A) → ((j : ℕ) → j < length l → p (getD l j d) ≡ false) → first p l ≡ length l
+  unfolding first
+  first-none p [] d f = refl
+  first-none p (x ∷ xs) d f = first-no p x xs (f 0 (zero-lt-suc _)) ∙ ap suc (first-none p xs d (λ j o. f (suc j) (suc-le-suc o)))
+
+  -- before the first none passes
+  pub first-before : (p : A → Bool) (l : List A) (d : A) (j : ℕ) → j < first p l → p (getD l j d) ≡ false
+  unfolding first
+  first-before p [] d j o = absurd (not-suc-le-zero o)
+  first-before p (x ∷ xs) d zero o = go (p x) refl
+    where
+      go : (b : Bool) → p x ≡ b → p x ≡ false
+      go true e = absurd (not-suc-le-zero (rw (first-yes p x xs e) at o))
+      go false e = e
+  first-before p (x ∷ xs) d (suc j) o = go (p x) refl (first-before p xs d j)
+    where
+      go : (b : Bool) → p x ≡ b → (j < first p xs → p (getD xs j d) ≡ false) → p (getD xs j d) ≡ false
+      go true e ih = absurd (not-suc-le-zero (rw (first-yes p x xs e) at o))
+      go false e ih = ih (le-of-suc-le-suc (rw (first-no p x xs e) at o))
+
+  -- what is found there passes
+  pub first-passes : (p : A → Bool) (l : List A) (d : A) → first p l < length l → p (getD l (first p l) d) ≡ true
+  unfolding first
+  first-passes p [] d o = absurd (not-suc-le-zero o)
+  first-passes p (x ∷ xs) d o = go (p x) refl (first-passes p xs d)
+    where
+      go : (b : Bool) → p x ≡ b → (first p xs < length xs → p (getD xs (first p xs) d) ≡ true) → p (getD (x ∷ xs) (first p (x ∷ xs)) d) ≡ true
+      go true e ih = rw (first-yes p x xs e) e
+      go false e ih = rw (first-no p x xs e) (ih (le-of-suc-le-suc (rw (first-no p x xs e) at o)))
+
+  -- ── all ──
+  pub all-head : (p : A → Bool) (x : A) (xs : List A) → all p (x ∷ xs) ≡ true → p x ≡ true
+  unfolding all
+  all-head p x xs h = go (p x) refl
+    where
+      go : (b : Bool) → p x ≡ b → p x ≡ true
+      go true e = e
+      go false e = absurd (false≢true (rw (e, all) at h))
+
+  pub all-tail : (p : A → Bool) (x : A) (xs : List A) → all p (x ∷ xs) ≡ true → all p xs ≡ true
+  unfolding all
+  all-tail p x xs h = rw (all-head p x xs h, all) at h
+
+  pub all-cons : (p : A → Bool) (x : A) (xs : List A) → p x ≡ true → all p xs ≡ true → all p (x ∷ xs) ≡ true
+  unfolding all
+  all-cons p x xs h k = rw (h, all) k
+
+  pub all-at : (p : A → Bool) (l : List A) (d : A) → all p l ≡ true → (i : ℕ) → i < length l → p (getD l i d) ≡ true
+  all-at p [] d h i o = absurd (not-suc-le-zero o)
+  all-at p (x ∷ xs) d h zero o = all-head p x xs h
+  all-at p (x ∷ xs) d h (suc i) o = all-at p xs d (all-tail p x xs h) i (le-of-suc-le-suc o)
+
+  pub all-of : (p : A → Bool) (l : List A) (d : A) → ((i : ℕ) → i < length l → p (getD l i d) ≡ true) → all p l ≡ true
+  unfolding all
+  all-of p [] d f = refl
+  all-of p (x ∷ xs) d f = all-cons p x xs (f 0 (zero-lt-suc _)) (all-of p xs d (λ i o. f (suc i) (suc-le-suc o)))
+
+  pub all-mem : (p : A → Bool) (l : List A) → all p l ≡ true → (x : A) → List·Memᴰ x l → p x ≡ true
+  all-mem p [] h x m = absurd (List·Memᴰ·not-nil m)
+  all-mem p (y ∷ l) h x m = ⊎-elim (λ e. rw e (all-head p y l h)) (λ m′. all-mem p l (all-tail p y l h) x m′) (List·Memᴰ·cases-cons m)
+
+  pub all-by : (p q : A → Bool) (l : List A) → ((x : A) → List·Memᴰ x l → p x ≡ true → q x ≡ true) → all p l ≡ true → all q l ≡ true
+  unfolding all
+  all-by p q [] f h = refl
+  all-by p q (x ∷ xs) f h = all-cons q x xs (f x (List·Memᴰ·head refl) (all-head p x xs h)) (all-by p q xs (λ y m. f y (List·Memᴰ·tail m)) (all-tail p x xs h))
+
+  pub all-set : (p : A → Bool) (l : List A) (i : ℕ) (a : A) → all p l ≡ true → p a ≡ true → all p (set l i a) ≡ true
+  unfolding all
+  all-set p [] i a h k = refl
+  all-set p (x ∷ xs) zero a h k = all-cons p a xs k (all-tail p x xs h)
+  all-set p (x ∷ xs) (suc i) a h k = all-cons p x (set xs i a) (all-head p x xs h) (all-set p xs i a (all-tail p x xs h) k)
+
+  pub all-replicate : (p : A → Bool) (n : ℕ) (a : A) → p a ≡ true → all p (replicate n a) ≡ true
+  unfolding all
+  all-replicate p zero a h = refl
+  all-replicate p (suc n) a h = all-cons p a (replicate n a) h (all-replicate p n a h)
+
+  -- ── any ──
+  pub any-finds : (p : A → Bool) (l : List A) (d : A) → any p l ≡ true → (j : ℕ) × (j < length l) × (p (getD l j d) ≡ true)
+  unfolding any
+  any-finds p [] d h = absurd (false≢true h)
+  any-finds p (x ∷ xs) d h = go (p x) refl (any-finds p xs d)
+    where
+      go : (b : Bool) → p x ≡ b → (any p xs ≡ true → (j : ℕ) × (j < length xs) × (p (getD xs j d) ≡ true))
+          → (j : ℕ) × (j < length (x ∷ xs)) × (p (getD (x ∷ xs) j d) ≡ true)
+      go true e ih = (0, zero-lt-suc _, e)
+      go false e ih = let r = ih (rw (e, any) at h) in (suc (r .0), suc-le-suc (r .1), r .2)
+
+  pub any-yes : (p : A → Bool) (x : A) (xs : List A) → p x ≡ true → any p (x ∷ xs) ≡ true
+  unfolding any
+  any-yes p x xs h = rw (h, any)
+
+  pub any-no : (p : A → Bool) (x : A) (xs : List A) → p x ≡ false → any p (x ∷ xs) ≡ any p xs
+  unfolding any
+  any-no p x xs h = rw (h, any)
+
+  pub any-at : (p : A → Bool) (l : List A) (d : A) (j : ℕ) → j < length l → p (getD l j d) ≡ true → any p l ≡ true
+  any-at p [] d j o h = absurd (not-suc-le-zero o)
+  any-at p (x ∷ xs) d zero o h = any-yes p x xs h
+  any-at p (x ∷ xs) d (suc j) o h = go (p x) refl (any-at p xs d j (le-of-suc-le-suc o) h)
+    where
+      go : (b : Bool) → p x ≡ b → any p xs ≡ true → any p (x ∷ xs) ≡ true
+      go true e ih = any-yes p x xs e
+      go false e ih = any-no p x xs e ∙ ih
+
+  pub any-none : (p : A → Bool) (l : List A) → any p l ≡ false → (x : A) → List·Memᴰ x l → p x ≡ false
+  unfolding any
+  any-none p [] h x m = absurd (List·Memᴰ·not-nil m)
+  any-none p (y ∷ l) h x m = go (p y) refl (any-none p l)
+    where
+      go : (b : Bool) → p y ≡ b → (any p l ≡ false → (z : A) → List·Memᴰ z l → p z ≡ false) → p x ≡ false
+      go true e ih = absurd (true≢false (rw (e, any) at h))
+      go false e ih = ⊎-elim (λ q. ap p q ∙ e) (λ m′. ih (rw (e, any) at h) x m′) (List·Memᴰ·cases-cons m)
+
+  pub any-none-of : (p : A → Bool) (l : List A) (d : A) → ((j : ℕ) → j < length l → p (getD l j d) ≡ false) → any p l ≡ false
+  unfolding any
+  any-none-of p [] d f = refl
+  any-none-of p (x ∷ xs) d f = any-no p x xs (f 0 (zero-lt-suc _)) ∙ any-none-of p xs d (λ j o. f (suc j) (suc-le-suc o))
+
+  -- ── membership ──
+  pub getD-mem : (l : List A) (j : ℕ) (d : A) → j < length l → List·Memᴰ (getD l j d) l
+  getD-mem [] j d h = absurd (not-suc-le-zero h)
+  getD-mem (x ∷ xs) zero d h = List·Memᴰ·head refl
+  getD-mem (x ∷ xs) (suc j) d h = List·Memᴰ·tail (getD-mem xs j d (le-of-suc-le-suc h))
+
+  pub mem-getD : (l : List A) (x d : A) → List·Memᴰ x l → (j : ℕ) × (j < length l) × (getD l j d ≡ x)
+  mem-getD [] x d m = absurd (List·Memᴰ·not-nil m)
+  mem-getD (y ∷ l) x d m = ⊎-elim (λ e. (0, zero-lt-suc _, sym e)) (λ m′. let r = mem-getD l x d m′ in (suc (r .0), suc-le-suc (r .1), r .2)) (List·Memᴰ·cases-cons m)
+
+  -- an element inside does not depend on the default
+  pub getD-inside : (l : List A) (j : ℕ) (d e : A) → j < length l → getD l j d ≡ getD l j e
+  getD-inside [] j d e h = absurd (not-suc-le-zero h)
+  getD-inside (x ∷ xs) zero d e h = refl
+  getD-inside (x ∷ xs) (suc j) d e h = getD-inside xs j d e (le-of-suc-le-suc h)
+
+  pub getD-all : (n j : ℕ) (x : A) → getD (replicate n x) j x ≡ x
+  getD-all zero j x = refl
+  getD-all (suc n) zero x = refl
+  getD-all (suc n) (suc j) x = getD-all n j x
+
+-- ── lists that count up ──
+module _ {A : Type 0} (f : ℕ → A) where
+  pub from-length : (n i : ℕ) → length (from n i f) ≡ n
+  unfolding from
+  from-length zero i = refl
+  from-length (suc n) i = ap suc (from-length n (suc i))
+
+  pub from-at : (n i j : ℕ) (d : A) → j < n → getD (from n i f) j d ≡ f (i + j)
+  unfolding from
+  from-at zero i j d o = absurd (not-suc-le-zero o)
+  from-at (suc n) i zero d o = ap f (omega arith)
+  from-at (suc n) i (suc j) d o = from-at n (suc i) j d (le-of-suc-le-suc o) ∙ ap f (omega arith)
+
+-- ── member ──
+pub member-yes : (t x : ℕ) (xs : List ℕ) → eqb t x ≡ true → member t (x ∷ xs) ≡ true
+unfolding member
+member-yes t x xs h = any-yes (eqb t) x xs h
+
+pub member-no : (t x : ℕ) (xs : List ℕ) → eqb t x ≡ false → member t (x ∷ xs) ≡ member t xs
+unfolding member
+member-no t x xs h = any-no (eqb t) x xs h
+
+pub member-finds : (t : ℕ) (l : List ℕ) → member t l ≡ true → (first (eqb t) l < length l) × (getD l (first (eqb t) l) 0 ≡ t)
+unfolding member
+member-finds t l h =
+    let r = any-finds (eqb t) l 0 h in
+    let q = first-finds (eqb t) l 0 (r .0) (r .2) (r .1) in
+    (q .0, sym (eqb-true t _ (q .1)))
+
+pub member-at : (l : List ℕ) (i : ℕ) → i < length l → member (getD l i 0) l ≡ true
+unfolding member
+member-at l i h = any-at (eqb (getD l i 0)) l 0 i h (eq-eqb (getD l i 0) (getD l i 0) refl)
+
+pub member-none : (t : ℕ) (l : List ℕ) → member t l ≡ false → (i : ℕ) → i < length l → getD l i 0 ≢ t
+member-none t l h i o e = true≢false (sym (subst (λ (x : ℕ). member x l ≡ true) e (member-at l i o)) ∙ h)
+
+-- ── distinct ──
+distinct-head : (x : ℕ) (xs : List ℕ) → distinct (x ∷ xs) ≡ true → (eqb x 0 or not (member x xs)) ≡ true
+unfolding distinct
+distinct-head x xs h = go (eqb x 0 or not (member x xs)) refl
+  where
+    go : (b : Bool) → (eqb x 0 or not (member x xs)) ≡ b → (eqb x 0 or not (member x xs)) ≡ true
+    go true e = e
+    go false e = absurd (false≢true (rw (e, distinct) at h))
+
+distinct-tail : (x : ℕ) (xs : List ℕ) → distinct (x ∷ xs) ≡ true → distinct xs ≡ true
+unfolding distinct
+distinct-tail x xs h = rw (distinct-head x xs h, distinct) at h
+
+distinct-out : (x : ℕ) (xs : List ℕ) (j : ℕ) → distinct (x ∷ xs) ≡ true → j < length xs → x ≡ getD xs j 0 → x ≢ 0 → ⊥
+unfolding _or_
+distinct-out x xs j h o e n = true≢false (sym (rw (ne-eqb x 0 n, rw (← e) at (member-at xs j o)) at (distinct-head x xs h)))
+
+-- equal numbers other than 0 stand at one place
+pub distinct-at : (l : List ℕ) → distinct l ≡ true → (i j : ℕ) → i < length l → j < length l → getD l i 0 ≡ getD l j 0 → getD l i 0 ≢ 0 → i ≡ j
+distinct-at [] h i j oi oj e n = absurd (not-suc-le-zero oi)
+distinct-at (x ∷ xs) h zero zero oi oj e n = refl
+distinct-at (x ∷ xs) h zero (suc j) oi oj e n = absurd (distinct-out x xs j h (le-of-suc-le-suc oj) e n)
+distinct-at (x ∷ xs) h (suc i) zero oi oj e n = absurd (distinct-out x xs i h (le-of-suc-le-suc oi) (sym e) (λ z. n (e ∙ z)))
+distinct-at (x ∷ xs) h (suc i) (suc j) oi oj e n = ap suc (distinct-at xs (distinct-tail x xs h) i j (le-of-suc-le-suc oi) (le-of-suc-le-suc oj) e n)
+
+-- and a list in which they do is distinct
+pub distinct-of : (l : List ℕ) → ((i j : ℕ) → i < length l → j < length l → getD l i 0 ≡ getD l j 0 → getD l i 0 ≢ 0 → i ≡ j) → distinct l ≡ true
+unfolding distinct
+distinct-of [] f = refl
+distinct-of (x ∷ xs) f = go (eqb x 0 or not (member x xs)) refl (distinct-of xs (λ i j oi oj e n. inj (f (suc i) (suc j) (suc-le-suc oi) (suc-le-suc oj) e n)))
+  where
+    inj : {i j : ℕ} → suc i ≡ suc j → i ≡ j
+    inj e = omega arith
+
+    clash : (eqb x 0 or not (member x xs)) ≡ false → ⊥
+    clash e =
+        let m : member x xs ≡ true = not-false _ (or-right _ _ e) in
+        let r = member-finds x xs m in
+        let z : 0 ≡ suc (first (eqb x) xs) = f 0 (suc (first (eqb x) xs)) (zero-lt-suc _) (suc-le-suc (r .0)) (sym (r .1)) (eqb-false x 0 (or-left _ _ e)) in
+        omega arith
+
+    go : (b : Bool) → (eqb x 0 or not (member x xs)) ≡ b → distinct xs ≡ true → distinct (x ∷ xs) ≡ true
+    go true e ih = rw (e, distinct) ih
+    go false e ih = absurd (clash e)

@@ -1,0 +1,72 @@
+-- Laws of the tests `and`, `or`, `not`.
+use mathlib.Core.Path.{_≡_, refl}
+use mathlib.Core.Logic.{_⊎_, inl, inr}
+use mathlib.Core.Bool.{Bool, true, false, not, true≢false, false≢true}
+use borrow.Author.Tests.{not-true}
+use Rattle.model.specs.Lists.{_and_, _or_}
+
+pub and-left : (a b : Bool) → (a and b) ≡ true → a ≡ true
+unfolding _and_
+and-left true b h = refl
+and-left false b h = h
+
+pub and-right : (a b : Bool) → (a and b) ≡ true → b ≡ true
+unfolding _and_
+and-right true b h = h
+and-right false b h = absurd (false≢true h)
+
+pub and-intro : (a b : Bool) → a ≡ true → b ≡ true → (a and b) ≡ true
+unfolding _and_
+and-intro true b ea eb = eb
+and-intro false b ea eb = absurd (false≢true ea)
+
+-- a conjunction fails, and its first part holds
+pub and-second : (a b : Bool) → (a and b) ≡ false → a ≡ true → b ≡ false
+unfolding _and_
+and-second true b h e = h
+and-second false b h e = absurd (false≢true e)
+
+pub or-left : (a b : Bool) → (a or b) ≡ false → a ≡ false
+unfolding _or_
+or-left true b h = absurd (true≢false h)
+or-left false b h = refl
+
+pub or-right : (a b : Bool) → (a or b) ≡ false → b ≡ false
+unfolding _or_
+or-right true b h = absurd (true≢false h)
+or-right false b h = h
+
+pub or-none : (a b : Bool) → a ≡ false → b ≡ false → (a or b) ≡ false
+unfolding _or_
+or-none true b ea eb = absurd (true≢false ea)
+or-none false b ea eb = eb
+
+pub or-intro-left : (a b : Bool) → a ≡ true → (a or b) ≡ true
+unfolding _or_
+or-intro-left true b e = refl
+or-intro-left false b e = absurd (false≢true e)
+
+pub or-intro-right : (a b : Bool) → b ≡ true → (a or b) ≡ true
+unfolding _or_
+or-intro-right true b e = refl
+or-intro-right false b e = e
+
+pub or-cases : (a b : Bool) → (a or b) ≡ true → (a ≡ true) ⊎ (b ≡ true)
+unfolding _or_
+or-cases true b h = inl refl
+or-cases false b h = inr h
+
+-- `not (a and b)` holds, and a does
+pub nand : (a b : Bool) → not (a and b) ≡ true → a ≡ true → b ≡ false
+nand a b h e = and-second a b (not-true _ h) e
+
+pub not-of-false : (a : Bool) → a ≡ false → not a ≡ true
+not-of-false a e = rw e
+
+pub not-of-true : (a : Bool) → a ≡ true → not a ≡ false
+not-of-true a e = rw e
+
+-- a test that is not true is false
+pub bool-cases : (a : Bool) → (a ≡ true) ⊎ (a ≡ false)
+bool-cases true = inl refl
+bool-cases false = inr refl
