@@ -1,7 +1,8 @@
 -- 01 'Calls', get: Algorithm 1 of the paper, over any list of entries es and any list of reads rs.
 use Prim.Native.Nat.{ℕ, suc}
+use mathlib.Core.Path.{_≡_}
 use mathlib.Core.Bool.{Bool, true, false, not, cond}
-use mathlib.Core.List.{List, [], _∷_, map}
+use mathlib.Core.List.{List, [], _∷_, map, List·Memᴰ}
 use mathlib.Core.Option.{Option, some, none}
 use lib.ListN.{getD}
 use Rattle.model.specs.declared.Id.{Id}
@@ -52,3 +53,8 @@ chosen false none = absent
 
 unfoldable pub choose : List Entry → List Read → ℕ → Choice
 choose es rs k = chosen (any (λ e. wrote e k) es) (newest (passes es rs k) es)
+
+-- "Atomic Readset (§3.2): for any read of version i, and any key that i's transaction wrote and that was also read, the version read
+-- of that key is not older than i."
+abbrev pub Atomic : List Entry → List Read → Type 0
+Atomic es rs = (r q : Read) → List·Memᴰ r rs → List·Memᴰ q rs → wroteAs es (r .id) (q .key) ≡ true → older (q .id) (r .id) ≡ false
