@@ -1,6 +1,10 @@
 pub mod Tests
 pub mod ListLaws
+pub mod InsertLaws
 pub mod IdLaws
+pub mod RecordLaws
+pub mod SlotLaws
+pub mod ScanLaws
 pub mod ReadingLaws
 pub mod StationLaws
 pub mod BenchTable

@@ -1,0 +1,123 @@
+-- Drafts while one live transaction changes.
+use Prim.Native.Nat.{ℕ, _<_}
+use mathlib.Core.Path.{_≡_, refl, sym, ap, subst, _∙_, fun-ext}
+use mathlib.Core.Logic.{_≢_}
+use mathlib.Core.Bool.{true}
+use mathlib.Core.Option.{Option, some, none, Option·none-ne-some, Option·some-injective}
+use lib.ListN.{length}
+use native.Mathlib.Decide.{ℕ-discrete}
+use borrow.Author.Tests.{eq-eqb, ne-eqb}
+use Rattle.model.specs.declared.Live.{Live}
+use Rattle.model.specs.declared.Station.{Station}
+use Rattle.model.specs.Reading.{own}
+use Rattle.model.specs.Sound.{sound}
+use Rattle.model.specs.Stations.{noLive, liveAt, setLive, isLive, placeOf}
+use Rattle.model.proofs.StationLaws.{place-hit, setLive-at, liveAt-same, liveAt-other, one-place, no-other}
+use Rattle.history.specs.Ledger.{Draft, at, revised}
+use Rattle.history.specs.Matches.{Matches, Correspond}
+
+pub some-inj : {A : Type 0} {x y : A} → some x ≡ some y → x ≡ y
+some-inj e = Option·some-injective _ _ e
+
+module _ {A : Type 0} (n : ℕ) (x : A) (f : ℕ → A) where
+  pub at-same : at n x f n ≡ x
+  unfolding at
+  at-same = simp (eq-eqb n n refl)
+
+  pub at-other : (m : ℕ) → m ≢ n → at n x f m ≡ f m
+  unfolding at
+  at-other m h = simp (ne-eqb m n h)
+
+-- a draft of the revised ones was one before
+pub was-draft : (f : Draft → Draft) (x : Option Draft) (p : Draft) → revised f x ≡ some p → (q : Draft) × (x ≡ some q) × (p ≡ f q)
+unfolding revised
+was-draft f none p e = absurd (Option·none-ne-some p e)
+was-draft f (some q) p e = (q, refl, sym (some-inj e))
+
+-- the draft of a live transaction
+pub draft-of : (st : Station) (f : ℕ → Option Draft) → Correspond st f → (t i : ℕ) → liveAt st i .txn ≡ t → t ≢ 0 → (p : Draft) × (f t ≡ some p)
+draft-of st f co t i e n = subst (λ (u : ℕ). (p : Draft) × (f u ≡ some p)) e (co .drafted i (λ q. n (sym e ∙ q)))
+
+pub matches-at : (st : Station) (f : ℕ → Option Draft) → sound st ≡ true → Correspond st f → (t : ℕ) → isLive t st ≡ true → (p : Draft) → f t ≡ some p → Matches p (liveAt st (placeOf t st))
+matches-at st f h co t z p e =
+    let q = co .live t p e in
+    subst (λ (k : ℕ). Matches p (liveAt st k)) (one-place st h (q .1) (placeOf t st) (q .2 ∙ sym (place-hit st t z .1)) (λ y. q .0 (sym (q .2) ∙ y))) (q .3)
+
+-- place i, which was unused or t's, is replaced, and t's draft with it
+module _ (st : Station) (f : ℕ → Option Draft) (co : Correspond st f) (t i : ℕ) (l : Live) (x : Option Draft) (o : i < length (st .live))
+    (own : liveAt st i .txn ≢ 0 → liveAt st i .txn ≡ t)
+    (others : (j : ℕ) → j ≢ i → liveAt st j .txn ≡ t → liveAt st j .txn ≢ 0 → ⊥) where
+  pub drafts-set : ((p : Draft) → x ≡ some p → (t ≢ 0) × (l .txn ≡ t) × Matches p l) → (l .txn ≢ 0 → (l .txn ≡ t) × (p : Draft) × (x ≡ some p))
+      → Correspond (setLive st i l) (at t x f)
+  drafts-set mine new = record {
+    live = λ u p e. go u p e (ℕ-discrete u t);
+    drafted = setLive-at st i l (λ j y. y .txn ≢ 0 → (p : Draft) × (at t x f (y .txn) ≡ some p)) o
+        (λ n. let r = new n in (r .1, ap (at t x f) (r .0) ∙ (at-same t x f ∙ r .2)))
+        (λ j nj nz. rw (at-other t x f (liveAt st j .txn) (λ e. others j nj e nz)) (co .drafted j nz));
+  }
+    where
+      mine-at : (p : Draft) → x ≡ some p → (t ≢ 0) × (k : ℕ) × (liveAt (setLive st i l) k .txn ≡ t) × Matches p (liveAt (setLive st i l) k)
+      mine-at p e =
+          let r = mine p e in
+          (r .0, i, ap (λ (y : Live). y .txn) (liveAt-same st i l o) ∙ r .1, subst (Matches p) (sym (liveAt-same st i l o)) (r .2))
+
+      moved : (u : ℕ) (p : Draft) → u ≢ t → (u ≢ 0) × (k : ℕ) × (liveAt st k .txn ≡ u) × Matches p (liveAt st k)
+          → (u ≢ 0) × (k : ℕ) × (liveAt (setLive st i l) k .txn ≡ u) × Matches p (liveAt (setLive st i l) k)
+      moved u p n r =
+          let m : r .1 ≢ i = (λ z. n (sym (r .2) ∙ (ap (λ (k : ℕ). liveAt st k .txn) z ∙ own (λ y. r .0 (sym (r .2) ∙ (ap (λ (k : ℕ). liveAt st k .txn) z ∙ y)))))) in
+          let q : liveAt st (r .1) ≡ liveAt (setLive st i l) (r .1) = sym (liveAt-other st i l (r .1) m) in
+          (r .0, r .1, sym (ap (λ (y : Live). y .txn) q) ∙ r .2, subst (Matches p) q (r .3))
+
+      go : (u : ℕ) (p : Draft) → at t x f u ≡ some p → Dec (u ≡ t) → (u ≢ 0) × (k : ℕ) × (liveAt (setLive st i l) k .txn ≡ u) × Matches p (liveAt (setLive st i l) k)
+      go u p e (yes z) =
+          subst (λ (y : ℕ). (y ≢ 0) × (k : ℕ) × (liveAt (setLive st i l) k .txn ≡ y) × Matches p (liveAt (setLive st i l) k)) (sym z)
+          (mine-at p (sym (at-same t x f) ∙ (ap (at t x f) (sym z) ∙ e)))
+      go u p e (no z) = moved u p z (co .live u p (sym (at-other t x f u z) ∙ e))
+
+-- the draft of no live transaction torn out
+pub drafts-without : (st : Station) (f : ℕ → Option Draft) → Correspond st f → (t : ℕ) → ((j : ℕ) → liveAt st j .txn ≡ t → liveAt st j .txn ≢ 0 → ⊥) → Correspond st (at t none f)
+drafts-without st f co t others = record {
+  live = λ u p e. go u p e (ℕ-discrete u t);
+  drafted = λ j n. rw (at-other t none f (liveAt st j .txn) (λ e. others j e n)) (co .drafted j n);
+}
+  where
+    go : (u : ℕ) (p : Draft) → at t none f u ≡ some p → Dec (u ≡ t) → (u ≢ 0) × (k : ℕ) × (liveAt st k .txn ≡ u) × Matches p (liveAt st k)
+    go u p e (yes z) = absurd (Option·none-ne-some p (sym (at-same t none f) ∙ (ap (at t none f) (sym z) ∙ e)))
+    go u p e (no z) = co .live u p (sym (at-other t none f u z) ∙ e)
+
+-- stations with the same live transactions
+pub drafts-cast : (st st′ : Station) (f : ℕ → Option Draft) → ((j : ℕ) → liveAt st′ j ≡ liveAt st j) → Correspond st f → Correspond st′ f
+drafts-cast st st′ f e co = record {
+  live = λ t p x. let q = co .live t p x in (q .0, q .1, ap (λ (y : Live). y .txn) (e (q .1)) ∙ q .2, subst (Matches p) (sym (e (q .1))) (q .3));
+  drafted = λ j. rw (e j) (co .drafted j);
+}
+
+-- t's own place: t's draft revised
+module _ (st : Station) (f : ℕ → Option Draft) (co : Correspond st f) (h : sound st ≡ true) (t : ℕ) (n : t ≢ 0) (z : isLive t st ≡ true) (l : Live) (e : l .txn ≡ t) where
+  pub drafts-revised : (g : Draft → Draft) → ((p : Draft) → Matches p (liveAt st (placeOf t st)) → Matches (g p) l) → Correspond (setLive st (placeOf t st) l) (at t (revised g (f t)) f)
+  unfolding revised
+  drafts-revised g m =
+      drafts-set st f co t (placeOf t st) l (revised g (f t)) (place-hit st t z .0) (λ y. place-hit st t z .1) (no-other st h t z)
+      (λ p q. let r = was-draft g (f t) p q in (n, e, subst (λ (y : Draft). Matches y l) (sym (r .2)) (m (r .0) (matches-at st f h co t z (r .0) (r .1)))))
+      (λ y. let r = draft-of st f co t (placeOf t st) (place-hit st t z .1) n in (e, g (r .0), ap (revised g) (r .1)))
+
+  -- the draft stays
+  pub drafts-same : ((p : Draft) → Matches p (liveAt st (placeOf t st)) → Matches p l) → Correspond (setLive st (placeOf t st) l) f
+  drafts-same m =
+      subst (λ (x : ℕ → Option Draft). Correspond (setLive st (placeOf t st) l) x) (fun-ext unaltered)
+      (drafts-set st f co t (placeOf t st) l (f t) (place-hit st t z .0) (λ y. place-hit st t z .1) (no-other st h t z)
+      (λ p q. (n, e, m p (matches-at st f h co t z p q)))
+      (λ y. let r = draft-of st f co t (placeOf t st) (place-hit st t z .1) n in (e, r .0, r .1)))
+    where
+      unaltered : (u : ℕ) → at t (f t) f u ≡ f u
+      unaltered u = go (ℕ-discrete u t)
+        where
+          go : Dec (u ≡ t) → at t (f t) f u ≡ f u
+          go (yes q) = ap (at t (f t) f) q ∙ (at-same t (f t) f ∙ ap f (sym q))
+          go (no q) = at-other t (f t) f u q
+
+-- t's place cleared, t's draft torn out
+pub drafts-cleared : (st : Station) (f : ℕ → Option Draft) → Correspond st f → sound st ≡ true → (t : ℕ) → isLive t st ≡ true → Correspond (setLive st (placeOf t st) noLive) (at t none f)
+drafts-cleared st f co h t z =
+    drafts-set st f co t (placeOf t st) noLive none (place-hit st t z .0) (λ y. place-hit st t z .1) (no-other st h t z)
+    (λ p e. absurd (Option·none-ne-some p e)) (λ y. absurd (y refl))

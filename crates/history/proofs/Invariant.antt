@@ -1,0 +1,118 @@
+-- What holds of station, store and ledger between the calls of a history: five parts, of which a call proves only what it touches.
+use Prim.Native.Nat.{ℕ, suc, _<_, _≤_}
+use mathlib.Core.Path.{_≡_, refl}
+use mathlib.Core.Logic.{_≢_, _⊎_}
+use mathlib.Core.Bool.{Bool, true, false, cond}
+use mathlib.Core.List.{List, [], _∷_, map, List·Permᴰ, List·Memᴰ}
+use lib.ListN.{length, take, getD}
+use native.Mathlib.Nat.{not-suc-le-zero}
+use native.Mathlib.Omega.{arith}
+use Rattle.model.specs.declared.Write.{Write}
+use Rattle.model.specs.declared.Live.{Live}
+use Rattle.model.specs.declared.Entry.{Entry}
+use Rattle.model.specs.declared.Station.{Station}
+use Rattle.model.specs.declared.Phase.the-variants.{Closing}
+use Rattle.model.specs.declared.Answer.{Answer}
+use Rattle.model.specs.declared.Answer.the-variants as A
+use Rattle.model.specs.Answers.{values}
+use Rattle.model.specs.Calls.{Call}
+use Rattle.model.specs.Effects.{Effect, stored, says, saysStoring, Row, _when_, refusals}
+use Rattle.model.specs.Limits.{slots, writeLimit, storeSize, txnRange, numberRange}
+use Rattle.model.specs.Lists.{count}
+use Rattle.model.specs.Reading.{Atomic}
+use Rattle.model.specs.Records.{versionRecord, recordAt, withRecord}
+use Rattle.model.specs.Scan.{slotsSeen, entrySeen}
+use Rattle.model.specs.Slots.{free, committed, seen}
+use Rattle.model.specs.Sound.{sound}
+use Rattle.model.specs.Stations.{noWrite, writesOf, readsOf, liveAt, entryAt}
+use Rattle.model.specs.Step.{entryFor}
+use Rattle.model.proofs.BenchTable.{versions}
+use Rattle.model.proofs.StationLaws.{marked}
+use Rattle.history.specs.CutRule.{committedFound, Wrote, Newer}
+use Rattle.history.specs.Ledger.{Committed, Ledger, feed}
+use Rattle.history.specs.Matches.{Correspond}
+
+-- the transactions that stand in the store, by slot
+unfoldable pub inStore : List ℕ → List Committed
+inStore s = committedFound s 0 (map entrySeen (slotsSeen s))
+
+abbrev pub nth : Live → ℕ → Write
+nth l j = getD (l .writes) j noWrite
+
+-- slot d of the store is as far as n steps of the closing transaction l bring it
+pub record Prepared (s : List ℕ) (l : Live) (d c n : ℕ) : Type 0 where
+  pub low : d < slots
+  pub versions : (j : ℕ) → j < n → j < l .«write_count» → recordAt s d (suc j) ≡ versionRecord (nth l j .key) (record { clock = c; txn = l .txn }) (nth l j .value)
+  pub unmarked : n ≤ l .«write_count» → seen s d ≡ free
+  pub marked : l .«write_count» < n → seen s d ≡ committed (entryFor l)
+
+-- 1. slots against bytes
+pub record Slots (st : Station) (s : List ℕ) : Type 0 where
+  pub size : length s ≡ storeSize
+  pub count : length (st .entries) ≡ slots
+  pub entered : (d : ℕ) → entryAt st d .id .txn ≢ 0 → seen s d ≡ committed (entryAt st d)
+  pub closing : (i d c n : ℕ) → liveAt st i .phase ≡ Closing d c n → Prepared s (liveAt st i) d c n
+  pub unused : (d : ℕ) → d < slots → entryAt st d .id .txn ≡ 0 → ((i c n : ℕ) → liveAt st i .phase ≡ Closing d c n → ⊥) → seen s d ≡ free
+  pub single : (d d′ : ℕ) (e e′ : Entry) → d < slots → d′ < slots → seen s d ≡ committed e → seen s d′ ≡ committed e′ → e .id .txn ≡ e′ .id .txn → d ≡ d′
+
+-- 2. standing transactions against slots; a past one stands, or on each key it wrote a standing one is newer
+abbrev pub Dominated : List Committed → Committed → Type 0
+Dominated standing j = List·Memᴰ j standing ⊎ ((k : ℕ) → Wrote j k → (i : Committed) × List·Memᴰ i standing × Wrote i k × Newer (i .id) (j .id))
+
+pub record Standing (s : List ℕ) (standing past : List Committed) : Type 0 where
+  pub found : List·Permᴰ (inStore s) standing
+  pub kept : (j : Committed) → List·Memᴰ j standing → List·Memᴰ j past
+  pub dominated : (j : Committed) → List·Memᴰ j past → Dominated standing j
+
+-- 3. drafts against live transactions: `Correspond`
+-- 4. read sets against entries
+abbrev pub AtomicReads : Station → Type 0
+AtomicReads st = (i : ℕ) → Atomic (st .entries) (readsOf (liveAt st i))
+
+-- 5. ranges
+pub record Ranges (l : Live) : Type 0 where
+  pub txn : l .txn < txnRange
+  pub clock : (d c n : ℕ) → l .phase ≡ Closing d c n → c < numberRange
+  pub filled : l .txn ≢ 0 → length (l .writes) ≡ writeLimit
+  pub values : (w : Write) → List·Memᴰ w (writesOf l) → w .value < numberRange
+
+pub record Inv (st : Station) (s : List ℕ) (b : Ledger) : Type 0 where
+  pub slots : Slots st s
+  pub standing : Standing s (b .standing) (b .past)
+  pub drafts : Correspond st (b .drafts)
+  pub reads : AtomicReads st
+  pub ranges : (i : ℕ) → Ranges (liveAt st i)
+
+-- some station goes with the store and the ledger
+abbrev pub Held : List ℕ → Ledger → Type 0
+Held s b = (st : Station) × (sound st ≡ true) × Inv st s b
+
+-- ── what a call owes: the invariant afterwards, and after each prefix of its stores with the ledger as it was ──
+pub record Good (s : List ℕ) (b : Ledger) (c : Call) (e : Effect) : Type 0 where
+  pub after : Inv (e .station) (stored (e .stores) s) (feed (e .answer) c b)
+  pub before : (n : ℕ) → n < length (e .stores) → Held (stored (take n (e .stores)) s) b
+
+module _ (s : List ℕ) (b : Ledger) (c : Call) where
+  -- an answer with nothing stored
+  pub good-says : (a : Answer) (st : Station) → Inv st s (feed a c b) → Good s b c (says a st)
+  unfolding says stored
+  good-says a st inv = record { after = inv; before = λ n o. absurd (not-suc-le-zero o) }
+
+  -- with one record stored: before it the old station goes with the store
+  pub good-stores : (a : Answer) (st st₀ : Station) (d n : ℕ) (r : List ℕ) → sound st₀ ≡ true → Inv st₀ s b → Inv st (withRecord s d n r) (feed a c b) → Good s b c (saysStoring a st d n r)
+  unfolding saysStoring stored
+  good-stores a st st₀ d n r h old inv = record { after = inv; before = λ m o. let z : m ≡ 0 = omega arith in rw z (st₀, h, old) }
+
+  -- a refusal alters nothing, and where the row does not apply the rest counts
+  pub guard : (st : Station) (t : Bool) (n : ℕ) (rs : List Row) (e : Effect) → Inv st s b → (t ≡ false → Good s b c (refusals rs st e)) → Good s b c (refusals (n when t ∷ rs) st e)
+  unfolding refusals
+  guard st true n rs e inv f = good-says (A.Refused n 0) st (unfold feed in inv)
+  guard st false n rs e inv f = f refl
+
+  pub unrefused : (st : Station) (e : Effect) → Good s b c e → Good s b c (refusals [] st e)
+  unfolding refusals
+  unrefused st e g = g
+
+  pub choice : (t : Bool) (x y : Effect) → (t ≡ true → Good s b c x) → (t ≡ false → Good s b c y) → Good s b c (cond t x y)
+  choice true x y f g = f refl
+  choice false x y f g = g refl

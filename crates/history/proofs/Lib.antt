@@ -1,0 +1,4 @@
+pub mod Invariant
+pub mod DraftLaws
+pub mod LiveLaws
+pub mod Opening

@@ -1,0 +1,204 @@
+-- start, put and abort keep the invariant.
+use Prim.Native.Nat.{ℕ, _<_, _≤_}
+use mathlib.Core.Path.{_≡_, refl, sym, ap, subst, _∙_}
+use mathlib.Core.Logic.{_≢_, ⊎-elim}
+use mathlib.Core.Bool.{Bool, true, false, not, cond, true≢false, false≢true}
+use mathlib.Core.List.{List, [], _∷_, List·Memᴰ·not-nil}
+use mathlib.Core.Option.{some, none}
+use lib.Dec.{eqb, ltb, leb}
+use lib.ListN.{length, length-take}
+use native.Mathlib.Omega.{arith}
+use borrow.Author.Tests.{ltb-true, eqb-true, eqb-false, not-false}
+use Rattle.model.specs.declared.Write.{Write}
+use Rattle.model.specs.declared.Live.{Live}
+use Rattle.model.specs.declared.Entry.{Entry}
+use Rattle.model.specs.declared.Station.{Station}
+use Rattle.model.specs.declared.Phase.the-variants.{Open}
+use Rattle.model.specs.declared.Answer.the-variants as A
+use Rattle.model.specs.Abort.{abort}
+use Rattle.model.specs.Answers.{values}
+use Rattle.model.specs.Calls.{Start, Put, Abort, txnOf, keyOf, numberOf}
+use Rattle.model.specs.Limits.{keys, slots, writeLimit, txnRange, numberRange}
+use Rattle.model.specs.Lists.{_and_, insert}
+use Rattle.model.specs.Put.{withWrites, withWrite, put}
+use Rattle.model.specs.Reading.{Atomic}
+use Rattle.model.specs.Sound.{sound}
+use Rattle.model.specs.Start.{opened, start}
+use Rattle.model.specs.Stations.{noWrite, writesOf, readsOf, writeKey, hasWritten, isClosing, liveAt, setLive, isLive, placeOf}
+use Rattle.model.proofs.InsertLaws.{insert-mem, insert-fits, padded-take, padded-length}
+use Rattle.model.proofs.StationLaws.{place-hit, is-live, not-closing, live-facts, unused-open}
+use Rattle.model.proofs.Tests.{or-left}
+use Rattle.history.specs.Ledger.{Draft, Ledger, at, onDraft, withDraft, feed}
+use Rattle.history.specs.Matches.{lookup, Matches}
+use Rattle.history.proofs.DraftLaws.{some-inj, drafts-set, drafts-revised}
+use Rattle.history.proofs.Invariant.{Ranges, Inv, Good, good-says, guard, unrefused}
+use Rattle.history.proofs.LiveLaws.{slots-set, reads-set, ranges-set, cleared}
+
+-- ── start ──
+opened-open : (t : ℕ) → isClosing (opened t .phase) ≡ false
+unfolding opened isClosing
+opened-open t = refl
+
+opened-ranges : (t : ℕ) → t < txnRange → Ranges (opened t)
+unfolding opened writesOf
+opened-ranges t o = record {
+  txn = o;
+  clock = λ d c n e. absurd (not-closing Open d c n (opened-open t) e);
+  filled = λ n. refl;
+  values = λ w m. absurd (List·Memᴰ·not-nil m);
+}
+
+opened-reads : (es : List Entry) (t : ℕ) → Atomic es (readsOf (opened t))
+unfolding readsOf opened
+opened-reads es t r q m = absurd (List·Memᴰ·not-nil m)
+
+opened-matches : (t : ℕ) → Matches (record { clock = 0; values = λ k. none; reads = [] }) (opened t)
+unfolding opened readsOf writesOf lookup
+opened-matches t = record {
+  values = λ k. refl;
+  clock = λ d c n e. absurd (not-closing Open d c n (unfold isClosing in refl) e);
+  reads = λ r. (λ m. m, λ m. m);
+}
+
+started : (st : Station) (s : List ℕ) (b : Ledger) (t : ℕ) → Inv st s b → sound st ≡ true → t < txnRange → t ≢ 0 → isLive t st ≡ false → isLive 0 st ≡ true
+    → Inv (setLive st (placeOf 0 st) (opened t)) s (withDraft t (some (record { clock = 0; values = λ k. none; reads = [] })) b)
+unfolding withDraft
+started st s b t inv h o n nl z = record {
+  slots = slots-set st s (placeOf 0 st) (opened t) (inv .slots) at-0 (unused-open st h (placeOf 0 st) is-0) (λ d c m e. absurd (not-closing (opened t .phase) d c m (opened-open t) e));
+  standing = inv .standing;
+  drafts = drafts-set st (b .drafts) (inv .drafts) t (placeOf 0 st) (opened t) _ at-0 (λ y. absurd (y is-0))
+      (λ j nj e y. true≢false (sym (subst (λ (u : ℕ). isLive u st ≡ true) e (is-live st j y)) ∙ nl))
+      (λ p e. (n, unfold opened in refl, subst (λ (y : Draft). Matches y (opened t)) (some-inj e) (opened-matches t)))
+      (λ y. (unfold opened in refl, _, refl));
+  reads = reads-set st (placeOf 0 st) (opened t) at-0 (inv .reads) (opened-reads (st .entries) t);
+  ranges = ranges-set st (placeOf 0 st) (opened t) at-0 (inv .ranges) (opened-ranges t o);
+}
+  where
+    at-0 : placeOf 0 st < length (st .live)
+    at-0 = place-hit st 0 z .0
+
+    is-0 : liveAt st (placeOf 0 st) .txn ≡ 0
+    is-0 = place-hit st 0 z .1
+
+pub start-keeps : (st : Station) (s : List ℕ) (b : Ledger) (t : ℕ) → Inv st s b → sound st ≡ true → t < txnRange → Good s b (Start t) (start st t)
+unfolding start feed txnOf
+start-keeps st s b t inv h o =
+    guard s b (Start t) st _ 2 _ _ inv λ h2.
+    guard s b (Start t) st _ 3 _ _ inv λ h3.
+    guard s b (Start t) st _ 6 _ _ inv λ h6.
+    guard s b (Start t) st _ 7 _ _ inv λ h7.
+    unrefused s b (Start t) st _ (good-says s b (Start t) A.Started _
+    (started st s b t inv h o (eqb-false t 0 h3) (or-left _ _ h6) (not-false _ h7)))
+
+-- ── abort ──
+pub abort-keeps : (st : Station) (s : List ℕ) (b : Ledger) (t : ℕ) → Inv st s b → sound st ≡ true → Good s b (Abort t) (abort st t)
+unfolding abort feed txnOf
+abort-keeps st s b t inv h =
+    guard s b (Abort t) st _ 2 _ _ inv λ h2.
+    guard s b (Abort t) st _ 3 _ _ inv λ h3.
+    guard s b (Abort t) st _ 8 _ _ inv λ h8.
+    guard s b (Abort t) st _ 9 _ _ inv λ h9.
+    unrefused s b (Abort t) st _ (good-says s b (Abort t) A.Dropped _ (cleared st s b inv h t (not-false _ h8) h9))
+
+-- ── put ──
+-- two tests that do not both hold may change places; one that holds with the other hides it
+cond-swap : {A : Type 0} (p q : Bool) (x y z : A) → (p ≡ true → q ≡ true → ⊥) → cond p x (cond q y z) ≡ cond q y (cond p x z)
+cond-swap true true x y z n = absurd (n refl refl)
+cond-swap true false x y z n = refl
+cond-swap false true x y z n = refl
+cond-swap false false x y z n = refl
+
+cond-twice : {A : Type 0} (p q : Bool) (x y z : A) → p ≡ q → cond p x (cond q y z) ≡ cond p x z
+cond-twice true q x y z e = refl
+cond-twice false true x y z e = absurd (false≢true e)
+cond-twice false false x y z e = refl
+
+-- the values by key after an insertion
+lookup-insert : (k v : ℕ) (ws : List Write) (u : ℕ) → lookup u (insert writeKey (record { key = k; value = v }) ws) ≡ at k (some v) (λ x. lookup x ws) u
+unfolding insert at lookup
+lookup-insert k v [] u = refl
+lookup-insert k v (w ∷ ws) u = go (ltb (w .key) k) (eqb k (w .key)) refl refl (lookup-insert k v ws u)
+  where
+    go : (x y : Bool) → ltb (w .key) k ≡ x → eqb k (w .key) ≡ y → lookup u (insert writeKey (record { key = k; value = v }) ws) ≡ at k (some v) (λ z. lookup z ws) u
+        → lookup u (insert writeKey (record { key = k; value = v }) (w ∷ ws)) ≡ at k (some v) (λ z. lookup z (w ∷ ws)) u
+    go true y ex ey ih = rw (ex, insert) (rw ih (cond-swap (eqb u (w .key)) (eqb u k) (some (w .value)) (some v) (lookup u ws)
+        (λ a b. omega (arith, eqb-true u (w .key) a, eqb-true u k b, ltb-true (w .key) k ex))))
+    go false true ex ey ih = rw (ex, ey, insert) (sym (cond-twice (eqb u k) (eqb u (w .key)) (some v) (some (w .value)) (lookup u ws) (ap (eqb u) (eqb-true k (w .key) ey))))
+    go false false ex ey ih = rw (ex, ey, insert)
+
+writes-with : (ws : List Write) (l : Live) → writesOf (withWrites ws l) ≡ ws
+unfolding writesOf withWrites
+writes-with ws l = padded-take noWrite writeLimit ws
+
+-- the write of a put
+abbrev written : ℕ → ℕ → Write
+written k v = record { key = k; value = v }
+
+put-matches : (k v : ℕ) (p : Draft) (l : Live) → isClosing (l .phase) ≡ false → Matches p l
+    → Matches (record { clock = p .clock; values = at k (some v) (p .values); reads = p .reads }) (withWrite k v l)
+unfolding withWrite withWrites readsOf at
+put-matches k v p l nc m = record {
+  values = λ u. rw (writes-with (insert writeKey (written k v) (writesOf l)) l) (rw lookup-insert (ap (cond (eqb u k) (some v)) (m .values u)));
+  clock = λ d c n e. absurd (not-closing (l .phase) d c n nc e);
+  reads = m .reads;
+}
+
+put-ranges : (k v : ℕ) (l : Live) → v < numberRange → isClosing (l .phase) ≡ false → length (insert writeKey (written k v) (writesOf l)) ≤ writeLimit → Ranges l → Ranges (withWrite k v l)
+unfolding withWrite
+put-ranges k v l o nc len rg = record {
+  txn = unfold withWrites in rg .txn;
+  clock = unfold withWrites in (λ d c n e. absurd (not-closing (l .phase) d c n nc e));
+  filled = λ n. unfold withWrites in padded-length noWrite writeLimit (insert writeKey (written k v) (writesOf l)) len;
+  values = λ w m. ⊎-elim (λ e. rw e o) (λ x. rg .values w x) (insert-mem writeKey (written k v) (writesOf l) w (rw writes-with at m));
+}
+
+writes-count : (l : Live) → length (writesOf l) ≤ l .«write_count»
+unfolding writesOf
+writes-count l = omega (arith, length-take (l .«write_count») (l .writes))
+
+-- a live transaction's writes are within the limit with one more, unless 11 applies
+put-fits : (st : Station) → sound st ≡ true → (i k v : ℕ) → liveAt st i .txn ≢ 0 → (not (hasWritten k (liveAt st i)) and leb writeLimit (liveAt st i .«write_count»)) ≡ false
+    → length (insert writeKey (written k v) (writesOf (liveAt st i))) ≤ writeLimit
+unfolding hasWritten
+put-fits st h i k v n h11 =
+    let f = live-facts st h i n in
+    insert-fits writeKey (written k v) keys (liveAt st i .«write_count») writeLimit (writesOf (liveAt st i)) (f .writeKeys) (writes-count (liveAt st i)) (f .writes) h11
+
+kept : (st : Station) (s : List ℕ) (b : Ledger) (t k v : ℕ) → Inv st s b → sound st ≡ true → v < numberRange → t ≢ 0 → isLive t st ≡ true
+    → isClosing (liveAt st (placeOf t st) .phase) ≡ false → (not (hasWritten k (liveAt st (placeOf t st))) and leb writeLimit (liveAt st (placeOf t st) .«write_count»)) ≡ false
+    → Inv (setLive st (placeOf t st) (withWrite k v (liveAt st (placeOf t st)))) s
+    (onDraft t (λ p. record { clock = p .clock; values = at k (some v) (p .values); reads = p .reads }) b)
+kept st s b t k v inv h o n z nc h11 = record {
+  slots = slots-set st s i l (inv .slots) (place-hit st t z .0) nc (λ d c m e. absurd (not-closing (l .phase) d c m open-still e));
+  standing = unfold onDraft in inv .standing;
+  drafts = unfold onDraft in drafts-revised st (b .drafts) (inv .drafts) h t n z l same-txn _ (λ p m. put-matches k v p (liveAt st i) nc m);
+  reads = reads-set st i l (place-hit st t z .0) (inv .reads) same-reads;
+  ranges = ranges-set st i l (place-hit st t z .0) (inv .ranges)
+      (put-ranges k v (liveAt st i) o nc (put-fits st h i k v (λ y. n (sym (place-hit st t z .1) ∙ y)) h11) (inv .ranges i));
+}
+  where
+    i : ℕ
+    i = placeOf t st
+
+    l : Live
+    l = withWrite k v (liveAt st i)
+
+    open-still : isClosing (l .phase) ≡ false
+    open-still = unfold withWrite withWrites in nc
+
+    same-txn : l .txn ≡ t
+    same-txn = unfold withWrite withWrites in place-hit st t z .1
+
+    same-reads : Atomic (st .entries) (readsOf l)
+    same-reads = unfold withWrite withWrites readsOf in inv .reads i
+
+pub put-keeps : (st : Station) (s : List ℕ) (b : Ledger) (t k v : ℕ) → Inv st s b → sound st ≡ true → v < numberRange → Good s b (Put t k v) (put st t k v)
+unfolding put feed txnOf keyOf numberOf
+put-keeps st s b t k v inv h o =
+    guard s b (Put t k v) st _ 2 _ _ inv λ h2.
+    guard s b (Put t k v) st _ 3 _ _ inv λ h3.
+    guard s b (Put t k v) st _ 4 _ _ inv λ h4.
+    guard s b (Put t k v) st _ 8 _ _ inv λ h8.
+    guard s b (Put t k v) st _ 9 _ _ inv λ h9.
+    guard s b (Put t k v) st _ 11 _ _ inv λ h11.
+    unrefused s b (Put t k v) st _ (good-says s b (Put t k v) A.Kept _ (kept st s b t k v inv h o (eqb-false t 0 h3) (not-false _ h8) h9 h11))

@@ -1,0 +1,54 @@
+-- 01 'The cut rule': what is claimed of a store and a ledger.
+use Prim.Native.Nat.{ℕ, suc}
+use mathlib.Core.Path.{_≡_}
+use mathlib.Core.Bool.{true, cond}
+use mathlib.Core.List.{List, [], _∷_, _++_, List·Permᴰ, List·Memᴰ}
+use mathlib.Core.Option.{some, none}
+use lib.Dec.{eqb}
+use lib.ListN.{length}
+use Rattle.model.specs.declared.Id.{Id}
+use Rattle.model.specs.declared.Read.{Read}
+use Rattle.model.specs.declared.Entry.{Entry}
+use Rattle.model.specs.declared.Answer.the-variants as A
+use Rattle.model.specs.Answers.{values}
+use Rattle.model.specs.Ids.{older}
+use Rattle.model.specs.Reading.{newest}
+use Rattle.model.specs.Records.{valueIn, recordAt, recordOf}
+use Rattle.model.specs.Scan.{scan}
+use Rattle.model.specs.Stations.{wrote}
+use Rattle.history.specs.Ledger.{Draft, Committed, Ledger}
+
+-- the transaction that slot d of the store holds under entry e: "ticket, clock and keys from the entry, values from the version slips"
+unfoldable pub committedIn : List ℕ → ℕ → Entry → Committed
+committedIn s d e = record { id = e .id; values = λ k. cond (wrote e k) (some (valueIn (recordAt s d (recordOf e k)))) none }
+
+-- those of all entries, the slots counted from d; none of an unused entry
+unfoldable pub committedHere : List ℕ → ℕ → Entry → List Committed
+committedHere s d e = cond (eqb (e .id .txn) 0) [] (committedIn s d e ∷ [])
+
+unfoldable pub committedFound : List ℕ → ℕ → List Entry → List Committed
+committedFound s d [] = []
+committedFound s d (e ∷ es) = committedHere s d e ++ committedFound s (suc d) es
+
+abbrev pub Wrote : Committed → ℕ → Type 0
+Wrote j k = (v : ℕ) × (j .values k ≡ some v)
+
+abbrev pub Newer : Id → Id → Type 0
+Newer i j = older j i ≡ true
+
+pub record CutRule (s : List ℕ) (b : Ledger) : Type 0 where
+  -- "The scan after the list isn't refused. .. found's figure is their number."
+  pub figure : scan s .answer ≡ A.Found (length (b .standing))
+  -- "It finds exactly the standing jobs, one drawer each"
+  pub exactly : List·Permᴰ (committedFound s 0 (scan s .station .entries)) (b .standing)
+  -- "For each key in past jobs, the newest past job that wrote it is standing.": one is newest, and whichever is, stands
+  pub newest : (k : ℕ) (j : Committed) → List·Memᴰ j (b .past) → Wrote j k
+      → (i : Committed) × List·Memᴰ i (b .standing) × Wrote i k × ((h : Committed) → List·Memᴰ h (b .past) → Wrote h k → Newer (h .id) (i .id) → ⊥)
+  pub stands : (k : ℕ) (j : Committed) → List·Memᴰ j (b .past) → Wrote j k
+      → ((h : Committed) → List·Memᴰ h (b .past) → Wrote h k → Newer (h .id) (j .id) → ⊥) → List·Memᴰ j (b .standing)
+  -- "After each call, every id in a page's reads is a standing job's that wrote the key read"
+  pub reads : (t : ℕ) (p : Draft) (r : Read) → b .drafts t ≡ some p → List·Memᴰ r (p .reads)
+      → (j : Committed) × List·Memᴰ j (b .standing) × (j .id ≡ r .id) × Wrote j (r .key)
+  -- "and the reads are an Atomic Readset, i's transaction being that job."
+  pub atomic : (t : ℕ) (p : Draft) (r q : Read) (j : Committed) → b .drafts t ≡ some p → List·Memᴰ r (p .reads) → List·Memᴰ q (p .reads)
+      → List·Memᴰ j (b .standing) → j .id ≡ r .id → Wrote j (q .key) → Newer (r .id) (q .id) → ⊥

@@ -1,0 +1,1 @@
+// The history theorem. It has no code: the ledger, the histories and the claim are in specs/, the proof in proofs/.

@@ -1,0 +1,308 @@
+-- Laws of a record's bytes (specs/Records): numbers and their bytes, the fields of a record as it is written, what a record carries,
+-- and that a record written into a store changes only itself.
+use Prim.Native.Nat.{ℕ, zero, suc, _+_, _*_, _-_, _/_, _%_, _^_, _<_, _≤_, suc-le-suc}
+use mathlib.Core.Path.{_≡_, refl, sym, ap, ap₂, subst, _∙_}
+use mathlib.Core.Logic.{_≢_}
+use mathlib.Core.Bool.{Bool, true, false, false≢true}
+use mathlib.Core.List.{List, [], _∷_, _++_, append-assoc}
+use lib.Dec.{eqb}
+use lib.ListN.{length, take, drop, getD, length-append, take-append-drop, length-take, length-drop}
+use lib.Seq.{take-all, take-append-le, drop-append-le, drop-append-add, getD-take, getD-drop, drop-drop, take-at, drop-at, length-take-le}
+use native.Mathlib.Nat.{zero-lt-suc, suc-ne-zero}
+use native.Mathlib.Decide.{decLt}
+use native.Mathlib.Omega.{arith}
+use borrow.Author.Tests.{eqb-true, eq-eqb}
+use Rattle.model.specs.declared.Id.{Id}
+use Rattle.model.specs.declared.Entry.{Entry}
+use Rattle.model.specs.Ids.{sameId}
+use Rattle.model.specs.Limits.{keys, slots, writeLimit, recordSize, width, storeSize, txnRange, numberRange, byteRange}
+use Rattle.model.specs.Lists.{_and_, count, same}
+use Rattle.model.specs.Records.{bytes, number, idIn, markIn, entryIn, valueIn, freeMark, committedMark, headBytes, commitRecord, versionRecord, zeroRecord, entryRules, commitRules, carriesEntry, carriesVersion, recordPlace, recordAt, withRecord}
+use Rattle.model.proofs.IdLaws.{same-id, id-same}
+use Rattle.model.proofs.Tests.{and-left, and-right, and-intro}
+
+-- ── numbers and their bytes ──
+pub length-bytes : (n x : ℕ) → length (bytes n x) ≡ n
+unfolding bytes
+length-bytes zero x = refl
+length-bytes (suc n) x = ap suc (length-bytes n (x / byteRange))
+
+pub number-bytes : (n x : ℕ) → x < byteRange ^ n → number (bytes n x) ≡ x
+unfolding bytes number
+number-bytes zero x h = omega arith
+number-bytes (suc n) x h =
+    let a : x < 256 ^ suc n = h in
+    let b : x / 256 < 256 ^ n = omega arith in
+    rw (number-bytes n (x / byteRange) b) (omega arith)
+
+-- all numbers of a list are bytes
+abbrev pub Bytes : List ℕ → Type 0
+Bytes bs = (i : ℕ) → i < length bs → getD bs i 0 < byteRange
+
+pub bytes-take : (n : ℕ) (bs : List ℕ) → Bytes bs → Bytes (take n bs)
+bytes-take n bs h i o = rw (getD-take n bs i 0 (omega (arith, length-take n bs))) (h i (omega (arith, length-take n bs)))
+
+pub bytes-drop : (n : ℕ) (bs : List ℕ) → Bytes bs → Bytes (drop n bs)
+bytes-drop n bs h i o = rw (getD-drop n bs i 0) (h (n + i) (omega (arith, length-drop n bs)))
+
+pub bytes-number : (n : ℕ) (bs : List ℕ) → length bs ≡ n → Bytes bs → bytes n (number bs) ≡ bs
+unfolding bytes number
+bytes-number zero [] l h = refl
+bytes-number zero (b ∷ bs) l h = absurd (suc-ne-zero _ l)
+bytes-number (suc n) [] l h = absurd (suc-ne-zero _ (sym l))
+bytes-number (suc n) (b ∷ bs) l h = rw (low, rest) (ap (λ (xs : List ℕ). b ∷ xs) (bytes-number n bs (omega arith) (λ i o. h (suc i) (suc-le-suc o))))
+  where
+    ob : b < byteRange
+    ob = h 0 (zero-lt-suc _)
+
+    low : (b + byteRange * number bs) % byteRange ≡ b
+    low = omega (arith, ob)
+
+    rest : (b + byteRange * number bs) / byteRange ≡ number bs
+    rest = omega (arith, ob)
+
+-- ── equality of lists and of ids ──
+pub same-refl : (l : List ℕ) → same l l ≡ true
+unfolding same
+same-refl [] = refl
+same-refl (x ∷ xs) = rw (eq-eqb x x refl, same) (same-refl xs)
+
+pub same-true : (l m : List ℕ) → same l m ≡ true → l ≡ m
+unfolding same
+same-true [] [] h = refl
+same-true [] (y ∷ ys) h = absurd (false≢true h)
+same-true (x ∷ xs) [] h = absurd (false≢true h)
+same-true (x ∷ xs) (y ∷ ys) h = go (eqb x y) refl (same-true xs ys)
+  where
+    go : (b : Bool) → eqb x y ≡ b → (same xs ys ≡ true → xs ≡ ys) → (x ∷ xs) ≡ (y ∷ ys)
+    go true e ih = cc (eqb-true x y e, ih (rw (e, same) at h))
+    go false e ih = absurd (false≢true (rw (e, same) at h))
+
+-- ── a record as it is written ──
+-- the numbers of an entry fit the record
+pub record Fits (e : Entry) : Type 0 where
+  pub txn32 : e .id .txn < txnRange
+  pub clock64 : e .id .clock < numberRange
+  pub keys8 : length (e .keys) ≡ writeLimit
+
+pub length-commit : (e : Entry) → length (e .keys) ≡ writeLimit → length (commitRecord e) ≡ recordSize
+unfolding commitRecord headBytes bytes
+length-commit e h = simp h
+
+pub length-version : (k : ℕ) (i : Id) (v : ℕ) → length (versionRecord k i v) ≡ recordSize
+unfolding versionRecord headBytes bytes
+length-version k i v = refl
+
+pub length-zero : length zeroRecord ≡ recordSize
+unfolding zeroRecord
+length-zero = refl
+
+pub zero-mark : markIn zeroRecord ≡ freeMark
+unfolding markIn zeroRecord
+zero-mark = refl
+
+pub commit-mark : (e : Entry) → markIn (commitRecord e) ≡ committedMark
+unfolding markIn commitRecord headBytes
+commit-mark e = refl
+
+commit-zeros : (e : Entry) → (getD (commitRecord e) 2 0 ≡ 0) × (getD (commitRecord e) 3 0 ≡ 0)
+unfolding commitRecord headBytes
+commit-zeros e = (refl, refl)
+
+pub entry-round : (e : Entry) → Fits e → entryIn (commitRecord e) ≡ e
+unfolding entryIn idIn commitRecord headBytes bytes
+entry-round e f = λ z. record {
+  id = record { clock = number-bytes 8 (e .id .clock) (f .clock64) z; txn = number-bytes 4 (e .id .txn) (f .txn32) z };
+  count = e .count;
+  keys = take-all 8 (e .keys) (omega (arith, f .keys8)) z;
+}
+
+pub commit-rules : (e : Entry) → Fits e → commitRules (commitRecord e) ≡ entryRules e
+unfolding commitRules _and_
+commit-rules e f = rw (commit-mark e, commit-zeros e .0, commit-zeros e .1, entry-round e f)
+
+pub version-id : (k : ℕ) (i : Id) (v : ℕ) → i .txn < txnRange → i .clock < numberRange → idIn (versionRecord k i v) ≡ i
+unfolding idIn versionRecord headBytes bytes
+version-id k i v ht hc = λ z. record { clock = number-bytes 8 (i .clock) hc z; txn = number-bytes 4 (i .txn) ht z }
+
+pub version-value : (k : ℕ) (i : Id) (v : ℕ) → v < numberRange → valueIn (versionRecord k i v) ≡ v
+unfolding valueIn versionRecord headBytes bytes
+version-value k i v h = number-bytes 8 v h
+
+version-head : (k : ℕ) (i : Id) (v : ℕ) → (getD (versionRecord k i v) 0 0 ≡ k) × (getD (versionRecord k i v) 1 0 ≡ 0) × (getD (versionRecord k i v) 2 0 ≡ 0) × (getD (versionRecord k i v) 3 0 ≡ 0)
+unfolding versionRecord headBytes
+version-head k i v = (refl, refl, refl, refl)
+
+-- ── what a commit record carries ──
+pub carries-mark : (r : List ℕ) (e : Entry) → carriesEntry r e ≡ true → markIn r ≡ committedMark
+unfolding carriesEntry
+carries-mark r e h = eqb-true (markIn r) committedMark (and-left _ _ (and-left _ _ (and-left _ _ (and-left _ _ (and-left _ _ h)))))
+
+carries-zeros : (r : List ℕ) (e : Entry) → carriesEntry r e ≡ true → (getD r 2 0 ≡ 0) × (getD r 3 0 ≡ 0)
+unfolding carriesEntry
+carries-zeros r e h =
+    let c : (eqb (markIn r) committedMark and eqb (getD r 2 0) 0 and eqb (getD r 3 0) 0) ≡ true = and-left _ _ (and-left _ _ (and-left _ _ h)) in
+    (eqb-true (getD r 2 0) 0 (and-right _ _ (and-left _ _ c)), eqb-true (getD r 3 0) 0 (and-right _ _ c))
+
+pub carries-entry : (r : List ℕ) (e : Entry) → carriesEntry r e ≡ true → entryIn r ≡ e
+unfolding carriesEntry
+carries-entry r e h = λ z. record {
+  id = same-id (entryIn r .id) (e .id) (and-right _ _ (and-left _ _ (and-left _ _ h))) z;
+  count = eqb-true (entryIn r .count) (e .count) (and-right _ _ (and-left _ _ h)) z;
+  keys = same-true (entryIn r .keys) (e .keys) (and-right _ _ h) z;
+}
+
+pub carries-intro : (r : List ℕ) (e : Entry) → markIn r ≡ committedMark → getD r 2 0 ≡ 0 → getD r 3 0 ≡ 0 → entryIn r ≡ e → carriesEntry r e ≡ true
+unfolding carriesEntry
+carries-intro r e hm h2 h3 he =
+    and-intro _ _ (and-intro _ _ (and-intro _ _ (and-intro _ _ (and-intro _ _ (eq-eqb (markIn r) committedMark hm) (eq-eqb (getD r 2 0) 0 h2)) (eq-eqb (getD r 3 0) 0 h3))
+    (subst (λ (x : Entry). sameId (entryIn r .id) (x .id) ≡ true) he (id-same (entryIn r .id) (entryIn r .id) refl)))
+    (eq-eqb (entryIn r .count) (e .count) (ap (λ (x : Entry). x .count) he)))
+    (subst (λ (x : Entry). same (entryIn r .keys) (x .keys) ≡ true) he (same-refl (entryIn r .keys)))
+
+pub carries-commit : (e : Entry) → Fits e → carriesEntry (commitRecord e) e ≡ true
+carries-commit e f = carries-intro (commitRecord e) e (commit-mark e) (commit-zeros e .0) (commit-zeros e .1) (entry-round e f)
+
+pub rules-mark : (r : List ℕ) → commitRules r ≡ true → markIn r ≡ committedMark
+unfolding commitRules
+rules-mark r h = eqb-true (markIn r) committedMark (and-left _ _ (and-left _ _ (and-left _ _ h)))
+
+pub rules-entry : (r : List ℕ) → commitRules r ≡ true → entryRules (entryIn r) ≡ true
+unfolding commitRules
+rules-entry r h = and-right _ _ h
+
+pub rules-carries : (r : List ℕ) → commitRules r ≡ true → carriesEntry r (entryIn r) ≡ true
+unfolding commitRules
+rules-carries r h = carries-intro r (entryIn r) (eqb-true (markIn r) committedMark (and-left _ _ (and-left _ _ (and-left _ _ h)))) (eqb-true (getD r 2 0) 0 (and-right _ _ (and-left _ _ (and-left _ _ h)))) (eqb-true (getD r 3 0) 0 (and-right _ _ (and-left _ _ h))) refl
+
+-- a record that carries an entry that keeps the rules keeps them
+pub carries-rules : (r : List ℕ) (e : Entry) → carriesEntry r e ≡ true → entryRules e ≡ true → commitRules r ≡ true
+unfolding commitRules
+carries-rules r e h k =
+    let z = carries-zeros r e h in
+    and-intro _ _ (and-intro _ _ (and-intro _ _ (eq-eqb (markIn r) committedMark (carries-mark r e h)) (eq-eqb (getD r 2 0) 0 (z .0))) (eq-eqb (getD r 3 0) 0 (z .1))) (rw (carries-entry r e h) k)
+
+-- the cells of a list, one by one
+unfoldable spread : ℕ → List ℕ → List ℕ
+spread zero l = []
+spread (suc n) l = getD l 0 0 ∷ spread n (drop 1 l)
+
+spread-all : (n : ℕ) (l : List ℕ) → length l ≡ n → l ≡ spread n l
+unfolding spread
+spread-all zero [] h = refl
+spread-all zero (x ∷ xs) h = absurd (suc-ne-zero _ h)
+spread-all (suc n) [] h = absurd (suc-ne-zero _ (sym h))
+spread-all (suc n) (x ∷ xs) h = ap (λ (ys : List ℕ). x ∷ ys) (spread-all n xs (omega arith))
+
+abbrev parts : List ℕ → List ℕ → List ℕ → List ℕ → List ℕ
+parts r t c x = (getD r 0 0 ∷ getD r 1 0 ∷ getD r 2 0 ∷ getD r 3 0 ∷ t ++ c) ++ x
+
+in-parts : (r : List ℕ) → length r ≡ recordSize → r ≡ parts r (take 4 (drop 4 r)) (take 8 (drop 8 r)) (take 8 (drop 16 r))
+unfolding spread
+in-parts r h = rw (spread-all recordSize r h)
+
+module _ (r : List ℕ) (l : length r ≡ recordSize) (b : Bytes r) where
+  txn-bytes : bytes 4 (idIn r .txn) ≡ take 4 (drop 4 r)
+  unfolding idIn
+  txn-bytes = bytes-number 4 (take 4 (drop 4 r)) (length-take-le 4 (drop 4 r) (omega (arith, length-drop 4 r))) (bytes-take 4 (drop 4 r) (bytes-drop 4 r b))
+
+  clock-bytes : bytes 8 (idIn r .clock) ≡ take 8 (drop 8 r)
+  unfolding idIn
+  clock-bytes = bytes-number 8 (take 8 (drop 8 r)) (length-take-le 8 (drop 8 r) (omega (arith, length-drop 8 r))) (bytes-take 8 (drop 8 r) (bytes-drop 8 r b))
+
+  value-bytes : bytes 8 (valueIn r) ≡ take 8 (drop 16 r)
+  unfolding valueIn
+  value-bytes = bytes-number 8 (take 8 (drop 16 r)) (length-take-le 8 (drop 16 r) (omega (arith, length-drop 16 r))) (bytes-take 8 (drop 16 r) (bytes-drop 16 r b))
+
+  commit-parts : markIn r ≡ committedMark → getD r 2 0 ≡ 0 → getD r 3 0 ≡ 0 → r ≡ commitRecord (entryIn r)
+  unfolding commitRecord headBytes entryIn markIn
+  commit-parts h0 h2 h3 = in-parts r l ∙ (rw (h0, h2, h3, txn-bytes, clock-bytes))
+
+  version-parts : getD r 1 0 ≡ 0 → getD r 2 0 ≡ 0 → getD r 3 0 ≡ 0 → r ≡ versionRecord (getD r 0 0) (idIn r) (valueIn r)
+  unfolding versionRecord headBytes
+  version-parts h1 h2 h3 = in-parts r l ∙ (rw (h1, h2, h3, txn-bytes, clock-bytes, value-bytes))
+
+  -- 24 bytes that carry an entry are its commit record
+  pub commit-only : (e : Entry) → carriesEntry r e ≡ true → r ≡ commitRecord e
+  commit-only e h = let z = carries-zeros r e h in commit-parts (carries-mark r e h) (z .0) (z .1) ∙ ap commitRecord (carries-entry r e h)
+
+  -- and 24 bytes that carry a key and an id are a version record of them
+  pub version-only : (k : ℕ) (i : Id) → carriesVersion r k i ≡ true → r ≡ versionRecord k i (valueIn r)
+  unfolding carriesVersion
+  version-only k i h =
+      let c : (eqb (getD r 0 0) k and eqb (getD r 1 0) 0 and eqb (getD r 2 0) 0 and eqb (getD r 3 0) 0) ≡ true = and-left _ _ h in
+      version-parts (eqb-true (getD r 1 0) 0 (and-right _ _ (and-left _ _ (and-left _ _ c)))) (eqb-true (getD r 2 0) 0 (and-right _ _ (and-left _ _ c))) (eqb-true (getD r 3 0) 0 (and-right _ _ c))
+      ∙ ap₂ (λ (x : ℕ) (y : Id). versionRecord x y (valueIn r)) (eqb-true (getD r 0 0) k (and-left _ _ (and-left _ _ (and-left _ _ c)))) (same-id (idIn r) i (and-right _ _ h))
+
+-- ── what a version record carries ──
+pub carries-id : (r : List ℕ) (k : ℕ) (i : Id) → carriesVersion r k i ≡ true → idIn r ≡ i
+unfolding carriesVersion
+carries-id r k i h = same-id (idIn r) i (and-right _ _ h)
+
+pub carries-key : (r : List ℕ) (k : ℕ) (i : Id) → carriesVersion r k i ≡ true → getD r 0 0 ≡ k
+unfolding carriesVersion
+carries-key r k i h = eqb-true (getD r 0 0) k (and-left _ _ (and-left _ _ (and-left _ _ (and-left _ _ h))))
+
+pub version-round : (k : ℕ) (i : Id) (v : ℕ) → i .txn < txnRange → i .clock < numberRange → carriesVersion (versionRecord k i v) k i ≡ true
+unfolding carriesVersion
+version-round k i v ht hc =
+    let z = version-head k i v in
+    and-intro _ _ (and-intro _ _ (and-intro _ _ (and-intro _ _ (eq-eqb _ k (z .0)) (eq-eqb _ 0 (z .1))) (eq-eqb _ 0 (z .2))) (eq-eqb _ 0 (z .3))) (rw (version-id k i v ht hc) (id-same i i refl))
+
+-- ── a part of a list written over ──
+module _ (s r : List ℕ) (at : ℕ) (l : length r ≡ recordSize) (o : at + recordSize ≤ length s) where
+  front : length (take at s) ≡ at
+  front = length-take-le at s (omega arith)
+
+  write-length : length (take at s ++ (r ++ drop (at + recordSize) s)) ≡ length s
+  write-length = simp (length-append, front, length-drop, l) (omega arith)
+
+  write-same : take recordSize (drop at (take at s ++ (r ++ drop (at + recordSize) s))) ≡ r
+  write-same = rw (drop-at (take at s) (r ++ drop (at + recordSize) s) at front) (take-at r (drop (at + recordSize) s) recordSize l)
+
+  below : (x : List ℕ) (k : ℕ) → k + recordSize ≤ at → take recordSize (drop k (take at s ++ x)) ≡ take recordSize (drop k (take at s))
+  below x k h = rw (drop-append-le k (take at s) x (omega (arith, front))) (take-append-le recordSize (drop k (take at s)) x (omega (arith, length-drop k (take at s), front)))
+
+  write-below : (k : ℕ) → k + recordSize ≤ at → take recordSize (drop k (take at s ++ (r ++ drop (at + recordSize) s))) ≡ take recordSize (drop k s)
+  write-below k h = below (r ++ drop (at + recordSize) s) k h ∙ (sym (below (drop at s) k h) ∙ ap (λ (x : List ℕ). take recordSize (drop k x)) (take-append-drop at s))
+
+  write-above : (k : ℕ) → at + recordSize ≤ k → take recordSize (drop k (take at s ++ (r ++ drop (at + recordSize) s))) ≡ take recordSize (drop k s)
+  write-above k h = ap (take recordSize) (ap (λ (x : List ℕ). drop k x) (sym (append-assoc (take at s) r (drop (at + recordSize) s))) ∙ (ap (λ (n : ℕ). drop n ((take at s ++ r) ++ drop (at + recordSize) s)) e
+      ∙ (drop-append-add (take at s ++ r) (drop (at + recordSize) s) (k - (at + recordSize)) ∙ (drop-drop (k - (at + recordSize)) (at + recordSize) s ∙ ap (λ (n : ℕ). drop n s) e′))))
+    where
+      e : k ≡ length (take at s ++ r) + (k - (at + recordSize))
+      e = omega (arith, length-append (take at s) r, front, l)
+
+      e′ : (at + recordSize) + (k - (at + recordSize)) ≡ k
+      e′ = omega arith
+
+-- ── one record written into a store ──
+module _ (s : List ℕ) (d n : ℕ) (r : List ℕ) (z : length s ≡ storeSize) (od : d < slots) (on : n < width) (l : length r ≡ recordSize) where
+  inside : recordPlace d n + recordSize ≤ length s
+  inside = omega arith
+
+  pub with-length : length (withRecord s d n r) ≡ length s
+  unfolding withRecord
+  with-length = write-length s r (recordPlace d n) l inside
+
+  pub record-same : recordAt (withRecord s d n r) d n ≡ r
+  unfolding withRecord recordAt
+  record-same = write-same s r (recordPlace d n) l inside
+
+  -- another record of the slot
+  pub record-other : (m : ℕ) → m ≢ n → recordAt (withRecord s d n r) d m ≡ recordAt s d m
+  unfolding withRecord recordAt
+  record-other m h = go (decLt m n)
+    where
+      go : Dec (m < n) → recordAt (withRecord s d n r) d m ≡ recordAt s d m
+      go (yes y) = write-below s r (recordPlace d n) l inside (recordPlace d m) (omega arith)
+      go (no y) = write-above s r (recordPlace d n) l inside (recordPlace d m) (omega arith)
+
+  -- any record of another slot
+  pub record-elsewhere : (c m : ℕ) → c ≢ d → m < width → recordAt (withRecord s d n r) c m ≡ recordAt s c m
+  unfolding withRecord recordAt
+  record-elsewhere c m h om = go (decLt c d)
+    where
+      go : Dec (c < d) → recordAt (withRecord s d n r) c m ≡ recordAt s c m
+      go (yes y) = write-below s r (recordPlace d n) l inside (recordPlace c m) (omega arith)
+      go (no y) = write-above s r (recordPlace d n) l inside (recordPlace c m) (omega arith)
