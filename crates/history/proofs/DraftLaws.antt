@@ -9,10 +9,11 @@ use native.Mathlib.Decide.{ℕ-discrete}
 use borrow.Author.Tests.{eq-eqb, ne-eqb}
 use Rattle.model.specs.declared.Live.{Live}
 use Rattle.model.specs.declared.Station.{Station}
-use Rattle.model.specs.Reading.{own}
-use Rattle.model.specs.Sound.{sound}
 use Rattle.model.specs.Stations.{noLive, liveAt, setLive, isLive, placeOf}
-use Rattle.model.proofs.StationLaws.{place-hit, setLive-at, liveAt-same, liveAt-other, one-place, no-other}
+use Rattle.model.specs.Sound.{sound}
+use Rattle.model.specs.Reading.{own}
+use Rattle.model.proofs.StationLaws.{place-hit, setLive-at, liveAt-same, liveAt-other}
+use Rattle.model.proofs.SoundFacts.{one-place, no-other}
 use Rattle.history.specs.Ledger.{Draft, at, revised}
 use Rattle.history.specs.Matches.{Matches, Correspond}
 

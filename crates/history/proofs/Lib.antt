@@ -2,3 +2,11 @@ pub mod Invariant
 pub mod DraftLaws
 pub mod LiveLaws
 pub mod Opening
+pub mod Committing
+pub mod Reading
+pub mod CommittedLaws
+pub mod SlotOwners
+pub mod Storing
+pub mod Collecting
+pub mod Recovering
+pub mod Theorem

@@ -6,7 +6,7 @@ use mathlib.Core.Bool.{Bool, true, false, not, cond, true≢false, false≢true}
 use mathlib.Core.List.{List, [], _∷_, List·Memᴰ·not-nil}
 use mathlib.Core.Option.{some, none}
 use lib.Dec.{eqb, ltb, leb}
-use lib.ListN.{length, length-take}
+use lib.ListN.{length}
 use native.Mathlib.Omega.{arith}
 use borrow.Author.Tests.{ltb-true, eqb-true, eqb-false, not-false}
 use Rattle.model.specs.declared.Write.{Write}
@@ -15,23 +15,25 @@ use Rattle.model.specs.declared.Entry.{Entry}
 use Rattle.model.specs.declared.Station.{Station}
 use Rattle.model.specs.declared.Phase.the-variants.{Open}
 use Rattle.model.specs.declared.Answer.the-variants as A
-use Rattle.model.specs.Abort.{abort}
-use Rattle.model.specs.Answers.{values}
-use Rattle.model.specs.Calls.{Start, Put, Abort, txnOf, keyOf, numberOf}
-use Rattle.model.specs.Limits.{keys, slots, writeLimit, txnRange, numberRange}
 use Rattle.model.specs.Lists.{_and_, insert}
-use Rattle.model.specs.Put.{withWrites, withWrite, put}
-use Rattle.model.specs.Reading.{Atomic}
-use Rattle.model.specs.Sound.{sound}
-use Rattle.model.specs.Start.{opened, start}
+use Rattle.model.specs.Limits.{keys, slots, writeLimit, txnRange, numberRange}
 use Rattle.model.specs.Stations.{noWrite, writesOf, readsOf, writeKey, hasWritten, isClosing, liveAt, setLive, isLive, placeOf}
-use Rattle.model.proofs.InsertLaws.{insert-mem, insert-fits, padded-take, padded-length}
-use Rattle.model.proofs.StationLaws.{place-hit, is-live, not-closing, live-facts, unused-open}
+use Rattle.model.specs.Sound.{sound}
+use Rattle.model.specs.Reading.{Atomic}
+use Rattle.model.specs.Start.{opened, start}
+use Rattle.model.specs.Put.{withWrites, withWrite, put}
+use Rattle.model.specs.Abort.{abort}
+use Rattle.model.specs.Calls.{Start, Put, Abort, txnOf, keyOf, numberOf}
+use Rattle.model.specs.Answers.{values}
 use Rattle.model.proofs.Tests.{or-left}
+use Rattle.model.proofs.InsertLaws.{insert-mem, insert-fits, padded-length}
+use Rattle.model.proofs.StationLaws.{place-hit, is-live, not-closing}
+use Rattle.model.proofs.SoundLaws.{write-limit, writes-ascending, writes-length, writesOf-withWrites}
+use Rattle.model.proofs.SoundFacts.{live-facts, unused-open}
 use Rattle.history.specs.Ledger.{Draft, Ledger, at, onDraft, withDraft, feed}
 use Rattle.history.specs.Matches.{lookup, Matches}
+use Rattle.history.proofs.Invariant.{guard, Ranges, Inv, Good, good-says, unrefused}
 use Rattle.history.proofs.DraftLaws.{some-inj, drafts-set, drafts-revised}
-use Rattle.history.proofs.Invariant.{Ranges, Inv, Good, good-says, guard, unrefused}
 use Rattle.history.proofs.LiveLaws.{slots-set, reads-set, ranges-set, cleared}
 
 -- ── start ──
@@ -126,10 +128,6 @@ lookup-insert k v (w ∷ ws) u = go (ltb (w .key) k) (eqb k (w .key)) refl refl 
     go false true ex ey ih = rw (ex, ey, insert) (sym (cond-twice (eqb u k) (eqb u (w .key)) (some v) (some (w .value)) (lookup u ws) (ap (eqb u) (eqb-true k (w .key) ey))))
     go false false ex ey ih = rw (ex, ey, insert)
 
-writes-with : (ws : List Write) (l : Live) → writesOf (withWrites ws l) ≡ ws
-unfolding writesOf withWrites
-writes-with ws l = padded-take noWrite writeLimit ws
-
 -- the write of a put
 abbrev written : ℕ → ℕ → Write
 written k v = record { key = k; value = v }
@@ -138,7 +136,7 @@ put-matches : (k v : ℕ) (p : Draft) (l : Live) → isClosing (l .phase) ≡ fa
     → Matches (record { clock = p .clock; values = at k (some v) (p .values); reads = p .reads }) (withWrite k v l)
 unfolding withWrite withWrites readsOf at
 put-matches k v p l nc m = record {
-  values = λ u. rw (writes-with (insert writeKey (written k v) (writesOf l)) l) (rw lookup-insert (ap (cond (eqb u k) (some v)) (m .values u)));
+  values = λ u. rw (writesOf-withWrites (insert writeKey (written k v) (writesOf l)) l) (rw lookup-insert (ap (cond (eqb u k) (some v)) (m .values u)));
   clock = λ d c n e. absurd (not-closing (l .phase) d c n nc e);
   reads = m .reads;
 }
@@ -149,12 +147,8 @@ put-ranges k v l o nc len rg = record {
   txn = unfold withWrites in rg .txn;
   clock = unfold withWrites in (λ d c n e. absurd (not-closing (l .phase) d c n nc e));
   filled = λ n. unfold withWrites in padded-length noWrite writeLimit (insert writeKey (written k v) (writesOf l)) len;
-  values = λ w m. ⊎-elim (λ e. rw e o) (λ x. rg .values w x) (insert-mem writeKey (written k v) (writesOf l) w (rw writes-with at m));
+  values = λ w m. ⊎-elim (λ e. rw e o) (λ x. rg .values w x) (insert-mem writeKey (written k v) (writesOf l) w (rw writesOf-withWrites at m));
 }
-
-writes-count : (l : Live) → length (writesOf l) ≤ l .«write_count»
-unfolding writesOf
-writes-count l = omega (arith, length-take (l .«write_count») (l .writes))
 
 -- a live transaction's writes are within the limit with one more, unless 11 applies
 put-fits : (st : Station) → sound st ≡ true → (i k v : ℕ) → liveAt st i .txn ≢ 0 → (not (hasWritten k (liveAt st i)) and leb writeLimit (liveAt st i .«write_count»)) ≡ false
@@ -162,7 +156,7 @@ put-fits : (st : Station) → sound st ≡ true → (i k v : ℕ) → liveAt st 
 unfolding hasWritten
 put-fits st h i k v n h11 =
     let f = live-facts st h i n in
-    insert-fits writeKey (written k v) keys (liveAt st i .«write_count») writeLimit (writesOf (liveAt st i)) (f .writeKeys) (writes-count (liveAt st i)) (f .writes) h11
+    insert-fits writeKey (written k v) keys (liveAt st i .«write_count») writeLimit (writesOf (liveAt st i)) (writes-ascending (liveAt st i) (f .sets)) (writes-length (liveAt st i)) (write-limit (liveAt st i) (f .sets)) h11
 
 kept : (st : Station) (s : List ℕ) (b : Ledger) (t k v : ℕ) → Inv st s b → sound st ≡ true → v < numberRange → t ≢ 0 → isLive t st ≡ true
     → isClosing (liveAt st (placeOf t st) .phase) ≡ false → (not (hasWritten k (liveAt st (placeOf t st))) and leb writeLimit (liveAt st (placeOf t st) .«write_count»)) ≡ false

@@ -10,12 +10,12 @@ use Rattle.model.specs.declared.Id.{Id}
 use Rattle.model.specs.declared.Read.{Read}
 use Rattle.model.specs.declared.Entry.{Entry}
 use Rattle.model.specs.declared.Answer.the-variants as A
-use Rattle.model.specs.Answers.{values}
 use Rattle.model.specs.Ids.{older}
-use Rattle.model.specs.Reading.{newest}
-use Rattle.model.specs.Records.{valueIn, recordAt, recordOf}
-use Rattle.model.specs.Scan.{scan}
 use Rattle.model.specs.Stations.{wrote}
+use Rattle.model.specs.Records.{valueIn, recordAt, recordOf}
+use Rattle.model.specs.Reading.{newest}
+use Rattle.model.specs.Scan.{scan}
+use Rattle.model.specs.Answers.{values}
 use Rattle.history.specs.Ledger.{Draft, Committed, Ledger}
 
 -- the transaction that slot d of the store holds under entry e: "ticket, clock and keys from the entry, values from the version slips"

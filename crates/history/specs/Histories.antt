@@ -5,11 +5,11 @@ use mathlib.Core.List.{List, [], _∷_}
 use lib.Dec.{leb}
 use lib.ListN.{length, take, replicate}
 use Rattle.model.specs.declared.Station.{Station}
-use Rattle.model.specs.Calls.{Call, Scan, does, InRange}
-use Rattle.model.specs.Effects.{Effect, stored}
 use Rattle.model.specs.Limits.{storeSize}
-use Rattle.model.specs.Scan.{scan}
 use Rattle.model.specs.Stations.{emptyStation}
+use Rattle.model.specs.Effects.{Effect, stored}
+use Rattle.model.specs.Scan.{scan}
+use Rattle.model.specs.Calls.{Call, Scan, does, InRange}
 use Rattle.history.specs.Ledger.{Ledger, emptyLedger, feed}
 
 pub data Event : Type 0 where

@@ -9,27 +9,27 @@ use Rattle.model.specs.declared.Write.{Write}
 use Rattle.model.specs.declared.Phase.the-variants.{Closing}
 use Rattle.model.specs.declared.Answer.{Answer}
 use Rattle.model.specs.declared.Answer.the-variants as A
-use Rattle.model.specs.Abort.{abort}
-use Rattle.model.specs.Calls.{Call, Start, Put, Get, Commit, Step, Collect, Scan, does, answers}
-use Rattle.model.specs.Collect.{collect}
-use Rattle.model.specs.Commit.{withPhase, highestFree, clockFor, commit}
-use Rattle.model.specs.Effects.{stored, says, saysStoring, refusals, wrongLength, unsound}
-use Rattle.model.specs.Get.{choiceOf, withReads, withRead, versionAt, noRoom, notCarried, answered, get}
-use Rattle.model.specs.Ids.{older, sameId, newerOf, greatest}
-use Rattle.model.specs.Limits.{storeSize}
 use Rattle.model.specs.Lists.{_and_, _or_, all, any, first, filter, count, insert, padded, from, member, ascending, distinct, same, anyBelow, greatestBelow}
-use Rattle.model.specs.Put.{withWrites, withWrite, put}
-use Rattle.model.specs.Reading.{lowerBound, conflictsWith, conflicts, passes, keepNewer, newest, chosen, choose}
+use Rattle.model.specs.Limits.{storeSize}
+use Rattle.model.specs.Ids.{older, sameId, newerOf, greatest}
+use Rattle.model.specs.Stations.{emptyStation, writesOf, readsOf, keysOf, wrote, wroteAs, hasWritten, hasRead, valueUnder, isClosing, closingSlot, closingClock, recordsStored, liveAt, entryAt, setLive, setEntry, liveTxns, heldTxns, isLive, isHeld, placeOf, slotOf, holds, slotMark, closingSlots, isFree}
 use Rattle.model.specs.Records.{bytes, number, idIn, markIn, entryIn, valueIn, headBytes, commitRecord, versionRecord, zeroRecord, entryRules, commitRules, carriesEntry, carriesVersion, recordAt, withRecord, recordOf}
-use Rattle.model.specs.Scan.{slotsSeen, entrySeen, isCommitted, breaks, lowestBroken, scanned, scan}
 use Rattle.model.specs.Slots.{versionsCarry, judged, seen}
 use Rattle.model.specs.Sound.{isNoWrite, isNoRead, isNoEntry, isNoLive, zeroPastCounts, setsRight, names, inUse, closingRight, placeRight, entryRight, sound}
-use Rattle.model.specs.Start.{opened, start}
-use Rattle.model.specs.Stations.{emptyStation, writesOf, readsOf, keysOf, wrote, wroteAs, hasWritten, hasRead, valueUnder, isClosing, closingSlot, closingClock, recordsStored, liveAt, entryAt, setLive, setEntry, liveTxns, heldTxns, isLive, isHeld, placeOf, slotOf, holds, slotMark, closingSlots, isFree}
-use Rattle.model.specs.Step.{entryFor, oneMore, step}
+use Rattle.model.specs.Reading.{lowerBound, conflictsWith, conflicts, passes, keepNewer, newest, chosen, choose}
 use Rattle.model.specs.Supersedence.{newerOn, superseded, isReadBy, isRead}
+use Rattle.model.specs.Effects.{stored, says, saysStoring, refusals, wrongLength, unsound}
+use Rattle.model.specs.Start.{opened, start}
+use Rattle.model.specs.Put.{withWrites, withWrite, put}
+use Rattle.model.specs.Get.{choiceOf, withReads, withRead, versionAt, noRoom, notCarried, answered, get}
+use Rattle.model.specs.Commit.{withPhase, highestFree, clockFor, commit}
+use Rattle.model.specs.Step.{entryFor, oneMore, stepped, step}
+use Rattle.model.specs.Abort.{abort}
+use Rattle.model.specs.Collect.{collect}
+use Rattle.model.specs.Scan.{slotsSeen, entrySeen, isCommitted, breaks, lowestBroken, scanned, scan}
+use Rattle.model.specs.Calls.{Call, Start, Put, Get, Commit, Step, Collect, Scan, does, answers}
 
-abbrev Line : Type 0
+abbrev pub Line : Type 0
 Line = Call × Answer
 
 abbrev id : ℕ → ℕ → Id
@@ -38,22 +38,22 @@ id c t = record { clock = c; txn = t }
 abbrev w : ℕ → ℕ → Write
 w k v = record { key = k; value = v }
 
-unfoldable pub puts : ℕ → List Write → List Line
+unfoldable puts : ℕ → List Write → List Line
 puts t [] = []
 puts t (x ∷ xs) = (Put t (x .key) (x .value), A.Kept) ∷ puts t xs
 
-unfoldable pub versions : ℕ → List Write → List Line
+unfoldable versions : ℕ → List Write → List Line
 versions t [] = []
 versions t (x ∷ xs) = (Step t, A.Stored (x .key)) ∷ versions t xs
 
 -- transaction t from its start to its last version record, in slot d; to its commit record; to its end
-unfoldable pub begun : ℕ → ℕ → ℕ → List Write → List Line
+unfoldable begun : ℕ → ℕ → ℕ → List Write → List Line
 begun t c d ws = (Start t, A.Started) ∷ puts t ws ++ ((Commit t c, A.Closing d) ∷ versions t ws)
 
-unfoldable pub slipped : ℕ → ℕ → ℕ → List Write → List Line
+unfoldable slipped : ℕ → ℕ → ℕ → List Write → List Line
 slipped t c d ws = begun t c d ws ++ ((Step t, A.Slipped d) ∷ [])
 
-unfoldable pub whole : ℕ → ℕ → ℕ → List Write → List Line
+unfoldable whole : ℕ → ℕ → ℕ → List Write → List Line
 whole t c d ws = slipped t c d ws ++ ((Step t, A.Done (id c t)) ∷ [])
 
 abbrev K : ℕ
@@ -63,14 +63,14 @@ abbrev L : ℕ
 L = 22
 
 -- "a {K}, b {L}; K read; then c {K, L} held"
-unfoldable pub kReadThenC : List Line
+unfoldable kReadThenC : List Line
 kReadThenC =
     whole 1 1 63 (w K 10 ∷ [])
     ++ whole 2 2 62 (w L 20 ∷ [])
     ++ ((Start 9, A.Started) ∷ (Get 9 K, A.Version 10 (id 1 1)) ∷ [])
     ++ whole 3 3 61 (w K 30 ∷ w L 31 ∷ [])
 
-unfoldable pub starred : List (List Line)
+unfoldable starred : List (List Line)
 starred =
     -- "Entries a {L}, b {K, L}: read K gives b, then L gives b."
     (whole 1 1 63 (w L 10 ∷ []) ++ whole 2 2 62 (w K 20 ∷ w L 21 ∷ []) ++ ((Start 9, A.Started) ∷ (Get 9 K, A.Version 20 (id 2 2)) ∷ (Get 9 L, A.Version 21 (id 2 2)) ∷ []))
@@ -94,7 +94,7 @@ starred =
     ∷ ((Start 5, A.Started) ∷ (Commit 5 1, A.Empty) ∷ (Commit 5 1, A.Refused 8 0) ∷ [])
     ∷ []
 
-unfoldable pub slipsOfThought : List (List Line)
+unfoldable slipsOfThought : List (List Line)
 slipsOfThought =
     -- "Entering own puts in the read list.": own K is no read of K's version, so that may be collected; and the station stays sound
     (whole 1 1 63 (w K 10 ∷ []) ++ ((Start 9, A.Started) ∷ (Put 9 K 5, A.Kept) ∷ (Get 9 K, A.Own 5) ∷ []) ++ whole 2 2 62 (w K 20 ∷ []) ++ ((Collect 63, A.Collected (id 1 1)) ∷ (Get 9 K, A.Own 5) ∷ []))
@@ -115,5 +115,5 @@ table = []
 
 -- The claim: every line of every case is answered as the table says.
 pub bench-holds : map given table ≡ map expected table
-unfolding puts versions begun slipped whole kReadThenC starred slipsOfThought given expected table _and_ _or_ all any first filter count insert padded from member ascending distinct same anyBelow greatestBelow older sameId newerOf greatest emptyStation writesOf readsOf keysOf wrote wroteAs hasWritten hasRead valueUnder isClosing closingSlot closingClock recordsStored liveAt entryAt setLive setEntry liveTxns heldTxns isLive isHeld placeOf slotOf holds slotMark closingSlots isFree bytes number idIn markIn entryIn valueIn headBytes commitRecord versionRecord zeroRecord entryRules commitRules carriesEntry carriesVersion recordAt withRecord recordOf versionsCarry judged seen isNoWrite isNoRead isNoEntry isNoLive zeroPastCounts setsRight names inUse closingRight placeRight entryRight sound lowerBound conflictsWith conflicts passes keepNewer newest chosen choose newerOn superseded isReadBy isRead stored says saysStoring refusals wrongLength unsound opened start withWrites withWrite put choiceOf withReads withRead versionAt noRoom notCarried answered get withPhase highestFree clockFor commit entryFor oneMore step abort collect slotsSeen entrySeen isCommitted breaks lowestBroken scanned scan does answers
+unfolding given expected table _and_ _or_ all any first filter count insert padded from member ascending distinct same anyBelow greatestBelow older sameId newerOf greatest emptyStation writesOf readsOf keysOf wrote wroteAs hasWritten hasRead valueUnder isClosing closingSlot closingClock recordsStored liveAt entryAt setLive setEntry liveTxns heldTxns isLive isHeld placeOf slotOf holds slotMark closingSlots isFree bytes number idIn markIn entryIn valueIn headBytes commitRecord versionRecord zeroRecord entryRules commitRules carriesEntry carriesVersion recordAt withRecord recordOf versionsCarry judged seen isNoWrite isNoRead isNoEntry isNoLive zeroPastCounts setsRight names inUse closingRight placeRight entryRight sound lowerBound conflictsWith conflicts passes keepNewer newest chosen choose newerOn superseded isReadBy isRead stored says saysStoring refusals wrongLength unsound opened start withWrites withWrite put choiceOf withReads withRead versionAt noRoom notCarried answered get withPhase highestFree clockFor commit entryFor oneMore stepped step abort collect slotsSeen entrySeen isCommitted breaks lowestBroken scanned scan does answers
 bench-holds = refl

@@ -9,8 +9,8 @@ use native.Mathlib.Decide.{decLt}
 use native.Mathlib.Omega.{arith}
 use borrow.Author.Tests.{ltb-true, ltb-false, eqb-true, lt-ltb, le-ltb, eq-eqb}
 use Rattle.model.specs.declared.Id.{Id}
-use Rattle.model.specs.Ids.{older, sameId, noId, newerOf, greatest}
 use Rattle.model.specs.Lists.{_and_, _or_, same}
+use Rattle.model.specs.Ids.{older, sameId, noId, newerOf, greatest}
 use Rattle.model.proofs.Tests.{and-left, and-right, and-intro, and-second, or-left, or-right, or-intro-left, or-intro-right, or-cases, bool-cases}
 
 pub older-irrefl : (i : Id) → older i i ≡ false

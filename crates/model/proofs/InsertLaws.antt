@@ -11,8 +11,8 @@ use native.Mathlib.Nat.{lt-irrefl, le-refl}
 use native.Mathlib.Omega.{arith}
 use borrow.Author.Tests.{ltb-true, ltb-false, leb-true, leb-false, eqb-true, eqb-false, lt-ltb, le-leb, ne-eqb}
 use Rattle.model.specs.Lists.{_and_, all, any, insert, padded, member, ascending}
-use Rattle.model.proofs.ListLaws.{all-head, all-tail, all-cons, member-no}
 use Rattle.model.proofs.Tests.{and-left, and-right, and-intro, and-second, not-of-false}
+use Rattle.model.proofs.ListLaws.{all-head, all-tail, all-cons, member-no}
 
 -- ── ascending ──
 pub ascending-head : (lo hi n : ℕ) (ns : List ℕ) → ascending lo hi (n ∷ ns) ≡ true → (lo ≤ n) × (n < hi)

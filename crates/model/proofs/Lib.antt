@@ -1,11 +1,17 @@
 pub mod Tests
 pub mod ListLaws
+pub mod DistinctLaws
 pub mod InsertLaws
 pub mod IdLaws
+pub mod RefusalLaws
 pub mod RecordLaws
 pub mod SlotLaws
 pub mod ScanLaws
 pub mod ReadingLaws
 pub mod StationLaws
+pub mod GetLaws
+pub mod SoundLaws
+pub mod SoundFacts
+pub mod SoundKept
 pub mod BenchTable
 pub mod RunSheet

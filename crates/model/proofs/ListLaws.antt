@@ -1,18 +1,18 @@
 -- Laws of the searches and tests on lists (specs/Lists), over plain lists.
 use Prim.Native.Nat.{ℕ, zero, suc, _+_, _<_, suc-le-suc}
 use mathlib.Core.Path.{_≡_, refl, sym, ap, subst, _∙_}
-use mathlib.Core.Logic.{_≢_, ⊎-elim}
-use mathlib.Core.Bool.{Bool, true, false, not, true≢false, false≢true}
-use mathlib.Core.List.{List, [], _∷_, List·Memᴰ, List·Memᴰ·head, List·Memᴰ·tail, List·Memᴰ·not-nil, List·Memᴰ·cases-cons}
+use mathlib.Core.Logic.{_≢_, _⊎_, inl, inr, ⊎-elim}
+use mathlib.Core.Bool.{Bool, true, false, true≢false, false≢true}
+use mathlib.Core.List.{List, [], _∷_, map, List·Memᴰ, List·Memᴰ·head, List·Memᴰ·tail, List·Memᴰ·not-nil, List·Memᴰ·cases-cons}
 use lib.Dec.{eqb}
-use lib.ListN.{length, getD, replicate, set}
+use lib.ListN.{length, take, drop, getD, replicate, set, length-set, List·getD-eq-default}
 use lib.Seq.{getD-set-same, getD-set-other}
-use native.Mathlib.Nat.{le-of-suc-le-suc, not-suc-le-zero, zero-lt-suc}
-use native.Mathlib.Decide.{ℕ-discrete}
+use native.Mathlib.Nat.{le-of-suc-le-suc, not-suc-le-zero, zero-lt-suc, lt-irrefl}
+use native.Mathlib.Decide.{ℕ-discrete, decLt}
 use native.Mathlib.Omega.{arith}
-use borrow.Author.Tests.{eqb-true, eqb-false, not-false, eq-eqb, ne-eqb}
-use Rattle.model.specs.Lists.{_or_, all, any, first, from, member, distinct}
-use Rattle.model.proofs.Tests.{or-left, or-right}
+use borrow.Author.Tests.{eqb-true, eq-eqb}
+use Rattle.model.specs.Lists.{all, any, first, count, from, member, anyBelow, greatestBelow}
+use Rattle.model.proofs.Tests.{or-cases}
 
 module _ {A : Type 0} where
   -- a list with one element replaced, place by place
@@ -163,6 +163,15 @@ module _ {A : Type 0} where
   any-none-of p [] d f = refl
   any-none-of p (x ∷ xs) d f = any-no p x xs (f 0 (zero-lt-suc _)) ∙ any-none-of p xs d (λ j o. f (suc j) (suc-le-suc o))
 
+  -- ── count ──
+  pub count-yes : (p : A → Bool) (x : A) (xs : List A) → p x ≡ true → count p (x ∷ xs) ≡ suc (count p xs)
+  unfolding count
+  count-yes p x xs h = rw (h, count)
+
+  pub count-no : (p : A → Bool) (x : A) (xs : List A) → p x ≡ false → count p (x ∷ xs) ≡ count p xs
+  unfolding count
+  count-no p x xs h = rw (h, count)
+
   -- ── membership ──
   pub getD-mem : (l : List A) (j : ℕ) (d : A) → j < length l → List·Memᴰ (getD l j d) l
   getD-mem [] j d h = absurd (not-suc-le-zero h)
@@ -220,47 +229,59 @@ member-at l i h = any-at (eqb (getD l i 0)) l 0 i h (eq-eqb (getD l i 0) (getD l
 pub member-none : (t : ℕ) (l : List ℕ) → member t l ≡ false → (i : ℕ) → i < length l → getD l i 0 ≢ t
 member-none t l h i o e = true≢false (sym (subst (λ (x : ℕ). member x l ≡ true) e (member-at l i o)) ∙ h)
 
--- ── distinct ──
-distinct-head : (x : ℕ) (xs : List ℕ) → distinct (x ∷ xs) ≡ true → (eqb x 0 or not (member x xs)) ≡ true
-unfolding distinct
-distinct-head x xs h = go (eqb x 0 or not (member x xs)) refl
+-- ── the greatest below a number ──
+pub greatest-below : (p : ℕ → Bool) (n : ℕ) → anyBelow p n ≡ true
+    → (greatestBelow p n < n) × (p (greatestBelow p n) ≡ true) × ((m : ℕ) → m < n → greatestBelow p n < m → p m ≡ false)
+unfolding anyBelow greatestBelow
+greatest-below p zero h = absurd (false≢true h)
+greatest-below p (suc n) h = go (p n) refl (greatest-below p n)
   where
-    go : (b : Bool) → (eqb x 0 or not (member x xs)) ≡ b → (eqb x 0 or not (member x xs)) ≡ true
-    go true e = e
-    go false e = absurd (false≢true (rw (e, distinct) at h))
+    go : (b : Bool) → p n ≡ b → (anyBelow p n ≡ true → (greatestBelow p n < n) × (p (greatestBelow p n) ≡ true) × ((m : ℕ) → m < n → greatestBelow p n < m → p m ≡ false))
+        → (greatestBelow p (suc n) < suc n) × (p (greatestBelow p (suc n)) ≡ true) × ((m : ℕ) → m < suc n → greatestBelow p (suc n) < m → p m ≡ false)
+    go true e ih = rw (e, greatestBelow) (omega arith, e, λ m o x. absurd (lt-irrefl n (omega arith)))
+    go false e ih = rw (e, greatestBelow) (below (ih (rest (or-cases _ _ h))))
+      where
+        rest : (p n ≡ true) ⊎ (anyBelow p n ≡ true) → anyBelow p n ≡ true
+        rest (inl x) = absurd (true≢false (sym x ∙ e))
+        rest (inr x) = x
 
-distinct-tail : (x : ℕ) (xs : List ℕ) → distinct (x ∷ xs) ≡ true → distinct xs ≡ true
-unfolding distinct
-distinct-tail x xs h = rw (distinct-head x xs h, distinct) at h
+        above : ((m : ℕ) → m < n → greatestBelow p n < m → p m ≡ false) → (m : ℕ) → m < suc n → greatestBelow p n < m → Dec (m ≡ n) → p m ≡ false
+        above f m o x (yes q) = ap p q ∙ e
+        above f m o x (no q) = f m (omega arith) x
 
-distinct-out : (x : ℕ) (xs : List ℕ) (j : ℕ) → distinct (x ∷ xs) ≡ true → j < length xs → x ≡ getD xs j 0 → x ≢ 0 → ⊥
-unfolding _or_
-distinct-out x xs j h o e n = true≢false (sym (rw (ne-eqb x 0 n, rw (← e) at (member-at xs j o)) at (distinct-head x xs h)))
+        below : (greatestBelow p n < n) × (p (greatestBelow p n) ≡ true) × ((m : ℕ) → m < n → greatestBelow p n < m → p m ≡ false)
+            → (greatestBelow p n < suc n) × (p (greatestBelow p n) ≡ true) × ((m : ℕ) → m < suc n → greatestBelow p n < m → p m ≡ false)
+        below r = (omega (arith, r .0), r .1, λ m o x. above (r .2) m o x (ℕ-discrete m n))
 
--- equal numbers other than 0 stand at one place
-pub distinct-at : (l : List ℕ) → distinct l ≡ true → (i j : ℕ) → i < length l → j < length l → getD l i 0 ≡ getD l j 0 → getD l i 0 ≢ 0 → i ≡ j
-distinct-at [] h i j oi oj e n = absurd (not-suc-le-zero oi)
-distinct-at (x ∷ xs) h zero zero oi oj e n = refl
-distinct-at (x ∷ xs) h zero (suc j) oi oj e n = absurd (distinct-out x xs j h (le-of-suc-le-suc oj) e n)
-distinct-at (x ∷ xs) h (suc i) zero oi oj e n = absurd (distinct-out x xs i h (le-of-suc-le-suc oi) (sym e) (λ z. n (e ∙ z)))
-distinct-at (x ∷ xs) h (suc i) (suc j) oi oj e n = ap suc (distinct-at xs (distinct-tail x xs h) i j (le-of-suc-le-suc oi) (le-of-suc-le-suc oj) e n)
+-- ── lists mapped, and tests of elements ──
+module _ {A : Type 0} where
+  -- all pass, and so does the default: every place passes
+  pub all-everywhere : (p : A → Bool) (l : List A) (d : A) → all p l ≡ true → p d ≡ true → (i : ℕ) → p (getD l i d) ≡ true
+  all-everywhere p l d h q i = go (decLt i (length l))
+    where
+      go : Dec (i < length l) → p (getD l i d) ≡ true
+      go (yes o) = all-at p l d h i o
+      go (no o) = rw (List·getD-eq-default l d {n = i} (omega arith)) q
 
--- and a list in which they do is distinct
-pub distinct-of : (l : List ℕ) → ((i j : ℕ) → i < length l → j < length l → getD l i 0 ≡ getD l j 0 → getD l i 0 ≢ 0 → i ≡ j) → distinct l ≡ true
-unfolding distinct
-distinct-of [] f = refl
-distinct-of (x ∷ xs) f = go (eqb x 0 or not (member x xs)) refl (distinct-of xs (λ i j oi oj e n. inj (f (suc i) (suc j) (suc-le-suc oi) (suc-le-suc oj) e n)))
-  where
-    inj : {i j : ℕ} → suc i ≡ suc j → i ≡ j
-    inj e = omega arith
+  -- some passes still, where one that does not pass is replaced
+  pub any-set : (p : A → Bool) (l : List A) (i : ℕ) (a d : A) → any p l ≡ true → p (getD l i d) ≡ false → any p (set l i a) ≡ true
+  any-set p l i a d h q =
+      let r = any-finds p l d h in
+      let n : r .0 ≢ i = λ e. true≢false (sym (r .2) ∙ (ap (λ (k : ℕ). p (getD l k d)) e ∙ q)) in
+      any-at p (set l i a) d (r .0) (rw (length-set l i a) (r .1)) (rw (getD-set-other l i (r .0) a d n) (r .2))
 
-    clash : (eqb x 0 or not (member x xs)) ≡ false → ⊥
-    clash e =
-        let m : member x xs ≡ true = not-false _ (or-right _ _ e) in
-        let r = member-finds x xs m in
-        let z : 0 ≡ suc (first (eqb x) xs) = f 0 (suc (first (eqb x) xs)) (zero-lt-suc _) (suc-le-suc (r .0)) (sym (r .1)) (eqb-false x 0 (or-left _ _ e)) in
-        omega arith
+  module _ {B : Type 0} (f : A → B) where
+    pub take-map : (n : ℕ) (l : List A) → take n (map f l) ≡ map f (take n l)
+    take-map zero l = refl
+    take-map (suc n) [] = refl
+    take-map (suc n) (x ∷ xs) = ap (λ (l : List B). f x ∷ l) (take-map n xs)
 
-    go : (b : Bool) → (eqb x 0 or not (member x xs)) ≡ b → distinct xs ≡ true → distinct (x ∷ xs) ≡ true
-    go true e ih = rw (e, distinct) ih
-    go false e ih = absurd (clash e)
+    pub drop-map : (n : ℕ) (l : List A) → drop n (map f l) ≡ map f (drop n l)
+    drop-map zero l = refl
+    drop-map (suc n) [] = refl
+    drop-map (suc n) (x ∷ xs) = drop-map n xs
+
+    pub all-map : (p : A → Bool) (q : B → Bool) → ((x : A) → p x ≡ true → q (f x) ≡ true) → (l : List A) → all p l ≡ true → all q (map f l) ≡ true
+    unfolding all
+    all-map p q g [] h = refl
+    all-map p q g (x ∷ xs) h = all-cons q (f x) (map f xs) (g x (all-head p x xs h)) (all-map p q g xs (all-tail p x xs h))

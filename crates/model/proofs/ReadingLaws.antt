@@ -12,14 +12,14 @@ use borrow.Author.Tests.{not-true}
 use Rattle.model.specs.declared.Id.{Id}
 use Rattle.model.specs.declared.Read.{Read}
 use Rattle.model.specs.declared.Entry.{Entry}
-use Rattle.model.specs.Ids.{older, sameId}
 use Rattle.model.specs.Lists.{_and_, any, filter}
-use Rattle.model.specs.Reading.{lowerBound, conflictsWith, conflicts, passes, keepNewer, newest, absent, nofit, version, chosen, choose, Atomic}
+use Rattle.model.specs.Ids.{older, sameId}
 use Rattle.model.specs.Stations.{noEntry, wrote, wroteAs}
+use Rattle.model.specs.Reading.{lowerBound, conflictsWith, conflicts, passes, keepNewer, newest, absent, nofit, version, chosen, choose, Atomic}
 use Rattle.model.specs.Step.{step}
-use Rattle.model.proofs.IdLaws.{older-irrefl, older-asym, not-older-trans, older-total, same-id, id-same, greatest-above}
-use Rattle.model.proofs.ListLaws.{any-finds, any-at, any-none}
 use Rattle.model.proofs.Tests.{and-left, and-right, and-intro, and-second}
+use Rattle.model.proofs.ListLaws.{any-finds, any-at, any-none}
+use Rattle.model.proofs.IdLaws.{older-irrefl, older-asym, not-older-trans, older-total, same-id, id-same, greatest-above}
 
 -- ── lists with those that pass ──
 filter-mem : {A : Type 0} (p : A → Bool) (l : List A) (x : A) → List·Memᴰ x l → p x ≡ true → List·Memᴰ x (filter p l)

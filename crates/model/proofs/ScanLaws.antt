@@ -13,13 +13,13 @@ use borrow.Author.Tests.{lt-ltb, le-ltb, eq-eqb, ne-eqb}
 use Rattle.model.specs.declared.Live.{Live}
 use Rattle.model.specs.declared.Entry.{Entry}
 use Rattle.model.specs.declared.Answer.the-variants as A
-use Rattle.model.specs.Effects.{says, refusals, wrongLength}
-use Rattle.model.specs.Limits.{livePlaces, slots, recordSize, storeSize}
 use Rattle.model.specs.Lists.{first, count, from, member}
-use Rattle.model.specs.Records.{markIn, freeMark, recordPlace, recordAt}
-use Rattle.model.specs.Scan.{slotsSeen, entrySeen, isCommitted, breaks, lowestBroken, scanned, scan}
-use Rattle.model.specs.Slots.{Seen, free, committed, damaged, seen}
+use Rattle.model.specs.Limits.{livePlaces, slots, recordSize, storeSize}
 use Rattle.model.specs.Stations.{noLive, emptyStation, entryAt}
+use Rattle.model.specs.Records.{markIn, freeMark, recordPlace, recordAt}
+use Rattle.model.specs.Slots.{Seen, free, committed, damaged, seen}
+use Rattle.model.specs.Effects.{says, refusals, wrongLength}
+use Rattle.model.specs.Scan.{slotsSeen, entrySeen, isCommitted, breaks, lowestBroken, scanned, scan}
 use Rattle.model.proofs.ListLaws.{first-finds, first-none, first-before, first-passes, getD-inside, getD-all, from-length, from-at, member-finds, member-none}
 use Rattle.model.proofs.SlotLaws.{rules-txn, committed≢free, free≢damaged, seen-free, committed-rules}
 

@@ -12,15 +12,14 @@ use native.Mathlib.Omega.{arith}
 use borrow.Author.Tests.{leb-true, eqb-true, eq-eqb, ne-eqb}
 use Rattle.model.specs.declared.Id.{Id}
 use Rattle.model.specs.declared.Entry.{Entry}
-use Rattle.model.specs.Limits.{keys, slots, writeLimit, recordSize, width, slotSize, storeSize}
 use Rattle.model.specs.Lists.{_and_, first, count, ascending}
+use Rattle.model.specs.Limits.{keys, slots, writeLimit, recordSize, width, slotSize, storeSize}
+use Rattle.model.specs.Stations.{keysOf, wrote}
 use Rattle.model.specs.Records.{markIn, entryIn, freeMark, zeroRecord, entryRules, commitRules, carriesEntry, carriesVersion, recordPlace, recordAt, withRecord, recordOf}
 use Rattle.model.specs.Slots.{free, committed, damaged, versionsCarry, judged, seen, slotBytes}
-use Rattle.model.specs.Stations.{keysOf, wrote}
-use Rattle.model.proofs.BenchTable.{versions}
+use Rattle.model.proofs.Tests.{and-left, and-right, and-intro}
 use Rattle.model.proofs.ListLaws.{member-finds}
 use Rattle.model.proofs.RecordLaws.{length-zero, zero-mark, rules-mark, rules-entry, rules-carries, record-same, record-other, record-elsewhere}
-use Rattle.model.proofs.Tests.{and-left, and-right, and-intro}
 
 -- ── the rules of an entry ──
 pub rules-some : (e : Entry) → entryRules e ≡ true → 1 ≤ e .count

@@ -1,5 +1,5 @@
 -- Laws of the tests `and`, `or`, `not`.
-use mathlib.Core.Path.{_≡_, refl}
+use mathlib.Core.Path.{_≡_, refl, sym, _∙_}
 use mathlib.Core.Logic.{_⊎_, inl, inr}
 use mathlib.Core.Bool.{Bool, true, false, not, true≢false, false≢true}
 use borrow.Author.Tests.{not-true}
@@ -70,3 +70,20 @@ not-of-true a e = rw e
 pub bool-cases : (a : Bool) → (a ≡ true) ⊎ (a ≡ false)
 bool-cases true = inl refl
 bool-cases false = inr refl
+
+-- a conjunction with a part that fails
+pub and-none-left : (x y : Bool) → x ≡ false → (x and y) ≡ false
+unfolding _and_
+and-none-left true y e = absurd (true≢false e)
+and-none-left false y e = refl
+
+pub and-none-right : (x y : Bool) → y ≡ false → (x and y) ≡ false
+unfolding _and_
+and-none-right true y e = e
+and-none-right false y e = refl
+
+-- a conjunction fails, and its second part holds
+pub and-first : (x y : Bool) → (x and y) ≡ false → y ≡ true → x ≡ false
+unfolding _and_
+and-first true y e q = absurd (true≢false (sym q ∙ e))
+and-first false y e q = refl

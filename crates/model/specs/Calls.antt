@@ -3,16 +3,16 @@ use Prim.Native.Nat.{ℕ, _<_}
 use mathlib.Core.List.{List, [], _∷_}
 use Rattle.model.specs.declared.Station.{Station}
 use Rattle.model.specs.declared.Answer.{Answer}
+use Rattle.model.specs.Limits.{txnRange, numberRange, byteRange}
+use Rattle.model.specs.Effects.{Effect, stored}
+use Rattle.model.specs.Start.{start}
+use Rattle.model.specs.Put.{put}
+use Rattle.model.specs.Get.{get}
+use Rattle.model.specs.Commit.{commit}
+use Rattle.model.specs.Step.{step}
 use Rattle.model.specs.Abort.{abort}
 use Rattle.model.specs.Collect.{collect}
-use Rattle.model.specs.Commit.{commit}
-use Rattle.model.specs.Effects.{Effect, stored}
-use Rattle.model.specs.Get.{get}
-use Rattle.model.specs.Limits.{txnRange, numberRange, byteRange}
-use Rattle.model.specs.Put.{put}
 use Rattle.model.specs.Scan.{scan}
-use Rattle.model.specs.Start.{start}
-use Rattle.model.specs.Step.{step}
 
 pub data Call : Type 0 where
   Start : ℕ → Call

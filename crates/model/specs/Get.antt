@@ -9,12 +9,12 @@ use Rattle.model.specs.declared.Read.{Read}
 use Rattle.model.specs.declared.Live.{Live}
 use Rattle.model.specs.declared.Station.{Station}
 use Rattle.model.specs.declared.Answer.the-variants as A
-use Rattle.model.specs.Effects.{Effect, says, _when_, refusals, wrongLength, unsound}
-use Rattle.model.specs.Limits.{keys, readLimit}
 use Rattle.model.specs.Lists.{_and_, insert, padded}
-use Rattle.model.specs.Reading.{Choice, own, absent, nofit, version, choose}
-use Rattle.model.specs.Records.{valueIn, carriesVersion, recordAt, recordOf}
+use Rattle.model.specs.Limits.{keys, readLimit}
 use Rattle.model.specs.Stations.{noRead, writesOf, readsOf, readKey, hasWritten, hasRead, valueUnder, isClosing, liveAt, entryAt, setLive, isLive, placeOf}
+use Rattle.model.specs.Records.{valueIn, carriesVersion, recordAt, recordOf}
+use Rattle.model.specs.Reading.{Choice, own, absent, nofit, version, choose}
+use Rattle.model.specs.Effects.{Effect, says, _when_, refusals, wrongLength, unsound}
 
 unfoldable pub choiceOf : Station → Live → ℕ → Choice
 choiceOf st l k = cond (hasWritten k l) (own (valueUnder k (writesOf l))) (choose (st .entries) (readsOf l) k)

@@ -8,10 +8,10 @@ use Rattle.model.specs.declared.Write.{Write}
 use Rattle.model.specs.declared.Live.{Live}
 use Rattle.model.specs.declared.Station.{Station}
 use Rattle.model.specs.declared.Answer.the-variants as A
-use Rattle.model.specs.Effects.{Effect, says, _when_, refusals, unsound}
-use Rattle.model.specs.Limits.{keys, writeLimit}
 use Rattle.model.specs.Lists.{_and_, insert, padded}
+use Rattle.model.specs.Limits.{keys, writeLimit}
 use Rattle.model.specs.Stations.{noWrite, writesOf, writeKey, hasWritten, isClosing, liveAt, setLive, isLive, placeOf}
+use Rattle.model.specs.Effects.{Effect, says, _when_, refusals, unsound}
 
 unfoldable pub withWrites : List Write → Live → Live
 withWrites ws l = record { txn = l .txn; phase = l .phase; «write_count» = length ws; writes = padded noWrite writeLimit ws; «read_count» = l .«read_count»; reads = l .reads }

@@ -6,11 +6,11 @@ use lib.Dec.{ltb}
 use lib.ListN.{length, take, getD, replicate}
 use Rattle.model.specs.declared.Entry.{Entry}
 use Rattle.model.specs.declared.Answer.the-variants as A
-use Rattle.model.specs.Effects.{Effect, says, _when_, refusals, wrongLength}
-use Rattle.model.specs.Limits.{livePlaces, slots}
 use Rattle.model.specs.Lists.{first, count, from, member}
-use Rattle.model.specs.Slots.{Seen, free, committed, damaged, seen}
+use Rattle.model.specs.Limits.{livePlaces, slots}
 use Rattle.model.specs.Stations.{noLive, noEntry, emptyStation}
+use Rattle.model.specs.Slots.{Seen, free, committed, damaged, seen}
+use Rattle.model.specs.Effects.{Effect, says, _when_, refusals, wrongLength}
 
 -- what is read of each slot
 unfoldable pub slotsSeen : List ℕ → List Seen

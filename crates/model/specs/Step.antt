@@ -11,12 +11,12 @@ use Rattle.model.specs.declared.Station.{Station}
 use Rattle.model.specs.declared.Phase.{Phase}
 use Rattle.model.specs.declared.Phase.the-variants.{Unused, Open, Closing}
 use Rattle.model.specs.declared.Answer.the-variants as A
-use Rattle.model.specs.Commit.{withPhase}
-use Rattle.model.specs.Effects.{Effect, says, saysStoring, _when_, refusals, wrongLength, unsound}
-use Rattle.model.specs.Limits.{keys}
 use Rattle.model.specs.Lists.{count}
-use Rattle.model.specs.Records.{commitRecord, versionRecord}
+use Rattle.model.specs.Limits.{keys}
 use Rattle.model.specs.Stations.{noWrite, noLive, writeKey, isClosing, closingSlot, closingClock, recordsStored, liveAt, setLive, setEntry, isLive, placeOf}
+use Rattle.model.specs.Records.{commitRecord, versionRecord}
+use Rattle.model.specs.Effects.{Effect, says, saysStoring, _when_, refusals, wrongLength, unsound}
+use Rattle.model.specs.Commit.{withPhase}
 
 -- the entry that a closing transaction becomes
 unfoldable pub entryFor : Live → Entry
@@ -28,12 +28,22 @@ oneMore Unused = Unused
 oneMore Open = Open
 oneMore (Closing d c n) = Closing d c (n + 1)
 
+-- what a step of the transaction l at place i does, its phase being p
+unfoldable pub stepped : Station → ℕ → Live → Phase → Effect
+stepped st i l p =
+    let d : ℕ = closingSlot p in let j : ℕ = recordsStored p in
+    let w : Write = getD (l .writes) j noWrite in
+    let on : Station = setLive st i (withPhase (oneMore p) l) in
+    -- "The first n steps store version slips 1 to n."
+    cond (ltb j (l .«write_count»)) (saysStoring (A.Stored (w .key)) on d (j + 1) (versionRecord (w .key) (entryFor l .id) (w .value)))
+    -- "Step n + 1 stores the commit slip."
+    (cond (eqb j (l .«write_count»)) (saysStoring (A.Slipped d) on d 0 (commitRecord (entryFor l)))
+    -- "Step n + 2 stores nothing: it makes the entry, ends the ticket and acknowledges (§3.3)."
+    (says (A.Done (entryFor l .id)) (setEntry (setLive st i noLive) d (entryFor l))))
+
 unfoldable pub step : Station → List ℕ → ℕ → Effect
 step st s t =
     let i : ℕ = placeOf t st in let l : Live = liveAt st i in
-    let d : ℕ = closingSlot (l .phase) in let j : ℕ = recordsStored (l .phase) in
-    let w : Write = getD (l .writes) j noWrite in
-    let on : Station = setLive st i (withPhase (oneMore (l .phase)) l) in
     refusals (
       1 when wrongLength s
       ∷ 2 when unsound st
@@ -42,9 +52,4 @@ step st s t =
       ∷ 10 when not (isClosing (l .phase))
       ∷ []
     ) st
-    -- "The first n steps store version slips 1 to n."
-    (cond (ltb j (l .«write_count»)) (saysStoring (A.Stored (w .key)) on d (j + 1) (versionRecord (w .key) (entryFor l .id) (w .value)))
-    -- "Step n + 1 stores the commit slip."
-    (cond (eqb j (l .«write_count»)) (saysStoring (A.Slipped d) on d 0 (commitRecord (entryFor l)))
-    -- "Step n + 2 stores nothing: it makes the entry, ends the ticket and acknowledges (§3.3)."
-    (says (A.Done (entryFor l .id)) (setEntry (setLive st i noLive) d (entryFor l)))))
+    (stepped st i l (l .phase))

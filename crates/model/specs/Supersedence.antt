@@ -5,8 +5,8 @@ use mathlib.Core.List.{List}
 use Rattle.model.specs.declared.Live.{Live}
 use Rattle.model.specs.declared.Entry.{Entry}
 use Rattle.model.specs.declared.Station.{Station}
-use Rattle.model.specs.Ids.{older, sameId}
 use Rattle.model.specs.Lists.{_and_, all, any}
+use Rattle.model.specs.Ids.{older, sameId}
 use Rattle.model.specs.Stations.{readsOf, keysOf, wrote}
 
 -- some entry that wrote the key is newer than e

@@ -1,0 +1,212 @@
+-- The transactions that stand in a store, slot by slot; and the list of standing ones.
+use Prim.Native.Nat.{ℕ, zero, suc, _+_, _<_, _≤_}
+use mathlib.Core.Path.{_≡_, refl, sym, ap, subst, _∙_, fun-ext}
+use mathlib.Core.Logic.{_≢_, ⊎-elim}
+use mathlib.Core.Bool.{Bool, true, false, cond}
+use mathlib.Core.List.{List, [], _∷_, _++_, map, List·Permᴰ, List·Permᴰ·nil, List·Permᴰ·cons, List·Permᴰ·swap, List·Permᴰ·trans, Permᴰ·refl, Permᴰ·symm, Permᴰ·middle, Permᴰ·append-left, List·Memᴰ, List·Memᴰ·head, List·Memᴰ·tail, List·Memᴰ·not-nil, List·Memᴰ·cases-cons, Memᴰ·append-left, Memᴰ·append-right, List·Memᴰ·append-cases, List·Memᴰ·eq-of-singleton}
+use mathlib.Core.Option.{Option, some, none, Option·none-ne-some}
+use lib.Dec.{eqb}
+use lib.ListN.{length}
+use native.Mathlib.Nat.{lt-irrefl}
+use native.Mathlib.Decide.{ℕ-discrete}
+use native.Mathlib.Omega.{arith}
+use borrow.Author.Tests.{eqb-true, eq-eqb, ne-eqb}
+use Rattle.model.specs.declared.Entry.{Entry}
+use Rattle.model.specs.Lists.{count, from, same}
+use Rattle.model.specs.Limits.{slots, writeLimit, width}
+use Rattle.model.specs.Stations.{wrote}
+use Rattle.model.specs.Records.{valueIn, recordAt, recordOf}
+use Rattle.model.specs.Slots.{Seen, free, committed, damaged, seen}
+use Rattle.model.specs.Scan.{slotsSeen, entrySeen}
+use Rattle.model.specs.Answers.{values}
+use Rattle.model.proofs.SlotLaws.{rules-count, rules-txn, record-of-low, seen-frame, committed-rules}
+use Rattle.history.specs.Ledger.{Committed, at, strike}
+use Rattle.history.specs.CutRule.{committedIn, committedHere, committedFound, Wrote}
+use Rattle.history.proofs.Invariant.{inStore}
+
+-- ── permutations ──
+pub perm-mem : {A : Type 0} {l m : List A} {x : A} → List·Permᴰ l m → List·Memᴰ x l → List·Memᴰ x m
+perm-mem List·Permᴰ·nil h = h
+perm-mem (List·Permᴰ·cons e p) h = ⊎-elim (λ q. List·Memᴰ·head (q ∙ e)) (λ m′. List·Memᴰ·tail (perm-mem p m′)) (List·Memᴰ·cases-cons h)
+perm-mem (List·Permᴰ·swap e f) h =
+    ⊎-elim (λ q. List·Memᴰ·tail (List·Memᴰ·head (q ∙ e))) (λ m′. ⊎-elim (λ q. List·Memᴰ·head (q ∙ f)) (λ m″. List·Memᴰ·tail (List·Memᴰ·tail m″)) (List·Memᴰ·cases-cons m′)) (List·Memᴰ·cases-cons h)
+perm-mem (List·Permᴰ·trans p q) h = perm-mem q (perm-mem p h)
+
+pub perm-length : {A : Type 0} {l m : List A} → List·Permᴰ l m → length l ≡ length m
+perm-length List·Permᴰ·nil = refl
+perm-length (List·Permᴰ·cons e p) = ap suc (perm-length p)
+perm-length (List·Permᴰ·swap e f) = refl
+perm-length (List·Permᴰ·trans p q) = perm-length p ∙ perm-length q
+
+-- ── strike ──
+strike-cons : (t : ℕ) (a b : Committed) (l m : List Committed) → a ≡ b → List·Permᴰ (strike t l) (strike t m) → List·Permᴰ (strike t (a ∷ l)) (strike t (b ∷ m))
+unfolding strike
+strike-cons t a b l m e p = subst (λ (x : Committed). List·Permᴰ (strike t (a ∷ l)) (strike t (x ∷ m))) e (go (eqb (a .id .txn) t))
+  where
+    go : (c : Bool) → List·Permᴰ (cond c (strike t l) (a ∷ strike t l)) (cond c (strike t m) (a ∷ strike t m))
+    go true = p
+    go false = List·Permᴰ·cons refl p
+
+strike-swap : (t : ℕ) (a b : Committed) (l : List Committed) → List·Permᴰ (strike t (a ∷ b ∷ l)) (strike t (b ∷ a ∷ l))
+unfolding strike
+strike-swap t a b l = go (eqb (a .id .txn) t) (eqb (b .id .txn) t)
+  where
+    go : (c d : Bool) → List·Permᴰ (cond c (cond d (strike t l) (b ∷ strike t l)) (a ∷ cond d (strike t l) (b ∷ strike t l))) (cond d (cond c (strike t l) (a ∷ strike t l)) (b ∷ cond c (strike t l) (a ∷ strike t l)))
+    go true true = Permᴰ·refl _
+    go true false = Permᴰ·refl _
+    go false true = Permᴰ·refl _
+    go false false = List·Permᴰ·swap refl refl
+
+pub strike-perm : (t : ℕ) {l m : List Committed} → List·Permᴰ l m → List·Permᴰ (strike t l) (strike t m)
+unfolding strike
+strike-perm t List·Permᴰ·nil = List·Permᴰ·nil
+strike-perm t (List·Permᴰ·cons {a = a} {b = b} {l₁ = l} {l₂ = m} e p) = strike-cons t a b l m e (strike-perm t p)
+strike-perm t (List·Permᴰ·swap {a = a} {b = b} {a′ = c} {b′ = d} {l = l} e f) =
+    subst (λ (x : Committed). List·Permᴰ (strike t (a ∷ b ∷ l)) (strike t (x ∷ d ∷ l))) f (subst (λ (x : Committed). List·Permᴰ (strike t (a ∷ b ∷ l)) (strike t (b ∷ x ∷ l))) e (strike-swap t a b l))
+strike-perm t (List·Permᴰ·trans p q) = List·Permᴰ·trans (strike-perm t p) (strike-perm t q)
+
+pub strike-none : (t : ℕ) (l : List Committed) → ((j : Committed) → List·Memᴰ j l → j .id .txn ≢ t) → strike t l ≡ l
+unfolding strike
+strike-none t [] f = refl
+strike-none t (j ∷ js) f = rw (ne-eqb (j .id .txn) t (f j (List·Memᴰ·head refl))) (ap (λ (x : List Committed). j ∷ x) (strike-none t js (λ i m. f i (List·Memᴰ·tail m))))
+
+pub strike-head : (t : ℕ) (j : Committed) (l : List Committed) → j .id .txn ≡ t → strike t (j ∷ l) ≡ strike t l
+unfolding strike
+strike-head t j l e = rw (eq-eqb (j .id .txn) t e)
+
+pub strike-keeps : (t : ℕ) (l : List Committed) (j : Committed) → List·Memᴰ j l → j .id .txn ≢ t → List·Memᴰ j (strike t l)
+unfolding strike
+strike-keeps t [] j m n = m
+strike-keeps t (i ∷ is) j m n = go (eqb (i .id .txn) t) refl (strike-keeps t is j)
+  where
+    go : (c : Bool) → eqb (i .id .txn) t ≡ c → (List·Memᴰ j is → j .id .txn ≢ t → List·Memᴰ j (strike t is)) → List·Memᴰ j (strike t (i ∷ is))
+    go true e ih = rw e (⊎-elim (λ q. absurd (n (ap (λ (x : Committed). x .id .txn) q ∙ eqb-true _ t e))) (λ m′. ih m′ n) (List·Memᴰ·cases-cons m))
+    go false e ih = rw e (⊎-elim (λ q. List·Memᴰ·head q) (λ m′. List·Memᴰ·tail (ih m′ n)) (List·Memᴰ·cases-cons m))
+
+pub strike-sub : (t : ℕ) (l : List Committed) (j : Committed) → List·Memᴰ j (strike t l) → List·Memᴰ j l
+unfolding strike
+strike-sub t [] j m = m
+strike-sub t (i ∷ is) j m = go (eqb (i .id .txn) t) refl (strike-sub t is j)
+  where
+    go : (c : Bool) → eqb (i .id .txn) t ≡ c → (List·Memᴰ j (strike t is) → List·Memᴰ j is) → List·Memᴰ j (i ∷ is)
+    go true e ih = List·Memᴰ·tail (ih (rw e at m))
+    go false e ih = ⊎-elim (λ q. List·Memᴰ·head q) (λ m′. List·Memᴰ·tail (ih m′)) (List·Memᴰ·cases-cons (rw e at m))
+
+-- ── the transaction of a slot ──
+unfoldable pub slotHolds : List ℕ → ℕ → List Committed
+slotHolds s d = committedHere s d (entrySeen (seen s d))
+
+pub holds-free : (s : List ℕ) (d : ℕ) → seen s d ≡ free → slotHolds s d ≡ []
+unfolding slotHolds committedHere entrySeen
+holds-free s d h = rw h
+
+pub holds-damaged : (s : List ℕ) (d : ℕ) → seen s d ≡ damaged → slotHolds s d ≡ []
+unfolding slotHolds committedHere entrySeen
+holds-damaged s d h = rw h
+
+pub holds-committed : (s : List ℕ) (d : ℕ) (e : Entry) → seen s d ≡ committed e → slotHolds s d ≡ committedIn s d e ∷ []
+unfolding slotHolds committedHere entrySeen
+holds-committed s d e h = rw (h, ne-eqb (e .id .txn) 0 (rules-txn e (committed-rules s d e h)))
+
+pub cond-frame : {A : Type 0} (b : Bool) (x y z : A) → (b ≡ true → x ≡ y) → cond b x z ≡ cond b y z
+cond-frame true x y z f = f refl
+cond-frame false x y z f = refl
+
+committed-frame : (s s′ : List ℕ) (d : ℕ) (e : Entry) → e .count ≤ writeLimit → ((n : ℕ) → n < width → recordAt s′ d n ≡ recordAt s d n) → committedIn s′ d e ≡ committedIn s d e
+unfolding committedIn
+committed-frame s s′ d e o f = λ z. record { id = e .id; values = fun-ext values z }
+  where
+    values : (k : ℕ) → _≡_ {A = Option ℕ} (cond (wrote e k) (some (valueIn (recordAt s′ d (recordOf e k)))) none) (cond (wrote e k) (some (valueIn (recordAt s d (recordOf e k)))) none)
+    values k = cond-frame (wrote e k) _ _ none (λ h. ap (λ (x : List ℕ). some (valueIn x)) (f (recordOf e k) (omega (arith, record-of-low e k h))))
+
+pub holds-frame : (s s′ : List ℕ) (d : ℕ) → ((n : ℕ) → n < width → recordAt s′ d n ≡ recordAt s d n) → slotHolds s′ d ≡ slotHolds s d
+holds-frame s s′ d f = go (seen s d) refl
+  where
+    same : seen s′ d ≡ seen s d
+    same = seen-frame s′ s d d f
+
+    go : (x : Seen) → seen s d ≡ x → slotHolds s′ d ≡ slotHolds s d
+    go free h = holds-free s′ d (same ∙ h) ∙ sym (holds-free s d h)
+    go damaged h = holds-damaged s′ d (same ∙ h) ∙ sym (holds-damaged s d h)
+    go (committed e) h = holds-committed s′ d e (same ∙ h) ∙ (ap (λ (j : Committed). j ∷ []) (committed-frame s s′ d e (rules-count e (committed-rules s d e h)) f) ∙ sym (holds-committed s d e h))
+
+-- ── n slots from i on ──
+unfoldable pub slotsHold : List ℕ → ℕ → ℕ → List Committed
+slotsHold s n i = committedFound s i (map entrySeen (from n i (seen s)))
+
+pub hold-none : (s : List ℕ) (i : ℕ) → slotsHold s 0 i ≡ []
+unfolding slotsHold from committedFound
+hold-none s i = refl
+
+pub hold-more : (s : List ℕ) (n i : ℕ) → slotsHold s (suc n) i ≡ slotHolds s i ++ slotsHold s n (suc i)
+unfolding slotsHold from committedFound slotHolds
+hold-more s n i = refl
+
+pub in-store : (s : List ℕ) → inStore s ≡ slotsHold s slots 0
+unfolding inStore slotsHold slotsSeen
+in-store s = refl
+
+pub hold-same : (s s′ : List ℕ) (n i : ℕ) → ((d : ℕ) → i ≤ d → slotHolds s′ d ≡ slotHolds s d) → slotsHold s′ n i ≡ slotsHold s n i
+hold-same s s′ zero i f = hold-none s′ i ∙ sym (hold-none s i)
+hold-same s s′ (suc n) i f = rw (hold-more s′ n i, hold-more s n i, f i (omega arith)) (ap (λ (x : List Committed). slotHolds s i ++ x) (hold-same s s′ n (suc i) (λ d o. f d (omega arith))))
+
+-- one more in slot d
+pub hold-one-more : (s s′ : List ℕ) (x : Committed) (d : ℕ) → slotHolds s d ≡ [] → slotHolds s′ d ≡ x ∷ [] → ((c : ℕ) → c ≢ d → slotHolds s′ c ≡ slotHolds s c)
+    → (n i : ℕ) → i ≤ d → d < i + n → List·Permᴰ (slotsHold s′ n i) (x ∷ slotsHold s n i)
+hold-one-more s s′ x d h h′ f zero i a b = absurd (lt-irrefl i (omega arith))
+hold-one-more s s′ x d h h′ f (suc n) i a b = rw (hold-more s′ n i, hold-more s n i) (go (ℕ-discrete i d) (hold-one-more s s′ x d h h′ f n (suc i)))
+  where
+    go : Dec (i ≡ d) → (suc i ≤ d → d < suc i + n → List·Permᴰ (slotsHold s′ n (suc i)) (x ∷ slotsHold s n (suc i)))
+        → List·Permᴰ (slotHolds s′ i ++ slotsHold s′ n (suc i)) (x ∷ (slotHolds s i ++ slotsHold s n (suc i)))
+    go (yes e) ih = rw (e, h, h′, hold-same s s′ n (suc d) (λ c o. f c (λ q. lt-irrefl d (omega (arith, q))))) (Permᴰ·refl _)
+    go (no e) ih = rw (f i e) (List·Permᴰ·trans (Permᴰ·append-left (slotHolds s i) (ih (omega arith) (omega arith))) (Permᴰ·middle x (slotHolds s i) (slotsHold s n (suc i))))
+
+pub hold-mem : (s : List ℕ) (x : Committed) (d : ℕ) → List·Memᴰ x (slotHolds s d) → (n i : ℕ) → i ≤ d → d < i + n → List·Memᴰ x (slotsHold s n i)
+hold-mem s x d h zero i a b = absurd (lt-irrefl i (omega arith))
+hold-mem s x d h (suc n) i a b = rw (hold-more s n i) (go (ℕ-discrete i d) (hold-mem s x d h n (suc i)))
+  where
+    go : Dec (i ≡ d) → (suc i ≤ d → d < suc i + n → List·Memᴰ x (slotsHold s n (suc i))) → List·Memᴰ x (slotHolds s i ++ slotsHold s n (suc i))
+    go (yes e) ih = Memᴰ·append-left {s = slotHolds s i} (slotsHold s n (suc i)) (rw e h)
+    go (no e) ih = Memᴰ·append-right (slotHolds s i) (ih (omega arith) (omega arith))
+
+pub hold-from : (s : List ℕ) (x : Committed) (n i : ℕ) → List·Memᴰ x (slotsHold s n i) → (d : ℕ) × (d < i + n) × List·Memᴰ x (slotHolds s d)
+hold-from s x zero i m = absurd (List·Memᴰ·not-nil (rw (hold-none s i) at m))
+hold-from s x (suc n) i m =
+    ⊎-elim (λ y. (i, omega arith, y)) (λ y. let r = hold-from s x n (suc i) y in (r .0, omega (arith, r .1), r .2)) (List·Memᴰ·append-cases (slotHolds s i) (rw (hold-more s n i) at m))
+
+-- a transaction of a slot is there under a committed entry
+slot-entry : (s : List ℕ) (x : Committed) (d : ℕ) → List·Memᴰ x (slotHolds s d) → (e : Entry) × (seen s d ≡ committed e) × (x ≡ committedIn s d e)
+slot-entry s x d m = go (seen s d) refl
+  where
+    go : (y : Seen) → seen s d ≡ y → (e : Entry) × (seen s d ≡ committed e) × (x ≡ committedIn s d e)
+    go free h = absurd (List·Memᴰ·not-nil (rw (holds-free s d h) at m))
+    go damaged h = absurd (List·Memᴰ·not-nil (rw (holds-damaged s d h) at m))
+    go (committed e) h = (e, h, List·Memᴰ·eq-of-singleton (rw (holds-committed s d e h) at m))
+
+-- a transaction found in the store stands in a slot
+pub stands-in : (s : List ℕ) (b : List Committed) → List·Permᴰ (inStore s) b → (j : Committed) → List·Memᴰ j b
+    → (d : ℕ) × (d < slots) × (e : Entry) × (seen s d ≡ committed e) × (j ≡ committedIn s d e)
+stands-in s b p j m =
+    let r = hold-from s j slots 0 (rw (in-store s) at (perm-mem (Permᴰ·symm p) m)) in
+    let x = slot-entry s j (r .0) (r .2) in
+    (r .0, omega (arith, r .1), x .0, x .1, x .2)
+
+pub stands : (s : List ℕ) (b : List Committed) → List·Permᴰ (inStore s) b → (d : ℕ) (e : Entry) → d < slots → seen s d ≡ committed e → List·Memᴰ (committedIn s d e) b
+stands s b p d e o h = perm-mem p (rw (in-store s) (hold-mem s _ d (rw (holds-committed s d e h) (List·Memᴰ·head refl)) slots 0 (omega arith) (omega arith)))
+
+-- ── what it wrote ──
+cond-some : {A : Type 0} (b : Bool) (x v : A) → _≡_ {A = Option A} (cond b (some x) none) (some v) → b ≡ true
+cond-some true x v h = refl
+cond-some false x v h = absurd (Option·none-ne-some v h)
+
+pub committed-wrote : (s : List ℕ) (d : ℕ) (e : Entry) (k : ℕ) → Wrote (committedIn s d e) k → wrote e k ≡ true
+unfolding committedIn
+committed-wrote s d e k w = cond-some _ _ (w .0) (w .1)
+
+pub wrote-committed : (s : List ℕ) (d : ℕ) (e : Entry) (k : ℕ) → wrote e k ≡ true → committedIn s d e .values k ≡ some (valueIn (recordAt s d (recordOf e k)))
+unfolding committedIn
+wrote-committed s d e k h = rw h
+
+pub committed-id : (s : List ℕ) (d : ℕ) (e : Entry) → committedIn s d e .id ≡ e .id
+unfolding committedIn
+committed-id s d e = refl

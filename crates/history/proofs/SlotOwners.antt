@@ -1,0 +1,103 @@
+-- Whose a slot is: an entry's, a closing transaction's, or nobody's.
+use Prim.Native.Nat.{ℕ, suc, _<_, _≤_}
+use mathlib.Core.Path.{_≡_, refl, sym, ap, _∙_}
+use mathlib.Core.Logic.{_≢_}
+use mathlib.Core.Bool.{Bool, true, false, true≢false}
+use mathlib.Core.List.{List, map}
+use lib.Dec.{eqb}
+use native.Mathlib.Decide.{ℕ-discrete, decLt}
+use native.Mathlib.Omega.{arith}
+use Rattle.model.specs.declared.Live.{Live}
+use Rattle.model.specs.declared.Entry.{Entry}
+use Rattle.model.specs.declared.Station.{Station}
+use Rattle.model.specs.declared.Phase.{Phase}
+use Rattle.model.specs.declared.Phase.the-variants.{Closing}
+use Rattle.model.specs.Lists.{first, count, member}
+use Rattle.model.specs.Limits.{keys, slots, writeLimit, width}
+use Rattle.model.specs.Stations.{writeKey, closingClock, recordsStored, liveAt, entryAt, closingSlots}
+use Rattle.model.specs.Records.{recordAt}
+use Rattle.model.specs.Slots.{Seen, free, committed, seen}
+use Rattle.model.specs.Sound.{sound}
+use Rattle.model.specs.Commit.{withPhase}
+use Rattle.model.specs.Step.{entryFor}
+use Rattle.model.proofs.ListLaws.{member-finds}
+use Rattle.model.proofs.SlotLaws.{committed-injective, committed≢free, seen-frame}
+use Rattle.model.proofs.StationLaws.{mark-at, closing-same, marked, slot-marked}
+use Rattle.model.proofs.SoundFacts.{one-place, live-not-held, closing-facts}
+use Rattle.history.proofs.Invariant.{Prepared, Slots}
+
+-- the same records: the slot is as far as it was
+pub prepared-frame : (s s′ : List ℕ) (l : Live) (d c n : ℕ) → l .«write_count» ≤ writeLimit → ((m : ℕ) → m < width → recordAt s′ d m ≡ recordAt s d m) → Prepared s l d c n → Prepared s′ l d c n
+prepared-frame s s′ l d c n o f pr = record {
+  low = pr .low;
+  versions = λ j a b. f (suc j) (omega arith) ∙ pr .versions j a b;
+  unmarked = λ a. seen-frame s′ s d d f ∙ pr .unmarked a;
+  marked = λ a. seen-frame s′ s d d f ∙ pr .marked a;
+}
+
+pub data Kind (st : Station) (s : List ℕ) (d : ℕ) : Type 0 where
+  entered : entryAt st d .id .txn ≢ 0 → Kind st s d
+  closing : (i c n : ℕ) → liveAt st i .phase ≡ Closing d c n → Kind st s d
+  nobodys : seen s d ≡ free → Kind st s d
+
+pub kind : (st : Station) (s : List ℕ) → Slots st s → (d : ℕ) → d < slots → Kind st s d
+kind st s sl d o = go (ℕ-discrete (entryAt st d .id .txn) 0)
+  where
+    find : entryAt st d .id .txn ≡ 0 → (b : Bool) → member (suc d) (closingSlots st) ≡ b → Kind st s d
+    find z true h =
+        let r = member-finds (suc d) (closingSlots st) h in
+        let i : ℕ = first (eqb (suc d)) (closingSlots st) in
+        closing i (closingClock (liveAt st i .phase)) (recordsStored (liveAt st i .phase)) (marked (liveAt st i .phase) d (sym (mark-at st i) ∙ r .1))
+    find z false h = nobodys (sl .unused d o z λ i c n e. true≢false (sym (slot-marked st i d c n e) ∙ h))
+
+    go : Dec (entryAt st d .id .txn ≡ 0) → Kind st s d
+    go (no n) = entered n
+    go (yes z) = find z _ refl
+
+-- a committed slot is an entry's, or that of a transaction that has stored its commit record
+pub data Owner (st : Station) (d : ℕ) (e : Entry) : Type 0 where
+  by-entry : entryAt st d .id .txn ≢ 0 → e ≡ entryAt st d → Owner st d e
+  by-live : (i c n : ℕ) → liveAt st i .phase ≡ Closing d c n → liveAt st i .«write_count» < n → e ≡ entryFor (liveAt st i) → Owner st d e
+
+pub not-free : {A : Type 0} (x : Seen) (e : Entry) → x ≡ committed e → x ≡ free → A
+not-free x e h k = absurd (committed≢free e (sym h ∙ k))
+
+pub owner : (st : Station) (s : List ℕ) → Slots st s → (d : ℕ) (e : Entry) → d < slots → seen s d ≡ committed e → Owner st d e
+owner st s sl d e o h = go (kind st s sl d o)
+  where
+    go : Kind st s d → Owner st d e
+    go (entered n) = by-entry n (committed-injective e _ (sym h ∙ sl .entered d n))
+    go (closing i c n q) = full (decLt (liveAt st i .«write_count») n)
+      where
+        full : Dec (liveAt st i .«write_count» < n) → Owner st d e
+        full (yes y) = by-live i c n q y (committed-injective e _ (sym h ∙ sl .closing i d c n q .marked y))
+        full (no y) = not-free (seen s d) e h (sl .closing i d c n q .unmarked (omega arith))
+    go (nobodys f) = not-free (seen s d) e h f
+
+-- ── the entry of a closing transaction ──
+pub entryFor-txn : (l : Live) → entryFor l .id .txn ≡ l .txn
+unfolding entryFor
+entryFor-txn l = refl
+
+pub entryFor-id : (l : Live) (d c n : ℕ) → l .phase ≡ Closing d c n → entryFor l .id ≡ record { clock = c; txn = l .txn }
+unfolding entryFor closingClock
+entryFor-id l d c n q = ap (λ (p : Phase). record { clock = closingClock p; txn = l .txn }) q
+
+pub entryFor-phase : (l : Live) (d c n m : ℕ) → l .phase ≡ Closing d c n → entryFor (withPhase (Closing d c m) l) ≡ entryFor l
+unfolding entryFor withPhase closingClock
+entryFor-phase l d c n m q = ap (λ (p : Phase). record { id = record { clock = closingClock p; txn = l .txn }; count = l .«write_count»; keys = map writeKey (l .writes) }) (sym q)
+
+-- a closing transaction's number stands in no slot but its own
+pub unseen : (st : Station) (s : List ℕ) → Slots st s → sound st ≡ true → (i d c n d′ : ℕ) (e : Entry) → liveAt st i .phase ≡ Closing d c n → d′ ≢ d → d′ < slots
+    → seen s d′ ≡ committed e → e .id .txn ≡ liveAt st i .txn → ⊥
+unseen st s sl h i d c n d′ e q nd o hd et = go (owner st s sl d′ e o hd)
+  where
+    real : liveAt st i .txn ≢ 0
+    real = closing-facts st h i d c n q .used .numbered
+
+    go : Owner st d′ e → ⊥
+    go (by-entry nz ee) = live-not-held st h i d′ (sym et ∙ ap (λ (x : Entry). x .id .txn) ee) real
+    go (by-live j c′ n′ qj y ee) = nd (closing-same d′ c′ n′ d c n (sym qj ∙ (ap (λ (k : ℕ). liveAt st k .phase) ji ∙ q)) .0)
+      where
+        ji : j ≡ i
+        ji = sym (one-place st h i j (sym et ∙ (ap (λ (x : Entry). x .id .txn) ee ∙ entryFor-txn (liveAt st j))) real)

@@ -1,0 +1,409 @@
+-- step keeps the invariant: a version record, the commit record, the acknowledgement.
+use Prim.Native.Nat.{ℕ, suc, _+_, _<_}
+use mathlib.Core.Path.{_≡_, refl, sym, ap, subst, _∙_, fun-ext}
+use mathlib.Core.Logic.{_≢_, inl, inr, ⊎-elim}
+use mathlib.Core.Bool.{Bool, true, false, cond, false≢true}
+use mathlib.Core.List.{List, [], _∷_, _++_, map, List·Permᴰ, List·Permᴰ·cons, List·Permᴰ·trans, List·Memᴰ, List·Memᴰ·head, List·Memᴰ·tail, List·Memᴰ·cases-cons}
+use mathlib.Core.Option.{Option, some, none}
+use lib.Dec.{eqb, ltb, lit<}
+use lib.ListN.{length, getD, length-map, List·getD-map}
+use lib.Seq.{getD-take}
+use native.Mathlib.Nat.{lt-irrefl}
+use native.Mathlib.Decide.{ℕ-discrete}
+use native.Mathlib.Omega.{arith}
+use native.Mathlib.Numerals.{add-one}
+use borrow.Author.Tests.{ltb-true, ltb-false, eqb-true, eqb-false, not-false}
+use Rattle.model.specs.declared.Id.{Id}
+use Rattle.model.specs.declared.Write.{Write}
+use Rattle.model.specs.declared.Read.{Read}
+use Rattle.model.specs.declared.Live.{Live}
+use Rattle.model.specs.declared.Entry.{Entry}
+use Rattle.model.specs.declared.Station.{Station}
+use Rattle.model.specs.declared.Phase.{Phase}
+use Rattle.model.specs.declared.Phase.the-variants.{Unused, Open, Closing}
+use Rattle.model.specs.Lists.{any, first, count, member, same}
+use Rattle.model.specs.Limits.{slots, recordSize, width, storeSize, numberRange}
+use Rattle.model.specs.Stations.{noWrite, noLive, writesOf, readsOf, keysOf, wrote, wroteAs, writeKey, isClosing, closingSlot, closingClock, recordsStored, liveAt, entryAt, setLive, setEntry, isLive, placeOf}
+use Rattle.model.specs.Records.{entryIn, valueIn, commitRecord, versionRecord, entryRules, carriesVersion, recordAt, withRecord, recordOf}
+use Rattle.model.specs.Slots.{free, committed, seen}
+use Rattle.model.specs.Sound.{sound}
+use Rattle.model.specs.Reading.{Atomic}
+use Rattle.model.specs.Commit.{withPhase}
+use Rattle.model.specs.Step.{entryFor, oneMore, stepped, step}
+use Rattle.model.specs.Calls.{Step, txnOf}
+use Rattle.model.specs.Answers.{values}
+use Rattle.model.proofs.ListLaws.{first-yes, first-no, getD-mem, member-yes, member-no, member-finds, take-map}
+use Rattle.model.proofs.IdLaws.{same-id}
+use Rattle.model.proofs.RecordLaws.{Fits, length-commit, length-version, entry-round, commit-rules, version-value, version-round, with-length, record-same, record-other, record-elsewhere}
+use Rattle.model.proofs.SlotLaws.{committed-injective, seen-frame, seen-free, seen-free-mark, seen-committed}
+use Rattle.model.proofs.ReadingLaws.{wrote-as, as-wrote}
+use Rattle.model.proofs.StationLaws.{place-hit, entry-get, setLive-at, liveAt-same, liveAt-other, setLive-entry, setEntry-at, entryAt-same, entryAt-other, setEntry-live, setEntry-length, not-closing, closing-same, marked}
+use Rattle.model.proofs.SoundLaws.{sound-at, write-limit, writes-length, entryFor-sound}
+use Rattle.model.proofs.SoundFacts.{live-not-held, one-closing, IsClosing, closing-facts}
+use Rattle.history.specs.Ledger.{Draft, Committed, Ledger, at, withDraft, committedFrom, feed}
+use Rattle.history.specs.CutRule.{committedIn}
+use Rattle.history.specs.Matches.{lookup, Matches}
+use Rattle.history.proofs.Invariant.{guard, inStore, nth, Prepared, Slots, Dominated, Standing, Ranges, Inv, Good, good-says, good-stores, unrefused, choice}
+use Rattle.history.proofs.DraftLaws.{draft-of, matches-at, drafts-cast, drafts-same, drafts-cleared}
+use Rattle.history.proofs.LiveLaws.{reads-set, ranges-set, noLive-open, noLive-reads, noLive-ranges}
+use Rattle.history.proofs.Committing.{phase-ranges, phase-reads, phase-of, txn-of}
+use Rattle.history.proofs.Reading.{read-named}
+use Rattle.history.proofs.CommittedLaws.{slotHolds, holds-free, holds-committed, cond-frame, holds-frame, in-store, hold-same, hold-one-more}
+use Rattle.history.proofs.SlotOwners.{prepared-frame, entered, closing, not-free, entryFor-txn, entryFor-id, entryFor-phase, unseen}
+
+-- ── a closing transaction writes to its slot ──
+module _ (st : Station) (s s′ : List ℕ) (b : Ledger) (inv : Inv st s b) (h : sound st ≡ true) (t d c n m : ℕ) (nz : t ≢ 0) (z : isLive t st ≡ true)
+    (q : liveAt st (placeOf t st) .phase ≡ Closing d c n) (size′ : length s′ ≡ storeSize)
+    (frame : (d′ k : ℕ) → d′ ≢ d → k < width → recordAt s′ d′ k ≡ recordAt s d′ k) where
+  abbrev i : ℕ
+  i = placeOf t st
+
+  abbrev now : Live
+  now = withPhase (Closing d c m) (liveAt st (placeOf t st))
+
+  abbrev after : Station
+  after = setLive st (placeOf t st) now
+
+  oi : i < length (st .live)
+  oi = place-hit st t z .0
+
+  facts : IsClosing st (liveAt st i) d c n
+  facts = closing-facts st h i d c n q
+
+  sl : Slots st s
+  sl = inv .slots
+
+  seen-other : (d′ : ℕ) → d′ ≢ d → seen s′ d′ ≡ seen s d′
+  seen-other d′ nd = seen-frame s′ s d′ d′ (λ k o. frame d′ k nd o)
+
+  slots-step : Prepared s′ now d c m → ((d′ : ℕ) (e e′ : Entry) → d′ ≢ d → d′ < slots → seen s′ d ≡ committed e → seen s d′ ≡ committed e′ → e .id .txn ≡ e′ .id .txn → ⊥) → Slots after s′
+  slots-step pr one = record {
+    size = size′;
+    count = unfold setLive in sl .count;
+    entered = λ d′. rw (setLive-entry st i now d′) (λ y. seen-other d′ (λ e. y (ap (λ (x : ℕ). entryAt st x .id .txn) e ∙ facts .unheld)) ∙ sl .entered d′ y);
+    closing = setLive-at st i now (λ j x. (d′ c′ n′ : ℕ) → x .phase ≡ Closing d′ c′ n′ → Prepared s′ x d′ c′ n′) oi
+        (λ d′ c′ n′ e. let r = closing-same d c m d′ c′ n′ (sym (phase-of (Closing d c m) (liveAt st i)) ∙ e) in rw (← (r .0), ← (r .1), ← (r .2)) pr)
+        (λ j nj d′ c′ n′ e. prepared-frame s s′ (liveAt st j) d′ c′ n′ (write-limit (liveAt st j) (closing-facts st h j d′ c′ n′ e .used .sets)) (λ k o. frame d′ k (other-slot j d′ c′ n′ nj e) o) (sl .closing j d′ c′ n′ e));
+    unused = λ d′ od. rw (setLive-entry st i now d′) (λ y un.
+        let nd : d′ ≢ d = (λ e. un i c m (ap (λ (x : Live). x .phase) (liveAt-same st i now oi) ∙ (phase-of (Closing d c m) (liveAt st i) ∙ ap (λ (x : ℕ). Closing x c m) (sym e)))) in
+        seen-other d′ nd ∙ sl .unused d′ od y (λ j c′ n′ e. still d′ nd un j c′ n′ e (ℕ-discrete j i)));
+    single = λ d₁ d₂ e₁ e₂ o₁ o₂ h₁ h₂ et. two d₁ d₂ e₁ e₂ o₁ o₂ h₁ h₂ et (ℕ-discrete d₁ d) (ℕ-discrete d₂ d);
+  }
+    where
+      other-slot : (j d′ c′ n′ : ℕ) → j ≢ i → liveAt st j .phase ≡ Closing d′ c′ n′ → d′ ≢ d
+      other-slot j d′ c′ n′ nj e y = nj (one-closing st h j i d c′ n′ c n (e ∙ ap (λ (x : ℕ). Closing x c′ n′) y) q)
+
+      still : (d′ : ℕ) → d′ ≢ d → ((j c′ n′ : ℕ) → liveAt after j .phase ≡ Closing d′ c′ n′ → ⊥) → (j c′ n′ : ℕ) → liveAt st j .phase ≡ Closing d′ c′ n′ → Dec (j ≡ i) → ⊥
+      still d′ nd un j c′ n′ e (yes y) = nd (closing-same d′ c′ n′ d c n (sym e ∙ (ap (λ (x : ℕ). liveAt st x .phase) y ∙ q)) .0)
+      still d′ nd un j c′ n′ e (no y) = un j c′ n′ (ap (λ (x : Live). x .phase) (liveAt-other st i now j y) ∙ e)
+
+      two : (d₁ d₂ : ℕ) (e₁ e₂ : Entry) → d₁ < slots → d₂ < slots → seen s′ d₁ ≡ committed e₁ → seen s′ d₂ ≡ committed e₂ → e₁ .id .txn ≡ e₂ .id .txn → Dec (d₁ ≡ d) → Dec (d₂ ≡ d) → d₁ ≡ d₂
+      two d₁ d₂ e₁ e₂ o₁ o₂ h₁ h₂ et (yes y₁) (yes y₂) = y₁ ∙ sym y₂
+      two d₁ d₂ e₁ e₂ o₁ o₂ h₁ h₂ et (yes y₁) (no y₂) = absurd (one d₂ e₁ e₂ y₂ o₂ (subst (λ (x : ℕ). seen s′ x ≡ committed e₁) y₁ h₁) (sym (seen-other d₂ y₂) ∙ h₂) et)
+      two d₁ d₂ e₁ e₂ o₁ o₂ h₁ h₂ et (no y₁) (yes y₂) = absurd (one d₁ e₂ e₁ y₁ o₁ (subst (λ (x : ℕ). seen s′ x ≡ committed e₂) y₂ h₂) (sym (seen-other d₁ y₁) ∙ h₁) (sym et))
+      two d₁ d₂ e₁ e₂ o₁ o₂ h₁ h₂ et (no y₁) (no y₂) = sl .single d₁ d₂ e₁ e₂ o₁ o₂ (sym (seen-other d₁ y₁) ∙ h₁) (sym (seen-other d₂ y₂) ∙ h₂) et
+
+  same-matches : (p : Draft) → Matches p (liveAt st i) → Matches p now
+  same-matches p mt = record {
+    values = unfold withPhase writesOf in mt .values;
+    clock = λ d′ c′ n′ e. mt .clock d c n q ∙ closing-same d c m d′ c′ n′ (sym (phase-of (Closing d c m) (liveAt st i)) ∙ e) .1;
+    reads = unfold withPhase readsOf in mt .reads;
+  }
+
+  -- what is left to show: the slot, and the standing transactions
+  pub step-inv : Prepared s′ now d c m → ((d′ : ℕ) (e e′ : Entry) → d′ ≢ d → d′ < slots → seen s′ d ≡ committed e → seen s d′ ≡ committed e′ → e .id .txn ≡ e′ .id .txn → ⊥)
+      → (standing past : List Committed) → Standing s′ standing past → Inv after s′ (record { drafts = b .drafts; standing = standing; past = past })
+  step-inv pr one standing past sd = record {
+    slots = slots-step pr one;
+    standing = sd;
+    drafts = drafts-same st (b .drafts) (inv .drafts) h t nz z now (txn-of _ (liveAt st i) ∙ place-hit st t z .1) same-matches;
+    reads = reads-set st i now oi (inv .reads) (phase-reads (st .entries) _ (liveAt st i) (inv .reads i));
+    ranges = ranges-set st i now oi (inv .ranges) (phase-ranges (Closing d c m) (liveAt st i) (λ d′ c′ n′ e. omega (arith, inv .ranges i .clock d c n q, closing-same d c m d′ c′ n′ e .1)) (inv .ranges i));
+  }
+
+-- ── the values by key ──
+lookup-first : (ws : List Write) (k : ℕ) → lookup k ws ≡ cond (member k (map writeKey ws)) (some (getD ws (first (eqb k) (map writeKey ws)) noWrite .value)) none
+unfolding lookup
+lookup-first [] k = unfold member any in refl
+lookup-first (w ∷ ws) k = go (eqb k (w .key)) refl (lookup-first ws k)
+  where
+    ks : List ℕ
+    ks = map writeKey ws
+
+    go : (b : Bool) → eqb k (w .key) ≡ b → lookup k ws ≡ cond (member k ks) (some (getD ws (first (eqb k) ks) noWrite .value)) none
+        → lookup k (w ∷ ws) ≡ cond (member k (w .key ∷ ks)) (some (getD (w ∷ ws) (first (eqb k) (w .key ∷ ks)) noWrite .value)) none
+    go true e ih = rw (e, member-yes k (w .key) ks e, first-yes (eqb k) (w .key) ks e)
+    go false e ih = rw (e, member-no k (w .key) ks e, first-no (eqb k) (w .key) ks e) ih
+
+keys-for : (l : Live) → keysOf (entryFor l) ≡ map writeKey (writesOf l)
+unfolding keysOf entryFor writesOf
+keys-for l = take-map writeKey (l .«write_count») (l .writes)
+
+nth-written : (l : Live) (j : ℕ) → j < l .«write_count» → getD (writesOf l) j noWrite ≡ nth l j
+unfolding writesOf
+nth-written l j o = getD-take (l .«write_count») (l .writes) j noWrite o
+
+-- the transaction in the slot is the draft's
+committed-of-draft : (s : List ℕ) (d c n : ℕ) (l : Live) (p : Draft) → l .phase ≡ Closing d c n → Ranges l → Matches p l
+    → ((j : ℕ) → j < l .«write_count» → recordAt s d (suc j) ≡ versionRecord (nth l j .key) (record { clock = c; txn = l .txn }) (nth l j .value))
+    → committedIn s d (entryFor l) ≡ record { id = record { clock = p .clock; txn = l .txn }; values = p .values }
+unfolding committedIn
+committed-of-draft s d c n l p q rg mt f = λ y. record { id = same-id y; values = fun-ext values y }
+  where
+    ks : List ℕ
+    ks = map writeKey (writesOf l)
+
+    same-id : entryFor l .id ≡ record { clock = p .clock; txn = l .txn }
+    same-id = entryFor-id l d c n q ∙ ap (λ (x : ℕ). record { clock = x; txn = l .txn }) (sym (mt .clock d c n q))
+
+    value : (k : ℕ) → member k ks ≡ true → _≡_ {A = Option ℕ} (some (valueIn (recordAt s d (suc (first (eqb k) ks))))) (some (getD (writesOf l) (first (eqb k) ks) noWrite .value))
+    value k h =
+        let j : ℕ = first (eqb k) ks in
+        let o : j < length (writesOf l) = subst (λ (x : ℕ). j < x) (length-map (writesOf l) writeKey) (member-finds k ks h .0) in
+        let o′ : j < l .«write_count» = omega (arith, o, writes-length l) in
+        ap some (ap valueIn (f j o′) ∙ (version-value _ _ _ (rw (← (nth-written l j o′)) (rg .values _ (getD-mem (writesOf l) j noWrite o))) ∙ ap (λ (w : Write). w .value) (sym (nth-written l j o′))))
+
+    values : (k : ℕ) → _≡_ {A = Option ℕ} (cond (wrote (entryFor l) k) (some (valueIn (recordAt s d (recordOf (entryFor l) k)))) none) (p .values k)
+    values k = unfold wrote recordOf in rw (keys-for l) (cond-frame (member k ks) _ _ none (value k) ∙ (sym (lookup-first (writesOf l) k) ∙ sym (mt .values k)))
+
+-- ── the first n steps: a version record ──
+module _ (st : Station) (s : List ℕ) (b : Ledger) (inv : Inv st s b) (h : sound st ≡ true) (t d c n : ℕ) (nz : t ≢ 0) (z : isLive t st ≡ true)
+    (q : liveAt st (placeOf t st) .phase ≡ Closing d c n) where
+  abbrev l : Live
+  l = liveAt st (placeOf t st)
+
+  pr : Prepared s l d c n
+  pr = inv .slots .closing (placeOf t st) d c n q
+
+  closes : IsClosing st l d c n
+  closes = closing-facts st h (placeOf t st) d c n q
+
+  abbrev content : List ℕ
+  content = versionRecord (nth l n .key) (record { clock = c; txn = l .txn }) (nth l n .value)
+
+  pub version-stored : n < l .«write_count» → Inv (setLive st (placeOf t st) (withPhase (Closing d c (n + 1)) l)) (withRecord s d (n + 1) content) b
+  version-stored o = step-inv st s s′ b inv h t d c n (n + 1) nz z q size′ frame prepared (λ d′ e e′ nd o′ x. not-free (seen s′ d) e x unmarked) (b .standing) (b .past)
+      (record { found = rw (in-store s′, hold-same s s′ slots 0 (λ d′ y. same d′ (ℕ-discrete d′ d)), ← in-store) (inv .standing .found); kept = inv .standing .kept; dominated = inv .standing .dominated })
+    where
+      s′ : List ℕ
+      s′ = withRecord s d (n + 1) content
+
+      lb : length content ≡ recordSize
+      lb = length-version (nth l n .key) (record { clock = c; txn = l .txn }) (nth l n .value)
+
+      on : n + 1 < width
+      on = omega (arith, o, write-limit l (closes .used .sets))
+
+      size′ : length s′ ≡ storeSize
+      size′ = with-length s d (n + 1) content (inv .slots .size) (pr .low) on lb ∙ inv .slots .size
+
+      frame : (d′ k : ℕ) → d′ ≢ d → k < width → recordAt s′ d′ k ≡ recordAt s d′ k
+      frame d′ k nd ok = record-elsewhere s d (n + 1) content (inv .slots .size) (pr .low) on lb d′ k nd ok
+
+      other : (k : ℕ) → k ≢ n + 1 → recordAt s′ d k ≡ recordAt s d k
+      other k nk = record-other s d (n + 1) content (inv .slots .size) (pr .low) on lb k nk
+
+      was : seen s d ≡ free
+      was = pr .unmarked (omega arith)
+
+      unmarked : seen s′ d ≡ free
+      unmarked = seen-free s′ d (rw (other 0 (omega arith)) (seen-free-mark s d was))
+
+      same : (d′ : ℕ) → Dec (d′ ≡ d) → slotHolds s′ d′ ≡ slotHolds s d′
+      same d′ (yes e) = rw e (holds-free s′ d unmarked ∙ sym (holds-free s d was))
+      same d′ (no e) = holds-frame s s′ d′ (λ k ok. frame d′ k e ok)
+
+      stored-at : (j : ℕ) → j < n + 1 → j < l .«write_count» → Dec (j ≡ n) → recordAt s′ d (suc j) ≡ versionRecord (nth l j .key) (record { clock = c; txn = l .txn }) (nth l j .value)
+      stored-at j a x (yes e) = rw (e, ← (add-one n)) (record-same s d (n + 1) content (inv .slots .size) (pr .low) on lb)
+      stored-at j a x (no e) = other (suc j) (λ y. e (omega arith)) ∙ pr .versions j (omega arith) x
+
+      prepared : Prepared s′ (withPhase (Closing d c (n + 1)) l) d c (n + 1)
+      prepared = unfold withPhase in record { low = pr .low; versions = λ j a x. stored-at j a x (ℕ-discrete j n); unmarked = λ a. unmarked; marked = λ a. absurd (lt-irrefl n (omega arith)) }
+
+  -- ── step n + 1: the commit record ──
+  abbrev E : Entry
+  E = entryFor l
+
+  fits : Fits E
+  unfolding entryFor closingClock
+  fits = record {
+    txn32 = inv .ranges (placeOf t st) .txn;
+    clock64 = subst (λ (p : Phase). closingClock p < numberRange) (sym q) (inv .ranges (placeOf t st) .clock d c n q);
+    keys8 = length-map (l .writes) writeKey ∙ inv .ranges (placeOf t st) .filled (closes .used .numbered);
+  }
+
+  rules : entryRules E ≡ true
+  rules = entryFor-sound st (sound-at st h) (placeOf t st) (subst (λ (p : Phase). isClosing p ≡ true) (sym q) (unfold isClosing in refl))
+
+  pub commit-stored : n ≡ l .«write_count» → (p : Draft) → Matches p l
+      → Inv (setLive st (placeOf t st) (withPhase (Closing d c (n + 1)) l)) (withRecord s d 0 (commitRecord E))
+      (record {
+        drafts = b .drafts;
+        standing = record { id = record { clock = p .clock; txn = l .txn }; values = p .values } ∷ b .standing;
+        past = record { id = record { clock = p .clock; txn = l .txn }; values = p .values } ∷ b .past;
+      })
+  commit-stored en p mt = step-inv st s s′ b inv h t d c n (n + 1) nz z q size′ frame prepared
+      (λ d′ e e′ nd o′ x y w. unseen st s (inv .slots) h (placeOf t st) d c n d′ e′ q nd o′ y (sym w ∙ (ap (λ (u : Entry). u .id .txn) (committed-injective e E (sym x ∙ full)) ∙ entryFor-txn l)))
+      (J ∷ b .standing) (J ∷ b .past)
+      (record {
+        found = List·Permᴰ·trans perm (List·Permᴰ·cons same (inv .standing .found));
+        kept = λ j m. ⊎-elim (λ e. List·Memᴰ·head e) (λ x. List·Memᴰ·tail (inv .standing .kept j x)) (List·Memᴰ·cases-cons m);
+        dominated = λ j m. ⊎-elim (λ e. inl (List·Memᴰ·head e)) (λ x. more j (inv .standing .dominated j x)) (List·Memᴰ·cases-cons m);
+      })
+    where
+      J : Committed
+      J = record { id = record { clock = p .clock; txn = l .txn }; values = p .values }
+
+      s′ : List ℕ
+      s′ = withRecord s d 0 (commitRecord E)
+
+      lb : length (commitRecord E) ≡ recordSize
+      lb = length-commit E (fits .keys8)
+
+      size′ : length s′ ≡ storeSize
+      size′ = with-length s d 0 (commitRecord E) (inv .slots .size) (pr .low) (lit< tt) lb ∙ inv .slots .size
+
+      frame : (d′ k : ℕ) → d′ ≢ d → k < width → recordAt s′ d′ k ≡ recordAt s d′ k
+      frame d′ k nd ok = record-elsewhere s d 0 (commitRecord E) (inv .slots .size) (pr .low) (lit< tt) lb d′ k nd ok
+
+      was : seen s d ≡ free
+      was = pr .unmarked (omega (arith, en))
+
+      stored-at : (j : ℕ) → j < l .«write_count» → recordAt s′ d (suc j) ≡ versionRecord (nth l j .key) (record { clock = c; txn = l .txn }) (nth l j .value)
+      stored-at j o = record-other s d 0 (commitRecord E) (inv .slots .size) (pr .low) (lit< tt) lb (suc j) (omega arith) ∙ pr .versions j (omega (arith, en)) o
+
+      at-0 : recordAt s′ d 0 ≡ commitRecord E
+      at-0 = record-same s d 0 (commitRecord E) (inv .slots .size) (pr .low) (lit< tt) lb
+
+      key-at : (j : ℕ) → j < l .«write_count» → getD (keysOf E) j 0 ≡ nth l j .key
+      key-at j o = ap (λ (x : List ℕ). getD x j 0) (keys-for l) ∙ (List·getD-map writeKey (writesOf l) j noWrite ∙ ap writeKey (nth-written l j o))
+
+      carried : (j : ℕ) → j < length (keysOf E) → carriesVersion (recordAt s′ d (suc j)) (getD (keysOf E) j 0) (E .id) ≡ true
+      carried j o =
+          let o′ : j < l .«write_count» = omega (arith, o, writes-length l, ap length (keys-for l) ∙ length-map (writesOf l) writeKey) in
+          rw (stored-at j o′, key-at j o′, entryFor-id l d c n q) (version-round _ (record { clock = c; txn = l .txn }) _ (inv .ranges (placeOf t st) .txn) (inv .ranges (placeOf t st) .clock d c n q))
+
+      full : seen s′ d ≡ committed E
+      full = seen-committed s′ d E (rw at-0 (commit-rules E fits ∙ rules)) (ap entryIn at-0 ∙ entry-round E fits) carried
+
+      same : committedIn s′ d E ≡ J
+      same = committed-of-draft s′ d c n l p q (inv .ranges (placeOf t st)) mt stored-at
+
+      perm : List·Permᴰ (inStore s′) (committedIn s′ d E ∷ inStore s)
+      perm = rw (in-store s′, in-store s) (hold-one-more s s′ (committedIn s′ d E) d (holds-free s d was) (holds-committed s′ d E full) (λ d′ nd. holds-frame s s′ d′ (λ k ok. frame d′ k nd ok)) slots 0 (omega arith) (omega (arith, pr .low)))
+
+      more : (j : Committed) → Dominated (b .standing) j → Dominated (J ∷ b .standing) j
+      more j (inl x) = inl (List·Memᴰ·tail x)
+      more j (inr f) = inr (λ k w. let r = f k w in (r .0, List·Memᴰ·tail (r .1), r .2, r .3))
+
+      prepared : Prepared s′ (withPhase (Closing d c (n + 1)) l) d c (n + 1)
+      prepared = record {
+        low = pr .low;
+        versions = unfold withPhase in (λ j a x. stored-at j x);
+        unmarked = unfold withPhase in (λ a. absurd (lt-irrefl n (omega (arith, en))));
+        marked = λ a. full ∙ ap committed (sym (entryFor-phase l d c n (n + 1) q));
+      }
+
+  -- ── step n + 2: the acknowledgement ──
+  abbrev cleared-st : Station
+  cleared-st = setLive st (placeOf t st) noLive
+
+  abbrev end : Station
+  end = setEntry cleared-st d E
+
+  live-end : (P : ℕ → Live → Type 0) → P (placeOf t st) noLive → ((j : ℕ) → j ≢ placeOf t st → P j (liveAt st j)) → (j : ℕ) → P j (liveAt end j)
+  live-end P x y j = rw (setEntry-live cleared-st d E j) (setLive-at st (placeOf t st) noLive P (place-hit st t z .0) x y j)
+
+  d-inside : d < length (cleared-st .entries)
+  d-inside = unfold setLive in omega (arith, pr .low, inv .slots .count)
+
+  entry-end : (P : ℕ → Entry → Type 0) → P d E → ((k : ℕ) → k ≢ d → P k (entryAt st k)) → (k : ℕ) → P k (entryAt end k)
+  entry-end P x y = setEntry-at cleared-st d E P d-inside x (λ k nk. rw (setLive-entry st (placeOf t st) noLive k) (y k nk))
+
+  -- an entry of the new commit set that wrote a key under an id that was read is one of the old
+  old-writer : (k : ℕ) (r : Read) (x : ℕ) → List·Memᴰ r (readsOf (liveAt st k)) → wroteAs (end .entries) (r .id) x ≡ true → wroteAs (st .entries) (r .id) x ≡ true
+  unfolding setLive
+  old-writer k r x m w =
+      let f = wrote-as (end .entries) (r .id) x w in
+      let o : f .0 < length (end .entries) = f .1 in
+      let g = subst (λ (y : Entry). (y .id ≡ r .id) × (wrote y x ≡ true)) (entry-get end (f .0) o) (f .2, f .3) in
+      let nd : f .0 ≢ d = (λ y. strange (subst (λ (c : ℕ). entryAt end c .id ≡ r .id) y (g .0))) in
+      let e : entryAt end (f .0) ≡ entryAt st (f .0) = entryAt-other cleared-st d E (f .0) nd ∙ setLive-entry st (placeOf t st) noLive (f .0) in
+      let o′ : f .0 < length (st .entries) = subst (λ (y : ℕ). f .0 < y) (setEntry-length cleared-st d E) o in
+      as-entry (f .0) o′ (subst (λ (y : Entry). (y .id ≡ r .id) × (wrote y x ≡ true)) e g)
+    where
+      -- the transaction that ends was read by nobody: it was not held
+      strange : entryAt end d .id ≡ r .id → ⊥
+      strange e =
+          let f = wrote-as (st .entries) (r .id) (r .key) (read-named st h k r m) in
+          let q : entryAt st (f .0) .id ≡ r .id = subst (λ (y : Entry). y .id ≡ r .id) (entry-get st (f .0) (f .1)) (f .2) in
+          live-not-held st h (placeOf t st) (f .0)
+          (sym (ap (λ (y : Entry). y .id .txn) (entryAt-same cleared-st d E d-inside) ∙ entryFor-txn l) ∙ (ap (λ (y : Id). y .txn) e ∙ sym (ap (λ (y : Id). y .txn) q)))
+          (closes .used .numbered)
+
+      as-entry : (c : ℕ) → c < length (st .entries) → (entryAt st c .id ≡ r .id) × (wrote (entryAt st c) x ≡ true) → wroteAs (st .entries) (r .id) x ≡ true
+      as-entry c o g =
+          subst (λ (y : Id). wroteAs (st .entries) y x ≡ true) (ap (λ (y : Entry). y .id) (entry-get st c o) ∙ g .0)
+          (as-wrote (st .entries) x c o (subst (λ (y : Entry). wrote y x ≡ true) (sym (entry-get st c o)) (g .1)))
+
+  pub acknowledged : l .«write_count» < n → Inv end s (withDraft t none b)
+  acknowledged o = record {
+    slots = record {
+      size = inv .slots .size;
+      count = setEntry-length cleared-st d E ∙ (unfold setLive in inv .slots .count);
+      entered = entry-end (λ k x. x .id .txn ≢ 0 → seen s k ≡ committed x) (λ y. pr .marked o) (λ k nk. inv .slots .entered k);
+      closing = live-end (λ j x. (d′ c′ n′ : ℕ) → x .phase ≡ Closing d′ c′ n′ → Prepared s x d′ c′ n′) (λ d′ c′ n′ e. absurd (not-closing (noLive .phase) d′ c′ n′ noLive-open e)) (λ j nj. inv .slots .closing j);
+      unused = λ d′ od. entry-end (λ k x. k < slots → x .id .txn ≡ 0 → ((j c′ n′ : ℕ) → liveAt end j .phase ≡ Closing k c′ n′ → ⊥) → seen s k ≡ free)
+          (λ ok e un. absurd (closes .used .numbered (sym (entryFor-txn l) ∙ e)))
+          (λ k nk ok e un. inv .slots .unused k ok e (λ j c′ n′ y. was k nk un j c′ n′ y (ℕ-discrete j (placeOf t st)))) d′ od;
+      single = inv .slots .single;
+    };
+    standing = unfold withDraft in inv .standing;
+    drafts = unfold withDraft in drafts-cast cleared-st end (at t none (b .drafts)) (setEntry-live cleared-st d E) (drafts-cleared st (b .drafts) (inv .drafts) h t z);
+    reads = live-end (λ j x. Atomic (end .entries) (readsOf x)) (noLive-reads (end .entries)) (λ j nj r q mr mq w. inv .reads j r q mr mq (old-writer j r (q .key) mr w));
+    ranges = live-end (λ j x. Ranges x) noLive-ranges (λ j nj. inv .ranges j);
+  }
+    where
+      was : (k : ℕ) → k ≢ d → ((j c′ n′ : ℕ) → liveAt end j .phase ≡ Closing k c′ n′ → ⊥) → (j c′ n′ : ℕ) → liveAt st j .phase ≡ Closing k c′ n′ → Dec (j ≡ placeOf t st) → ⊥
+      was k nk un j c′ n′ y (yes e) = nk (closing-same k c′ n′ d c n (sym y ∙ (ap (λ (x : ℕ). liveAt st x .phase) e ∙ q)) .0)
+      was k nk un j c′ n′ y (no e) = un j c′ n′ (ap (λ (x : Live). x .phase) (setEntry-live cleared-st d E j ∙ liveAt-other st (placeOf t st) noLive j e) ∙ y)
+
+-- ── step ──
+-- the transaction from the draft of t
+committed-draft : (st : Station) (s′ : List ℕ) (b : Ledger) (t : ℕ) (after : Station) → isLive t st ≡ true → (p : Draft) → b .drafts t ≡ some p
+    → Inv after s′ (record {
+      drafts = b .drafts;
+      standing = record { id = record { clock = p .clock; txn = liveAt st (placeOf t st) .txn }; values = p .values } ∷ b .standing;
+      past = record { id = record { clock = p .clock; txn = liveAt st (placeOf t st) .txn }; values = p .values } ∷ b .past;
+    })
+    → Inv after s′ (record { drafts = b .drafts; standing = committedFrom t (b .drafts t) ++ b .standing; past = committedFrom t (b .drafts t) ++ b .past })
+unfolding committedFrom
+committed-draft st s′ b t after z p e inv =
+    subst (λ (x : Option Draft). Inv after s′ (record { drafts = b .drafts; standing = committedFrom t x ++ b .standing; past = committedFrom t x ++ b .past })) (sym e)
+    (subst (λ (u : ℕ). Inv after s′ (record { drafts = b .drafts; standing = record { id = record { clock = p .clock; txn = u }; values = p .values } ∷ b .standing; past = record { id = record { clock = p .clock; txn = u }; values = p .values } ∷ b .past })) (place-hit st t z .1) inv)
+
+by-phase : (st : Station) (s : List ℕ) (b : Ledger) (t : ℕ) → Inv st s b → sound st ≡ true → t ≢ 0 → isLive t st ≡ true
+    → (p : Phase) → liveAt st (placeOf t st) .phase ≡ p → isClosing p ≡ true → Good s b (Step t) (stepped st (placeOf t st) (liveAt st (placeOf t st)) p)
+unfolding stepped closingSlot recordsStored oneMore isClosing feed txnOf
+by-phase st s b t inv h nz z Unused q c = absurd (false≢true c)
+by-phase st s b t inv h nz z Open q c = absurd (false≢true c)
+by-phase st s b t inv h nz z (Closing d c n) q _ =
+    choice s b (Step t) (ltb n wc) _ _
+    (λ x. good-stores s b (Step t) _ _ st _ _ _ h inv (rw (entryFor-id (liveAt st (placeOf t st)) d c n q) (version-stored st s b inv h t d c n nz z q (ltb-true n wc x)))) λ x.
+    choice s b (Step t) (eqb n wc) _ _
+    (λ y. let r = draft-of st (b .drafts) (inv .drafts) t (placeOf t st) (place-hit st t z .1) nz in
+    good-stores s b (Step t) _ _ st _ _ _ h inv (committed-draft st _ b t _ z (r .0) (r .1) (commit-stored st s b inv h t d c n nz z q (eqb-true n wc y) (r .0) (matches-at st (b .drafts) h (inv .drafts) t z (r .0) (r .1))))) λ y.
+    good-says s b (Step t) _ _ (acknowledged st s b inv h t d c n nz z q (omega (arith, ltb-false n wc x, eqb-false n wc y)))
+  where
+    wc : ℕ
+    wc = liveAt st (placeOf t st) .«write_count»
+
+pub step-keeps : (st : Station) (s : List ℕ) (b : Ledger) (t : ℕ) → Inv st s b → sound st ≡ true → Good s b (Step t) (step st s t)
+unfolding step
+step-keeps st s b t inv h =
+    guard s b (Step t) st _ 1 _ _ inv λ h1.
+    guard s b (Step t) st _ 2 _ _ inv λ h2.
+    guard s b (Step t) st _ 3 _ _ inv λ h3.
+    guard s b (Step t) st _ 8 _ _ inv λ h8.
+    guard s b (Step t) st _ 10 _ _ inv λ h10.
+    unrefused s b (Step t) st _ (by-phase st s b t inv h (eqb-false t 0 h3) (not-false _ h8) (liveAt st (placeOf t st) .phase) refl (not-false _ h10))

@@ -1,0 +1,391 @@
+-- Soundness (specs/Sound) taken apart and put together, place by place.
+use Prim.Native.Nat.{ℕ, _+_, _-_, _<_, _≤_}
+use mathlib.Core.Path.{_≡_, refl, sym, ap, subst, subst₂, _∙_}
+use mathlib.Core.Logic.{_≢_, ⊎-elim}
+use mathlib.Core.Bool.{true, false, not, true≢false, false≢true}
+use mathlib.Core.List.{List, _++_, map, List·Memᴰ}
+use mathlib.Core.Option.{none}
+use lib.Dec.{eqb, leb}
+use lib.ListN.{length, drop, length-take}
+use lib.Seq.{set-out}
+use native.Mathlib.Nat.{lt-irrefl}
+use native.Mathlib.Omega.{arith}
+use borrow.Author.Tests.{ltb-true, leb-true, eqb-true, not-true, lt-ltb, le-leb, eq-eqb}
+use Rattle.model.specs.declared.Id.{Id}
+use Rattle.model.specs.declared.Write.{Write}
+use Rattle.model.specs.declared.Read.{Read}
+use Rattle.model.specs.declared.Live.{Live}
+use Rattle.model.specs.declared.Entry.{Entry}
+use Rattle.model.specs.declared.Station.{Station}
+use Rattle.model.specs.declared.Phase.{Phase}
+use Rattle.model.specs.declared.Phase.the-variants.{Unused, Open, Closing}
+use Rattle.model.specs.Lists.{_and_, _or_, all, any, count, insert, member, ascending, distinct}
+use Rattle.model.specs.Limits.{keys, slots, writeLimit, readLimit}
+use Rattle.model.specs.Ids.{sameId}
+use Rattle.model.specs.Stations.{noWrite, noRead, noLive, writesOf, readsOf, keysOf, wrote, wroteAs, writeKey, readKey, hasWritten, hasRead, isClosing, closingSlot, closingClock, recordsStored, liveAt, entryAt, setLive, setEntry, liveTxns, heldTxns, holds, slotMark, closingSlots}
+use Rattle.model.specs.Records.{entryRules}
+use Rattle.model.specs.Sound.{isNoWrite, isNoRead, isNoEntry, isNoLive, zeroPastCounts, setsRight, names, inUse, closingRight, placeRight, entryRight, sound}
+use Rattle.model.specs.Put.{withWrites, withWrite}
+use Rattle.model.specs.Get.{withReads, withRead}
+use Rattle.model.specs.Step.{entryFor}
+use Rattle.model.proofs.Tests.{and-left, and-right, and-intro, or-intro-right, or-cases, not-of-false}
+use Rattle.model.proofs.ListLaws.{all-of, all-by, all-replicate, all-everywhere, any-set, take-map, drop-map, all-map}
+use Rattle.model.proofs.DistinctLaws.{Once, once-by, once-set, once-at, once-of, once-left, once-right, once-apart, distinct-append}
+use Rattle.model.proofs.InsertLaws.{insert-ascending, insert-fits, insert-all, padded-take, padded-drop}
+use Rattle.model.proofs.StationLaws.{txn-at, held-at, mark-at, setLive-at, liveAt-same, liveAt-other, setLive-entry, setEntry-at, entryAt-same, entryAt-other, setEntry-live}
+
+-- ── soundness, place by place ──
+pub record Sound (st : Station) : Type 0 where
+  pub entry : (d : ℕ) → entryRight (entryAt st d) ≡ true
+  pub place : (i : ℕ) → placeRight st ((liveAt st i) .phase) (liveAt st i) ≡ true
+  pub liveOnce : Once (λ i. (liveAt st i) .txn)
+  pub heldOnce : Once (λ d. (entryAt st d) .id .txn)
+  pub apart : (i d : ℕ) → (liveAt st i) .txn ≢ 0 → (liveAt st i) .txn ≢ (entryAt st d) .id .txn
+  pub slotOnce : Once (λ i. slotMark ((liveAt st i) .phase))
+
+pub sound-at : (st : Station) → sound st ≡ true → Sound st
+unfolding sound
+sound-at st h = record {
+  entry = unfold entryAt in all-everywhere entryRight (st .entries) _ (and-left _ _ (and-left _ _ (and-left _ _ h))) (unfold entryRight isNoEntry sameId _and_ _or_ all in refl);
+  place = unfold liveAt in all-everywhere (λ l. placeRight st (l .phase) l) (st .live) _ (and-right _ _ (and-left _ _ (and-left _ _ h))) (unfold placeRight isNoLive _and_ all in refl);
+  liveOnce = once-by _ _ (txn-at st) (once-left (liveTxns st) (heldTxns st) txns);
+  heldOnce = once-by _ _ (held-at st) (once-right (liveTxns st) (heldTxns st) txns);
+  apart = λ i d. subst₂ (λ (a b : ℕ). a ≢ 0 → a ≢ b) (txn-at st i) (held-at st d) (once-apart (liveTxns st) (heldTxns st) txns i d);
+  slotOnce = once-by _ _ (mark-at st) (once-at (closingSlots st) (and-right _ _ h));
+}
+  where
+    txns : distinct (liveTxns st ++ heldTxns st) ≡ true
+    txns = and-right _ _ (and-left _ _ h)
+
+pub sound-of : (st : Station) → Sound st → sound st ≡ true
+unfolding sound entryAt liveAt
+sound-of st s =
+    and-intro _ _ (and-intro _ _ (and-intro _ _
+    (all-of entryRight (st .entries) _ (λ d o. s .entry d))
+    (all-of (λ l. placeRight st (l .phase) l) (st .live) _ (λ i o. s .place i)))
+    (distinct-append (liveTxns st) (heldTxns st)
+    (once-by _ _ (λ i. sym (txn-at st i)) (s .liveOnce))
+    (once-by _ _ (λ d. sym (held-at st d)) (s .heldOnce))
+    (λ i d. subst₂ (λ (a b : ℕ). a ≢ 0 → a ≢ b) (sym (txn-at st i)) (sym (held-at st d)) (s .apart i d))))
+    (once-of (closingSlots st) (once-by _ _ (λ i. sym (mark-at st i)) (s .slotOnce)))
+
+-- ── a live transaction, sentence by sentence ──
+pub record Used (es : List Entry) (l : Live) : Type 0 where
+  pub numbered : l .txn ≢ 0
+  pub sets : setsRight l ≡ true
+  pub named : all (names es) (readsOf l) ≡ true
+  pub zeros : zeroPastCounts l ≡ true
+
+pub used-at : (es : List Entry) (l : Live) → inUse es l ≡ true → Used es l
+unfolding inUse
+used-at es l h = record {
+  numbered = λ e. lt-irrefl 0 (omega (arith, e, leb-true 1 (l .txn) (and-left _ _ (and-left _ _ (and-left _ _ h)))));
+  sets = and-right _ _ (and-left _ _ (and-left _ _ h));
+  named = and-right _ _ (and-left _ _ h);
+  zeros = and-right _ _ h;
+}
+
+pub used-of : (es : List Entry) (l : Live) → Used es l → inUse es l ≡ true
+unfolding inUse
+used-of es l u = and-intro _ _ (and-intro _ _ (and-intro _ _ (le-leb 1 (l .txn) (omega (arith, u .numbered))) (u .sets)) (u .named)) (u .zeros)
+
+-- among other entries, where its reads still name one
+pub used-in : (es es′ : List Entry) (l : Live) → ((r : Read) → List·Memᴰ r (readsOf l) → names es r ≡ true → names es′ r ≡ true) → Used es l → Used es′ l
+used-in es es′ l f u = record { numbered = u .numbered; sets = u .sets; named = all-by _ _ (readsOf l) f (u .named); zeros = u .zeros }
+
+module _ (l : Live) (h : setsRight l ≡ true) where
+  pub write-limit : l .«write_count» ≤ writeLimit
+  unfolding setsRight
+  write-limit = leb-true _ _ (and-left _ _ (and-left _ _ (and-left _ _ h)))
+
+  pub read-limit : l .«read_count» ≤ readLimit
+  unfolding setsRight
+  read-limit = leb-true _ _ (and-right _ _ (and-left _ _ (and-left _ _ h)))
+
+  pub writes-ascending : ascending 0 keys (map writeKey (writesOf l)) ≡ true
+  unfolding setsRight
+  writes-ascending = and-right _ _ (and-left _ _ h)
+
+  pub reads-ascending : ascending 0 keys (map readKey (readsOf l)) ≡ true
+  unfolding setsRight
+  reads-ascending = and-right _ _ h
+
+pub sets-of : (l : Live) → l .«write_count» ≤ writeLimit → l .«read_count» ≤ readLimit → ascending 0 keys (map writeKey (writesOf l)) ≡ true
+    → ascending 0 keys (map readKey (readsOf l)) ≡ true → setsRight l ≡ true
+unfolding setsRight
+sets-of l w r aw ar = and-intro _ _ (and-intro _ _ (and-intro _ _ (le-leb _ _ w) (le-leb _ _ r)) aw) ar
+
+module _ (l : Live) (h : zeroPastCounts l ≡ true) where
+  pub writes-zero : all isNoWrite (drop (l .«write_count») (l .writes)) ≡ true
+  unfolding zeroPastCounts
+  writes-zero = and-left _ _ h
+
+  pub reads-zero : all isNoRead (drop (l .«read_count») (l .reads)) ≡ true
+  unfolding zeroPastCounts
+  reads-zero = and-right _ _ h
+
+pub zeros-of : (l : Live) → all isNoWrite (drop (l .«write_count») (l .writes)) ≡ true → all isNoRead (drop (l .«read_count») (l .reads)) ≡ true → zeroPastCounts l ≡ true
+unfolding zeroPastCounts
+zeros-of l w r = and-intro _ _ w r
+
+pub noWrite-zero : isNoWrite noWrite ≡ true
+unfolding isNoWrite _and_
+noWrite-zero = refl
+
+pub noRead-zero : isNoRead noRead ≡ true
+unfolding isNoRead sameId _and_
+noRead-zero = refl
+
+pub writes-length : (l : Live) → length (writesOf l) ≤ l .«write_count»
+unfolding writesOf
+writes-length l = omega (arith, length-take (l .«write_count») (l .writes))
+
+pub reads-length : (l : Live) → length (readsOf l) ≤ l .«read_count»
+unfolding readsOf
+reads-length l = omega (arith, length-take (l .«read_count») (l .reads))
+
+-- a closing one
+pub record Shut (st : Station) (l : Live) : Type 0 where
+  pub keyed : 1 ≤ l .«write_count»
+  pub clocked : 1 ≤ closingClock (l .phase)
+  pub within : recordsStored (l .phase) ≤ l .«write_count» + 1
+  pub low : closingSlot (l .phase) < slots
+  pub unheld : holds st (closingSlot (l .phase)) ≡ false
+
+pub shut-at : (st : Station) (l : Live) → closingRight st l ≡ true → Shut st l
+unfolding closingRight
+shut-at st l h = record {
+  keyed = leb-true _ _ (and-left _ _ (and-left _ _ (and-left _ _ (and-left _ _ h))));
+  clocked = leb-true _ _ (and-right _ _ (and-left _ _ (and-left _ _ (and-left _ _ h))));
+  within = leb-true _ _ (and-right _ _ (and-left _ _ (and-left _ _ h)));
+  low = ltb-true _ _ (and-right _ _ (and-left _ _ h));
+  unheld = not-true _ (and-right _ _ h);
+}
+
+pub shut-of : (st : Station) (l : Live) → Shut st l → closingRight st l ≡ true
+unfolding closingRight
+shut-of st l u =
+    and-intro _ _ (and-intro _ _ (and-intro _ _ (and-intro _ _ (le-leb _ _ (u .keyed)) (le-leb _ _ (u .clocked))) (le-leb _ _ (u .within))) (lt-ltb _ _ (u .low)))
+    (not-of-false _ (u .unheld))
+
+-- a place by its phase
+module _ (st : Station) (l : Live) where
+  no-live-txn : isNoLive l ≡ true → l .txn ≡ 0
+  unfolding isNoLive
+  no-live-txn h = eqb-true _ _ (and-left _ _ (and-left _ _ (and-left _ _ (and-left _ _ h))))
+
+  pub place-used : (p : Phase) → placeRight st p l ≡ true → l .txn ≢ 0 → Used (st .entries) l
+  unfolding placeRight
+  place-used Unused h n = absurd (n (no-live-txn h))
+  place-used Open h n = used-at _ l h
+  place-used (Closing d c k) h n = used-at _ l (and-left _ _ h)
+
+  pub closing-used : (p : Phase) → placeRight st p l ≡ true → isClosing p ≡ true → Used (st .entries) l
+  unfolding placeRight isClosing
+  closing-used Unused h e = absurd (false≢true e)
+  closing-used Open h e = absurd (false≢true e)
+  closing-used (Closing d c k) h e = used-at _ l (and-left _ _ h)
+
+  pub place-shut : (p : Phase) → placeRight st p l ≡ true → isClosing p ≡ true → Shut st l
+  unfolding placeRight isClosing
+  place-shut Unused h e = absurd (false≢true e)
+  place-shut Open h e = absurd (false≢true e)
+  place-shut (Closing d c k) h e = shut-at st l (and-right _ _ h)
+
+  pub place-is-open : (p : Phase) → placeRight st p l ≡ true → isClosing p ≡ false → l .txn ≢ 0 → p ≡ Open
+  unfolding placeRight isClosing
+  place-is-open Unused h e n = absurd (n (no-live-txn h))
+  place-is-open Open h e n = refl
+  place-is-open (Closing d c k) h e n = absurd (true≢false e)
+
+  pub place-open : (p : Phase) → p ≡ Open → Used (st .entries) l → placeRight st p l ≡ true
+  unfolding placeRight
+  place-open p e u = subst (λ (q : Phase). placeRight st q l ≡ true) (sym e) (used-of _ l u)
+
+  pub place-closing : (p : Phase) → isClosing p ≡ true → Used (st .entries) l → Shut st l → placeRight st p l ≡ true
+  unfolding placeRight isClosing
+  place-closing Unused e u s = absurd (false≢true e)
+  place-closing Open e u s = absurd (false≢true e)
+  place-closing (Closing d c k) e u s = and-intro _ _ (used-of _ l u) (shut-of st l s)
+
+  -- in another station: the reads still name entries, and a closing transaction's slot is not held
+  pub place-in : (st′ : Station) → ((r : Read) → List·Memᴰ r (readsOf l) → names (st .entries) r ≡ true → names (st′ .entries) r ≡ true)
+      → (p : Phase) → (isClosing p ≡ true → holds st (closingSlot (l .phase)) ≡ false → holds st′ (closingSlot (l .phase)) ≡ false)
+      → placeRight st p l ≡ true → placeRight st′ p l ≡ true
+  unfolding placeRight isClosing
+  place-in st′ f Unused g h = h
+  place-in st′ f Open g h = used-of _ l (used-in _ _ l f (used-at _ l h))
+  place-in st′ f (Closing d c k) g h = and-intro _ _ (used-of _ l (used-in _ _ l f (used-at _ l (and-left _ _ h)))) (shut-of st′ l (shut (shut-at st l (and-right _ _ h))))
+    where
+      shut : Shut st l → Shut st′ l
+      shut u = record { keyed = u .keyed; clocked = u .clocked; within = u .within; low = u .low; unheld = g refl (u .unheld) }
+
+-- ── one place set ──
+module _ (st : Station) (i : ℕ) (l : Live) where
+  pub placeRight-setLive : (p : Phase) (m : Live) → placeRight (setLive st i l) p m ≡ placeRight st p m
+  unfolding placeRight closingRight holds entryAt setLive
+  placeRight-setLive Unused m = refl
+  placeRight-setLive Open m = refl
+  placeRight-setLive (Closing d c n) m = refl
+
+  -- a place that is right, with a number and a slot that nothing else has
+  pub sound-setLive : Sound st → i < length (st .live) → placeRight st (l .phase) l ≡ true
+      → ((j : ℕ) → j ≢ i → l .txn ≢ 0 → (liveAt st j) .txn ≢ l .txn)
+      → ((d : ℕ) → l .txn ≢ 0 → l .txn ≢ (entryAt st d) .id .txn)
+      → ((j : ℕ) → j ≢ i → slotMark (l .phase) ≢ 0 → slotMark ((liveAt st j) .phase) ≢ slotMark (l .phase))
+      → Sound (setLive st i l)
+  sound-setLive s o right live held slot = record {
+    entry = λ d. rw (setLive-entry st i l d) (s .entry d);
+    place = λ j. rw (placeRight-setLive ((liveAt (setLive st i l) j) .phase) (liveAt (setLive st i l) j)) (setLive-at st i l (λ j m. placeRight st (m .phase) m ≡ true) o right (λ j n. s .place j) j);
+    liveOnce = once-set (λ j. (liveAt st j) .txn) _ i (λ j n. ap (λ (m : Live). m .txn) (liveAt-other st i l j n)) (s .liveOnce) (rw (liveAt-same st i l o) live);
+    heldOnce = once-by _ _ (λ d. ap (λ (e : Entry). e .id .txn) (sym (setLive-entry st i l d))) (s .heldOnce);
+    apart = λ j d. rw (setLive-entry st i l d) (setLive-at st i l (λ j m. m .txn ≢ 0 → m .txn ≢ (entryAt st d) .id .txn) o (held d) (λ j n. s .apart j d) j);
+    slotOnce = once-set (λ j. slotMark ((liveAt st j) .phase)) _ i (λ j n. ap (λ (m : Live). slotMark (m .phase)) (liveAt-other st i l j n)) (s .slotOnce) (rw (liveAt-same st i l o) slot);
+  }
+
+  -- with the number and the slot that the place had
+  pub sound-relive : Sound st → i < length (st .live) → placeRight st (l .phase) l ≡ true → l .txn ≡ (liveAt st i) .txn
+      → slotMark (l .phase) ≡ slotMark ((liveAt st i) .phase) → Sound (setLive st i l)
+  sound-relive s o right et es = sound-setLive s o right
+      (λ j n nz e. n (s .liveOnce j i (e ∙ et) (λ z. nz (sym e ∙ z))))
+      (λ d nz e. s .apart i d (λ z. nz (et ∙ z)) (sym et ∙ e))
+      (λ j n nz e. n (s .slotOnce j i (e ∙ es) (λ z. nz (sym e ∙ z))))
+
+-- a place made unused
+pub noLive-right : (st : Station) → placeRight st (noLive .phase) noLive ≡ true
+unfolding placeRight isNoLive isNoWrite isNoRead sameId _and_ all
+noLive-right st = refl
+
+pub sound-unlive : (st : Station) (i : ℕ) → Sound st → i < length (st .live) → Sound (setLive st i noLive)
+unfolding slotMark
+sound-unlive st i s o = sound-setLive st i noLive s o (noLive-right st) (λ j n nz e. nz refl) (λ d nz e. nz refl) (λ j n nz e. nz refl)
+
+-- ── one entry set ──
+module _ (st : Station) (d : ℕ) (e : Entry) where
+  -- past the end there is no slot to set
+  pub setEntry-out : length (st .entries) ≤ d → setEntry st d e ≡ st
+  unfolding setEntry
+  setEntry-out o = ap (λ (es : List Entry). record { live = st .live; entries = es }) (set-out (st .entries) d e o)
+
+  -- an entry that is right, with a number that nothing else has, where every place stays right
+  pub sound-setEntry : Sound st → d < length (st .entries) → entryRight e ≡ true
+      → ((i : ℕ) → placeRight (setEntry st d e) ((liveAt st i) .phase) (liveAt st i) ≡ true)
+      → ((c : ℕ) → c ≢ d → e .id .txn ≢ 0 → (entryAt st c) .id .txn ≢ e .id .txn)
+      → ((i : ℕ) → (liveAt st i) .txn ≢ 0 → (liveAt st i) .txn ≢ e .id .txn)
+      → Sound (setEntry st d e)
+  sound-setEntry s o right places held live = record {
+    entry = setEntry-at st d e (λ c f. entryRight f ≡ true) o right (λ c n. s .entry c);
+    place = λ i. rw (setEntry-live st d e i) (places i);
+    liveOnce = once-by _ _ (λ i. ap (λ (m : Live). m .txn) (sym (setEntry-live st d e i))) (s .liveOnce);
+    heldOnce = once-set (λ c. (entryAt st c) .id .txn) _ d (λ c n. ap (λ (f : Entry). f .id .txn) (entryAt-other st d e c n)) (s .heldOnce) (rw (entryAt-same st d e o) held);
+    apart = λ i. rw (setEntry-live st d e i) (λ c. setEntry-at st d e (λ c f. (liveAt st i) .txn ≢ 0 → (liveAt st i) .txn ≢ f .id .txn) o (live i) (λ c n. s .apart i c) c);
+    slotOnce = once-by _ _ (λ i. ap (λ (m : Live). slotMark (m .phase)) (sym (setEntry-live st d e i))) (s .slotOnce);
+  }
+
+-- ── write and read sets replaced ──
+module _ (ws : List Write) (l : Live) where
+  pub writesOf-withWrites : writesOf (withWrites ws l) ≡ ws
+  unfolding writesOf withWrites
+  writesOf-withWrites = padded-take noWrite writeLimit ws
+
+  pub readsOf-withWrites : readsOf (withWrites ws l) ≡ readsOf l
+  unfolding readsOf withWrites
+  readsOf-withWrites = refl
+
+  pub withWrites-sets : setsRight l ≡ true → ascending 0 keys (map writeKey ws) ≡ true → length ws ≤ writeLimit → setsRight (withWrites ws l) ≡ true
+  withWrites-sets h up o = sets-of (withWrites ws l) (unfold withWrites in o) (unfold withWrites in read-limit l h) (rw writesOf-withWrites up) (rw readsOf-withWrites (reads-ascending l h))
+
+  pub withWrites-zeros : zeroPastCounts l ≡ true → zeroPastCounts (withWrites ws l) ≡ true
+  unfolding withWrites
+  withWrites-zeros h = zeros-of (withWrites ws l) (rw (padded-drop noWrite writeLimit ws) (all-replicate isNoWrite (writeLimit - length ws) noWrite noWrite-zero)) (reads-zero l h)
+
+module _ (rs : List Read) (l : Live) where
+  pub readsOf-withReads : readsOf (withReads rs l) ≡ rs
+  unfolding readsOf withReads
+  readsOf-withReads = padded-take noRead readLimit rs
+
+  pub writesOf-withReads : writesOf (withReads rs l) ≡ writesOf l
+  unfolding writesOf withReads
+  writesOf-withReads = refl
+
+  pub withReads-sets : setsRight l ≡ true → ascending 0 keys (map readKey rs) ≡ true → length rs ≤ readLimit → setsRight (withReads rs l) ≡ true
+  withReads-sets h up o = sets-of (withReads rs l) (unfold withReads in write-limit l h) (unfold withReads in o) (rw writesOf-withReads (writes-ascending l h)) (rw readsOf-withReads up)
+
+  pub withReads-zeros : zeroPastCounts l ≡ true → zeroPastCounts (withReads rs l) ≡ true
+  unfolding withReads
+  withReads-zeros h = zeros-of (withReads rs l) (writes-zero l h) (rw (padded-drop noRead readLimit rs) (all-replicate isNoRead (readLimit - length rs) noRead noRead-zero))
+
+-- a key put into the write set, where there is room
+pub used-withWrite : (es : List Entry) (k v : ℕ) (l : Live) → Used es l → k < keys → (not (hasWritten k l) and leb writeLimit (l .«write_count»)) ≡ false
+    → Used es (withWrite k v l)
+unfolding withWrite hasWritten
+used-withWrite es k v l u o r = record {
+  numbered = unfold withWrites in u .numbered;
+  sets = withWrites-sets ws l (u .sets) (insert-ascending writeKey w 0 keys (writesOf l) (writes-ascending l (u .sets)) (omega arith) o)
+      (insert-fits writeKey w keys (l .«write_count») writeLimit (writesOf l) (writes-ascending l (u .sets)) (writes-length l) (write-limit l (u .sets)) r);
+  named = rw (readsOf-withWrites ws l) (u .named);
+  zeros = withWrites-zeros ws l (u .zeros);
+}
+  where
+    w : Write
+    w = record { key = k; value = v }
+
+    ws : List Write
+    ws = insert writeKey (record { key = k; value = v }) (writesOf l)
+
+-- a read joined to the read set, where there is room
+pub used-withRead : (es : List Entry) (k : ℕ) (i : Id) (l : Live) → Used es l → k < keys → (not (hasRead k l) and leb readLimit (l .«read_count»)) ≡ false
+    → wroteAs es i k ≡ true → Used es (withRead k i l)
+unfolding withRead hasRead names
+used-withRead es k i l u o r n = record {
+  numbered = unfold withReads in u .numbered;
+  sets = withReads-sets rs l (u .sets) (insert-ascending readKey q 0 keys (readsOf l) (reads-ascending l (u .sets)) (omega arith) o)
+      (insert-fits readKey q keys (l .«read_count») readLimit (readsOf l) (reads-ascending l (u .sets)) (reads-length l) (read-limit l (u .sets)) r);
+  named = rw (readsOf-withReads rs l) (insert-all readKey q (names es) (readsOf l) (u .named) n);
+  zeros = withReads-zeros rs l (u .zeros);
+}
+  where
+    q : Read
+    q = record { key = k; id = i }
+
+    rs : List Read
+    rs = insert readKey (record { key = k; id = i }) (readsOf l)
+
+-- ── entries ──
+noWrite-key : (w : Write) → isNoWrite w ≡ true → eqb 0 (w .key) ≡ true
+unfolding isNoWrite
+noWrite-key w h = eq-eqb 0 (w .key) (sym (eqb-true (w .key) 0 (and-left _ _ h)))
+
+-- the entry that a closing transaction becomes keeps the rules
+pub entryFor-rules : (st : Station) (es : List Entry) (l : Live) → Used es l → Shut st l → entryRules (entryFor l) ≡ true
+unfolding entryRules entryFor keysOf writesOf
+entryFor-rules st es l u s =
+    and-intro _ _ (and-intro _ _ (and-intro _ _ (and-intro _ _ (and-intro _ _
+    (le-leb _ _ (s .keyed)) (le-leb _ _ (write-limit l (u .sets)))) (le-leb 1 (l .txn) (omega (arith, u .numbered)))) (le-leb _ _ (s .clocked)))
+    (rw (take-map writeKey (l .«write_count») (l .writes)) (writes-ascending l (u .sets))))
+    (rw (drop-map writeKey (l .«write_count») (l .writes))
+    (all-map writeKey isNoWrite (eqb 0) noWrite-key (drop (l .«write_count») (l .writes)) (writes-zero l (u .zeros))))
+
+pub entryFor-sound : (st : Station) → Sound st → (i : ℕ) → isClosing ((liveAt st i) .phase) ≡ true → entryRules (entryFor (liveAt st i)) ≡ true
+entryFor-sound st s i c = entryFor-rules st (st .entries) (liveAt st i) (closing-used st (liveAt st i) _ (s .place i) c) (place-shut st (liveAt st i) _ (s .place i) c)
+
+pub entry-of-rules : (e : Entry) → entryRules e ≡ true → entryRight e ≡ true
+unfolding entryRight
+entry-of-rules e h = or-intro-right _ _ h
+
+-- a right entry with number 0 wrote nothing
+pub unheld-wrote : (e : Entry) → entryRight e ≡ true → e .id .txn ≡ 0 → (k : ℕ) → wrote e k ≡ false
+unfolding entryRight isNoEntry entryRules
+unheld-wrote e h z k = ⊎-elim
+    (λ n. none (eqb-true _ _ (and-right _ _ (and-left _ _ n))))
+    (λ n. absurd (lt-irrefl 0 (omega (arith, z, leb-true 1 (e .id .txn) (and-right _ _ (and-left _ _ (and-left _ _ (and-left _ _ n))))))))
+    (or-cases _ _ h)
+  where
+    none : e .count ≡ 0 → wrote e k ≡ false
+    none q = unfold wrote keysOf member any in rw q
+
+-- a read names what it named, where the entry that is replaced is none that it names
+pub names-setEntry : (st : Station) (d : ℕ) (e : Entry) (r : Read) → names (st .entries) r ≡ true
+    → (sameId ((entryAt st d) .id) (r .id) and wrote (entryAt st d) (r .key)) ≡ false → names ((setEntry st d e) .entries) r ≡ true
+unfolding names wroteAs setEntry entryAt
+names-setEntry st d e r h q = any-set (λ f. sameId (f .id) (r .id) and wrote f (r .key)) (st .entries) d e _ h q
