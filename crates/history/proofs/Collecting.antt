@@ -1,6 +1,6 @@
 -- collect keeps the invariant.
 use Prim.Native.Nat.{ℕ, _<_}
-use mathlib.Core.Path.{_≡_, refl, sym, ap, ap₂, subst, _∙_}
+use mathlib.Core.Path.{_≡_, refl, sym, ap, subst, _∙_}
 use mathlib.Core.Logic.{_≢_, inl, inr}
 use mathlib.Core.Bool.{true, false, true≢false, false≢true}
 use mathlib.Core.List.{List, _∷_, List·Permᴰ, List·Permᴰ·trans, Permᴰ·refl, Permᴰ·symm, List·Memᴰ}
@@ -28,16 +28,16 @@ use Rattle.model.proofs.Tests.{and-left, and-right, or-left, or-right}
 use Rattle.model.proofs.ListLaws.{all-at, any-finds, member-finds}
 use Rattle.model.proofs.IdLaws.{older-irrefl, older-trans}
 use Rattle.model.proofs.RecordLaws.{length-zero, with-length, record-elsewhere}
-use Rattle.model.proofs.SlotLaws.{committed-injective, seen-frame, seen-cleared}
+use Rattle.model.proofs.SlotLaws.{seen-frame, seen-cleared}
 use Rattle.model.proofs.ReadingLaws.{wrote-as, as-wrote}
 use Rattle.model.proofs.StationLaws.{entry-get, held-txn, setEntry-at, entryAt-same, entryAt-other, setEntry-live, setEntry-length}
 use Rattle.model.proofs.SoundLaws.{write-limit}
 use Rattle.model.proofs.SoundFacts.{one-slot, wrote-held, closing-facts}
 use Rattle.history.specs.Ledger.{Committed, Ledger, strike, feed}
 use Rattle.history.specs.CutRule.{committedIn, Wrote, Newer}
-use Rattle.history.proofs.Invariant.{guard, inStore, Slots, Dominated, Standing, Inv, Good, good-stores, unrefused}
+use Rattle.history.proofs.Invariant.{inStore, Slots, Dominated, Standing, Inv, Good, good-stores, row, unrefused}
 use Rattle.history.proofs.DraftLaws.{drafts-cast}
-use Rattle.history.proofs.CommittedLaws.{strike-perm, strike-none, strike-head, strike-keeps, strike-sub, holds-free, holds-committed, holds-frame, in-store, hold-one-more, stands-in, stands, committed-wrote, wrote-committed, committed-id}
+use Rattle.history.proofs.CommittedLaws.{strike-perm, strike-none, strike-head, strike-keeps, strike-sub, holds-free, holds-committed, holds-frame, in-store, hold-one-more, stands-in, stands, committed-wrote, wrote-committed, committed-id, stands-once}
 use Rattle.history.proofs.SlotOwners.{prepared-frame, entered, closing, not-free}
 
 noEntry-wrote : (k : ℕ) → wrote noEntry k ≡ false
@@ -126,10 +126,7 @@ module _ (st : Station) (s : List ℕ) (b : Ledger) (inv : Inv st s b) (h : soun
   -- it is the one standing transaction of its number
   only : (j : Committed) → List·Memᴰ j (b .standing) → j .id .txn ≡ E .id .txn → j ≡ J
   unfolding J
-  only j m e =
-      let r = stands-in s (b .standing) (inv .standing .found) j m in
-      let dd : r .0 ≡ d = sl .single (r .0) d (r .2) E (r .1) o (r .3) held-E (sym (ap (λ (x : Committed). x .id .txn) (r .4) ∙ ap (λ (i : Id). i .txn) (committed-id s (r .0) (r .2))) ∙ e) in
-      r .4 ∙ ap₂ (committedIn s) dd (committed-injective (r .2) E (sym (r .3) ∙ (ap (seen s) dd ∙ held-E)))
+  only j m e = stands-once s (b .standing) (inv .standing .found) (sl .single) j d E o held-E m e
 
   others : (j : Committed) → List·Memᴰ j (inStore s′) → j .id .txn ≢ E .id .txn
   others j m e =
@@ -200,11 +197,11 @@ module _ (st : Station) (s : List ℕ) (b : Ledger) (inv : Inv st s b) (h : soun
 pub collect-keeps : (st : Station) (s : List ℕ) (b : Ledger) (d : ℕ) → Inv st s b → sound st ≡ true → Good s b (Collect d) (collect st s d)
 unfolding collect feed
 collect-keeps st s b d inv h =
-    guard s b (Collect d) st _ 1 _ _ inv λ h1.
-    guard s b (Collect d) st _ 2 _ _ inv λ h2.
-    guard s b (Collect d) st _ 14 _ _ inv λ h14.
-    guard s b (Collect d) st _ 15 _ _ inv λ h15.
-    guard s b (Collect d) st _ 16 _ _ inv λ h16.
-    guard s b (Collect d) st _ 17 _ _ inv λ h17.
+    row s b (Collect d) st _ 1 _ _ inv λ h1.
+    row s b (Collect d) st _ 2 _ _ inv λ h2.
+    row s b (Collect d) st _ 14 _ _ inv λ h14.
+    row s b (Collect d) st _ 15 _ _ inv λ h15.
+    row s b (Collect d) st _ 16 _ _ inv λ h16.
+    row s b (Collect d) st _ 17 _ _ inv λ h17.
     unrefused s b (Collect d) st _ (good-stores s b (Collect d) _ _ st _ _ _ h inv
     (collected st s b inv h d (leb-false slots d (or-left _ _ h14)) (held-txn st d (not-false _ (or-right _ _ h14))) (not-false _ h15)))

@@ -1,6 +1,6 @@
 -- The transactions that stand in a store, slot by slot; and the list of standing ones.
 use Prim.Native.Nat.{ℕ, zero, suc, _+_, _<_, _≤_}
-use mathlib.Core.Path.{_≡_, refl, sym, ap, subst, _∙_, fun-ext}
+use mathlib.Core.Path.{_≡_, refl, sym, ap, ap₂, subst, _∙_, fun-ext}
 use mathlib.Core.Logic.{_≢_, ⊎-elim}
 use mathlib.Core.Bool.{Bool, true, false, cond}
 use mathlib.Core.List.{List, [], _∷_, _++_, map, List·Permᴰ, List·Permᴰ·nil, List·Permᴰ·cons, List·Permᴰ·swap, List·Permᴰ·trans, Permᴰ·refl, Permᴰ·symm, Permᴰ·middle, Permᴰ·append-left, List·Memᴰ, List·Memᴰ·head, List·Memᴰ·tail, List·Memᴰ·not-nil, List·Memᴰ·cases-cons, Memᴰ·append-left, Memᴰ·append-right, List·Memᴰ·append-cases, List·Memᴰ·eq-of-singleton}
@@ -11,6 +11,7 @@ use native.Mathlib.Nat.{lt-irrefl}
 use native.Mathlib.Decide.{ℕ-discrete}
 use native.Mathlib.Omega.{arith}
 use borrow.Author.Tests.{eqb-true, eq-eqb, ne-eqb}
+use Rattle.model.specs.declared.Id.{Id}
 use Rattle.model.specs.declared.Entry.{Entry}
 use Rattle.model.specs.Lists.{count, from, same}
 use Rattle.model.specs.Limits.{slots, writeLimit, width}
@@ -19,7 +20,7 @@ use Rattle.model.specs.Records.{valueIn, recordAt, recordOf}
 use Rattle.model.specs.Slots.{Seen, free, committed, damaged, seen}
 use Rattle.model.specs.Scan.{slotsSeen, entrySeen}
 use Rattle.model.specs.Answers.{values}
-use Rattle.model.proofs.SlotLaws.{rules-count, rules-txn, record-of-low, seen-frame, committed-rules}
+use Rattle.model.proofs.SlotLaws.{rules-count, rules-txn, record-of-low, committed-injective, seen-frame, committed-rules}
 use Rattle.history.specs.Ledger.{Committed, at, strike}
 use Rattle.history.specs.CutRule.{committedIn, committedHere, committedFound, Wrote}
 use Rattle.history.proofs.Invariant.{inStore}
@@ -210,3 +211,12 @@ wrote-committed s d e k h = rw h
 pub committed-id : (s : List ℕ) (d : ℕ) (e : Entry) → committedIn s d e .id ≡ e .id
 unfolding committedIn
 committed-id s d e = refl
+
+-- where numbers stand in one slot each, a standing transaction with a committed slot's number is that slot's
+pub stands-once : (s : List ℕ) (b : List Committed) → List·Permᴰ (inStore s) b
+    → ((d d′ : ℕ) (e e′ : Entry) → d < slots → d′ < slots → seen s d ≡ committed e → seen s d′ ≡ committed e′ → e .id .txn ≡ e′ .id .txn → d ≡ d′)
+    → (j : Committed) (d : ℕ) (e : Entry) → d < slots → seen s d ≡ committed e → List·Memᴰ j b → j .id .txn ≡ e .id .txn → j ≡ committedIn s d e
+stands-once s b p single j d e o h m et =
+    let r = stands-in s b p j m in
+    let dd : r .0 ≡ d = single (r .0) d (r .2) e (r .1) o (r .3) h (sym (ap (λ (x : Committed). x .id .txn) (r .4) ∙ ap (λ (i : Id). i .txn) (committed-id s (r .0) (r .2))) ∙ et) in
+    r .4 ∙ ap₂ (committedIn s) dd (committed-injective (r .2) e (sym (r .3) ∙ (ap (seen s) dd ∙ h)))

@@ -29,7 +29,7 @@ use Rattle.model.proofs.StationLaws.{place-hit, unheld-txn, closing-same, marke
 use Rattle.model.proofs.SoundFacts.{held-not-live}
 use Rattle.history.specs.Ledger.{Draft, Ledger, onDraft, withDraft, feed}
 use Rattle.history.specs.Matches.{Matches}
-use Rattle.history.proofs.Invariant.{guard, Prepared, Slots, Ranges, Inv, Good, good-says, unrefused, choice}
+use Rattle.history.proofs.Invariant.{Prepared, Slots, Ranges, Inv, Good, good-says, row, unrefused, choice}
 use Rattle.history.proofs.DraftLaws.{drafts-without, drafts-revised}
 use Rattle.history.proofs.LiveLaws.{slots-set, reads-set, ranges-set, cleared}
 
@@ -106,12 +106,12 @@ retried st s b t inv h hh = record {
 pub commit-keeps : (st : Station) (s : List ℕ) (b : Ledger) (t c : ℕ) → Inv st s b → sound st ≡ true → c < numberRange → Good s b (Commit t c) (commit st t c)
 unfolding commit feed txnOf numberOf clockFor highestFree
 commit-keeps st s b t c inv h oc =
-    guard s b (Commit t c) st _ 2 _ _ inv λ h2.
-    guard s b (Commit t c) st _ 3 _ _ inv λ h3.
-    guard s b (Commit t c) st _ 5 _ _ inv λ h5.
-    guard s b (Commit t c) st _ 8 _ _ inv λ h8.
-    guard s b (Commit t c) st _ 9 _ _ inv λ h9.
-    guard s b (Commit t c) st _ 13 _ _ inv λ h13.
+    row s b (Commit t c) st _ 2 _ _ inv λ h2.
+    row s b (Commit t c) st _ 3 _ _ inv λ h3.
+    row s b (Commit t c) st _ 5 _ _ inv λ h5.
+    row s b (Commit t c) st _ 8 _ _ inv λ h8.
+    row s b (Commit t c) st _ 9 _ _ inv λ h9.
+    row s b (Commit t c) st _ 13 _ _ inv λ h13.
     unrefused s b (Commit t c) st _
     (choice s b (Commit t c) _ _ _ (λ hh. good-says s b (Commit t c) _ _ (retried st s b t inv h hh)) λ hh.
     choice s b (Commit t c) _ _ _ (λ hw. good-says s b (Commit t c) _ _ (cleared st s b inv h t (live hh h8) h9)) λ hw.

@@ -1,6 +1,6 @@
 -- What holds of station, store and ledger between the calls of a history: five parts, of which a call proves only what it touches.
 use Prim.Native.Nat.{ℕ, suc, _<_, _≤_}
-use mathlib.Core.Path.{_≡_, refl}
+use mathlib.Core.Path.{_≡_}
 use mathlib.Core.Logic.{_≢_, _⊎_}
 use mathlib.Core.Bool.{Bool, true, false, cond}
 use mathlib.Core.List.{List, [], _∷_, map, List·Permᴰ, List·Memᴰ}
@@ -26,6 +26,7 @@ use Rattle.model.specs.Step.{entryFor}
 use Rattle.model.specs.Scan.{slotsSeen, entrySeen}
 use Rattle.model.specs.Calls.{Call}
 use Rattle.model.specs.Answers.{values}
+use Rattle.model.proofs.RefusalLaws.{guard, unguarded, cond-rule}
 use Rattle.model.proofs.StationLaws.{marked}
 use Rattle.history.specs.Ledger.{Committed, Ledger, feed}
 use Rattle.history.specs.CutRule.{committedFound, Wrote, Newer}
@@ -103,15 +104,12 @@ module _ (s : List ℕ) (b : Ledger) (c : Call) where
   good-stores a st st₀ d n r h old inv = record { after = inv; before = λ m o. let z : m ≡ 0 = omega arith in rw z (st₀, h, old) }
 
   -- a refusal alters nothing, and where the row does not apply the rest counts
-  pub guard : (st : Station) (t : Bool) (n : ℕ) (rs : List Row) (e : Effect) → Inv st s b → (t ≡ false → Good s b c (refusals rs st e)) → Good s b c (refusals (n when t ∷ rs) st e)
-  unfolding refusals
-  guard st true n rs e inv f = good-says (A.Refused n 0) st (unfold feed in inv)
-  guard st false n rs e inv f = f refl
+  pub row : (st : Station) (t : Bool) (n : ℕ) (rs : List Row) (e : Effect) → Inv st s b → (t ≡ false → Good s b c (refusals rs st e)) → Good s b c (refusals (n when t ∷ rs) st e)
+  unfolding feed
+  row st t n rs e inv f = guard (Good s b c) n t rs st e (good-says (A.Refused n 0) st inv) f
 
   pub unrefused : (st : Station) (e : Effect) → Good s b c e → Good s b c (refusals [] st e)
-  unfolding refusals
-  unrefused st e g = g
+  unrefused st e g = unguarded (Good s b c) st e g
 
   pub choice : (t : Bool) (x y : Effect) → (t ≡ true → Good s b c x) → (t ≡ false → Good s b c y) → Good s b c (cond t x y)
-  choice true x y f g = f refl
-  choice false x y f g = g refl
+  choice t x y f g = cond-rule (Good s b c) t x y f g

@@ -32,7 +32,7 @@ use Rattle.model.proofs.SoundLaws.{write-limit, writes-ascending, writes-length
 use Rattle.model.proofs.SoundFacts.{live-facts, unused-open}
 use Rattle.history.specs.Ledger.{Draft, Ledger, at, onDraft, withDraft, feed}
 use Rattle.history.specs.Matches.{lookup, Matches}
-use Rattle.history.proofs.Invariant.{guard, Ranges, Inv, Good, good-says, unrefused}
+use Rattle.history.proofs.Invariant.{Ranges, Inv, Good, good-says, row, unrefused}
 use Rattle.history.proofs.DraftLaws.{some-inj, drafts-set, drafts-revised}
 use Rattle.history.proofs.LiveLaws.{slots-set, reads-set, ranges-set, cleared}
 
@@ -85,10 +85,10 @@ started st s b t inv h o n nl z = record {
 pub start-keeps : (st : Station) (s : List ℕ) (b : Ledger) (t : ℕ) → Inv st s b → sound st ≡ true → t < txnRange → Good s b (Start t) (start st t)
 unfolding start feed txnOf
 start-keeps st s b t inv h o =
-    guard s b (Start t) st _ 2 _ _ inv λ h2.
-    guard s b (Start t) st _ 3 _ _ inv λ h3.
-    guard s b (Start t) st _ 6 _ _ inv λ h6.
-    guard s b (Start t) st _ 7 _ _ inv λ h7.
+    row s b (Start t) st _ 2 _ _ inv λ h2.
+    row s b (Start t) st _ 3 _ _ inv λ h3.
+    row s b (Start t) st _ 6 _ _ inv λ h6.
+    row s b (Start t) st _ 7 _ _ inv λ h7.
     unrefused s b (Start t) st _ (good-says s b (Start t) A.Started _
     (started st s b t inv h o (eqb-false t 0 h3) (or-left _ _ h6) (not-false _ h7)))
 
@@ -96,10 +96,10 @@ start-keeps st s b t inv h o =
 pub abort-keeps : (st : Station) (s : List ℕ) (b : Ledger) (t : ℕ) → Inv st s b → sound st ≡ true → Good s b (Abort t) (abort st t)
 unfolding abort feed txnOf
 abort-keeps st s b t inv h =
-    guard s b (Abort t) st _ 2 _ _ inv λ h2.
-    guard s b (Abort t) st _ 3 _ _ inv λ h3.
-    guard s b (Abort t) st _ 8 _ _ inv λ h8.
-    guard s b (Abort t) st _ 9 _ _ inv λ h9.
+    row s b (Abort t) st _ 2 _ _ inv λ h2.
+    row s b (Abort t) st _ 3 _ _ inv λ h3.
+    row s b (Abort t) st _ 8 _ _ inv λ h8.
+    row s b (Abort t) st _ 9 _ _ inv λ h9.
     unrefused s b (Abort t) st _ (good-says s b (Abort t) A.Dropped _ (cleared st s b inv h t (not-false _ h8) h9))
 
 -- ── put ──
@@ -189,10 +189,10 @@ kept st s b t k v inv h o n z nc h11 = record {
 pub put-keeps : (st : Station) (s : List ℕ) (b : Ledger) (t k v : ℕ) → Inv st s b → sound st ≡ true → v < numberRange → Good s b (Put t k v) (put st t k v)
 unfolding put feed txnOf keyOf numberOf
 put-keeps st s b t k v inv h o =
-    guard s b (Put t k v) st _ 2 _ _ inv λ h2.
-    guard s b (Put t k v) st _ 3 _ _ inv λ h3.
-    guard s b (Put t k v) st _ 4 _ _ inv λ h4.
-    guard s b (Put t k v) st _ 8 _ _ inv λ h8.
-    guard s b (Put t k v) st _ 9 _ _ inv λ h9.
-    guard s b (Put t k v) st _ 11 _ _ inv λ h11.
+    row s b (Put t k v) st _ 2 _ _ inv λ h2.
+    row s b (Put t k v) st _ 3 _ _ inv λ h3.
+    row s b (Put t k v) st _ 4 _ _ inv λ h4.
+    row s b (Put t k v) st _ 8 _ _ inv λ h8.
+    row s b (Put t k v) st _ 9 _ _ inv λ h9.
+    row s b (Put t k v) st _ 11 _ _ inv λ h11.
     unrefused s b (Put t k v) st _ (good-says s b (Put t k v) A.Kept _ (kept st s b t k v inv h o (eqb-false t 0 h3) (not-false _ h8) h9 h11))

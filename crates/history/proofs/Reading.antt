@@ -30,7 +30,7 @@ use Rattle.model.proofs.SoundLaws.{readsOf-withReads}
 use Rattle.model.proofs.SoundFacts.{one-slot, wrote-held, live-facts, unused-reads}
 use Rattle.history.specs.Ledger.{Draft, Ledger, onDraft, feed}
 use Rattle.history.specs.Matches.{Matches}
-use Rattle.history.proofs.Invariant.{guard, Ranges, Inv, Good, good-says, unrefused}
+use Rattle.history.proofs.Invariant.{Ranges, Inv, Good, good-says, row, unrefused}
 use Rattle.history.proofs.DraftLaws.{drafts-revised}
 use Rattle.history.proofs.LiveLaws.{slots-set, reads-set, ranges-set}
 
@@ -129,14 +129,14 @@ module _ (st : Station) (s : List ℕ) (b : Ledger) (inv : Inv st s b) (h : soun
 pub get-keeps : (st : Station) (s : List ℕ) (b : Ledger) (t k : ℕ) → Inv st s b → sound st ≡ true → Good s b (Get t k) (get st s t k)
 unfolding get
 get-keeps st s b t k inv h =
-    guard s b (Get t k) st _ 1 _ _ inv λ h1.
-    guard s b (Get t k) st _ 2 _ _ inv λ h2.
-    guard s b (Get t k) st _ 3 _ _ inv λ h3.
-    guard s b (Get t k) st _ 4 _ _ inv λ h4.
-    guard s b (Get t k) st _ 8 _ _ inv λ h8.
-    guard s b (Get t k) st _ 9 _ _ inv λ h9.
-    guard s b (Get t k) st _ 12 _ _ inv λ h12.
-    guard s b (Get t k) st _ 17 _ _ inv λ h17.
+    row s b (Get t k) st _ 1 _ _ inv λ h1.
+    row s b (Get t k) st _ 2 _ _ inv λ h2.
+    row s b (Get t k) st _ 3 _ _ inv λ h3.
+    row s b (Get t k) st _ 4 _ _ inv λ h4.
+    row s b (Get t k) st _ 8 _ _ inv λ h8.
+    row s b (Get t k) st _ 9 _ _ inv λ h9.
+    row s b (Get t k) st _ 12 _ _ inv λ h12.
+    row s b (Get t k) st _ 17 _ _ inv λ h17.
     unrefused s b (Get t k) st _ (by-choice (eqb-false t 0 h3) (not-false _ h8) h9 (choiceOf st (liveAt st (placeOf t st)) k) refl)
   where
     by-choice : t ≢ 0 → isLive t st ≡ true → isClosing (liveAt st (placeOf t st) .phase) ≡ false

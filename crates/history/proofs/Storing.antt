@@ -43,7 +43,7 @@ use Rattle.model.proofs.SoundFacts.{live-not-held, one-closing, IsClosing, clos
 use Rattle.history.specs.Ledger.{Draft, Committed, Ledger, at, withDraft, committedFrom, feed}
 use Rattle.history.specs.CutRule.{committedIn}
 use Rattle.history.specs.Matches.{lookup, Matches}
-use Rattle.history.proofs.Invariant.{guard, inStore, nth, Prepared, Slots, Dominated, Standing, Ranges, Inv, Good, good-says, good-stores, unrefused, choice}
+use Rattle.history.proofs.Invariant.{inStore, nth, Prepared, Slots, Dominated, Standing, Ranges, Inv, Good, good-says, good-stores, row, unrefused, choice}
 use Rattle.history.proofs.DraftLaws.{draft-of, matches-at, drafts-cast, drafts-same, drafts-cleared}
 use Rattle.history.proofs.LiveLaws.{reads-set, ranges-set, noLive-open, noLive-reads, noLive-ranges}
 use Rattle.history.proofs.Committing.{phase-ranges, phase-reads, phase-of, txn-of}
@@ -401,9 +401,9 @@ by-phase st s b t inv h nz z (Closing d c n) q _ =
 pub step-keeps : (st : Station) (s : List ℕ) (b : Ledger) (t : ℕ) → Inv st s b → sound st ≡ true → Good s b (Step t) (step st s t)
 unfolding step
 step-keeps st s b t inv h =
-    guard s b (Step t) st _ 1 _ _ inv λ h1.
-    guard s b (Step t) st _ 2 _ _ inv λ h2.
-    guard s b (Step t) st _ 3 _ _ inv λ h3.
-    guard s b (Step t) st _ 8 _ _ inv λ h8.
-    guard s b (Step t) st _ 10 _ _ inv λ h10.
+    row s b (Step t) st _ 1 _ _ inv λ h1.
+    row s b (Step t) st _ 2 _ _ inv λ h2.
+    row s b (Step t) st _ 3 _ _ inv λ h3.
+    row s b (Step t) st _ 8 _ _ inv λ h8.
+    row s b (Step t) st _ 10 _ _ inv λ h10.
     unrefused s b (Step t) st _ (by-phase st s b t inv h (eqb-false t 0 h3) (not-false _ h8) (liveAt st (placeOf t st) .phase) refl (not-false _ h10))

@@ -1,15 +1,29 @@
 -- What a get is answered from, in a station.
 use Prim.Native.Nat.{ℕ, _<_}
-use mathlib.Core.Path.{_≡_, sym, subst}
+use mathlib.Core.Path.{_≡_, refl, sym, ap, subst, _∙_}
 use mathlib.Core.Bool.{Bool, true, false, cond}
-use lib.ListN.{length}
+use mathlib.Core.List.{List, [], _∷_, map}
+use lib.Dec.{eqb}
+use lib.ListN.{length, getD}
+use native.Mathlib.Nat.{lt-irrefl}
 use native.Mathlib.Omega.{arith}
+use borrow.Author.Tests.{eq-eqb, ne-eqb}
+use Rattle.model.specs.declared.Id.{Id}
+use Rattle.model.specs.declared.Write.{Write}
 use Rattle.model.specs.declared.Live.{Live}
 use Rattle.model.specs.declared.Entry.{Entry}
 use Rattle.model.specs.declared.Station.{Station}
-use Rattle.model.specs.Stations.{writesOf, readsOf, wrote, wroteAs, hasWritten, valueUnder, entryAt}
-use Rattle.model.specs.Reading.{passes, own, version, choose}
-use Rattle.model.specs.Get.{choiceOf}
+use Rattle.model.specs.declared.Answer.the-variants as A
+use Rattle.model.specs.Lists.{all, first, insert, member}
+use Rattle.model.specs.Stations.{noWrite, writesOf, readsOf, wrote, wroteAs, writeKey, hasWritten, valueUnder, liveAt, entryAt, placeOf}
+use Rattle.model.specs.Records.{valueIn}
+use Rattle.model.specs.Reading.{passes, Choice, own, absent, nofit, version, choose}
+use Rattle.model.specs.Effects.{Effect, says}
+use Rattle.model.specs.Get.{choiceOf, versionAt, answered, get}
+use Rattle.model.specs.Answers.{refusedWith}
+use Rattle.model.proofs.ListLaws.{first-yes, first-no, member-yes, member-no}
+use Rattle.model.proofs.InsertLaws.{insert-rule}
+use Rattle.model.proofs.RefusalLaws.{accepted}
 use Rattle.model.proofs.ReadingLaws.{version-is, passes-wrote, as-wrote}
 use Rattle.model.proofs.StationLaws.{entry-get}
 
@@ -33,3 +47,36 @@ version-wrote st l k d e =
     let r = version-entry st l k d e in
     subst (λ (x : Entry). wroteAs (st .entries) (x .id) k ≡ true) (entry-get st d (r .0))
     (as-wrote (st .entries) k d (r .0) (subst (λ (x : Entry). wrote x k ≡ true) (sym (entry-get st d (r .0))) (r .1)))
+
+-- ── only entries are read ──
+-- a get that answers a version: the choice is a version, and the answer its value and id
+answered-version : (st : Station) (s : List ℕ) (i k : ℕ) (ch : Choice) (v : ℕ) (x : Id) → answered st s i k ch .answer ≡ A.Version v x
+    → (d : ℕ) × (ch ≡ version d) × (v ≡ valueIn (versionAt st s k d)) × (x ≡ entryAt st d .id)
+unfolding answered says
+answered-version st s i k (own u) v x h = let z : _≡_ {A = ℕ} 0 1 = cc in absurd (omega arith)
+answered-version st s i k absent v x h = let z : _≡_ {A = ℕ} 0 1 = cc in absurd (omega arith)
+answered-version st s i k nofit v x h = let z : _≡_ {A = ℕ} 0 1 = cc in absurd (omega arith)
+answered-version st s i k (version d) v x h = (d, refl, cc, cc)
+
+pub get-version : (st : Station) (s : List ℕ) (t k v : ℕ) (x : Id) → get st s t k .answer ≡ A.Version v x
+    → (d : ℕ) × (choiceOf st (liveAt st (placeOf t st)) k ≡ version d) × (v ≡ valueIn (versionAt st s k d)) × (x ≡ entryAt st d .id)
+unfolding get all
+get-version st s t k v x h =
+    let r = accepted _ st _ refl (ap refusedWith h ∙ (unfold refusedWith in refl)) in
+    answered-version st s (placeOf t st) k _ v x (sym (ap (λ (e : Effect). e .answer) (r .1)) ∙ h)
+
+-- ── read your writes (§3.5): a get of a key just put answers its value ──
+pub value-inserted : (k v : ℕ) (ws : List Write) → valueUnder k (insert writeKey (record { key = k; value = v }) ws) ≡ v
+unfolding valueUnder
+value-inserted k v [] = unfold insert in ap (λ (n : ℕ). getD (record { key = k; value = v } ∷ []) n noWrite .value) (first-yes (eqb k) k [] (eq-eqb k k refl))
+value-inserted k v (w ∷ ws) = insert-rule writeKey (record { key = k; value = v }) (λ l. getD l (first (eqb k) (map writeKey l)) noWrite .value ≡ v) w ws
+    (λ o. rw (first-no (eqb k) (w .key) _ (ne-eqb k (w .key) (λ e. lt-irrefl k (omega (arith, o, e))))) (value-inserted k v ws))
+    (λ e. rw (first-yes (eqb k) k (map writeKey ws) (eq-eqb k k refl)))
+    (λ o. rw (first-yes (eqb k) k (w .key ∷ map writeKey ws) (eq-eqb k k refl)))
+
+pub member-inserted : (k v : ℕ) (ws : List Write) → member k (map writeKey (insert writeKey (record { key = k; value = v }) ws)) ≡ true
+member-inserted k v [] = unfold insert in member-yes k k [] (eq-eqb k k refl)
+member-inserted k v (w ∷ ws) = insert-rule writeKey (record { key = k; value = v }) (λ l. member k (map writeKey l) ≡ true) w ws
+    (λ o. member-no k (w .key) _ (ne-eqb k (w .key) (λ e. lt-irrefl k (omega (arith, o, e)))) ∙ member-inserted k v ws)
+    (λ e. member-yes k k (map writeKey ws) (eq-eqb k k refl))
+    (λ o. member-yes k k (w .key ∷ map writeKey ws) (eq-eqb k k refl))

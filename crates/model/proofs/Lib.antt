@@ -13,5 +13,6 @@ pub mod GetLaws
 pub mod SoundLaws
 pub mod SoundFacts
 pub mod SoundKept
+pub mod ReadYourWrites
 pub mod BenchTable
 pub mod RunSheet

@@ -1,0 +1,181 @@
+-- What the cut rule comes to, in the paper's words.
+use Prim.Native.Nat.{ℕ, _<_}
+use mathlib.Core.Path.{_≡_, refl, sym, ap, subst, _∙_}
+use mathlib.Core.Logic.{_≢_, ⊎-elim}
+use mathlib.Core.Bool.{Bool, true, false, cond, false≢true}
+use mathlib.Core.List.{List, [], _∷_, _++_, List·Memᴰ, Memᴰ·append-right}
+use mathlib.Core.Option.{some}
+use lib.Dec.{eqb, ltb, leb}
+use lib.ListN.{length}
+use native.Mathlib.Omega.{arith}
+use borrow.Author.Tests.{ltb-false, eqb-false, not-false}
+use Rattle.model.specs.declared.Id.{Id}
+use Rattle.model.specs.declared.Read.{Read}
+use Rattle.model.specs.declared.Live.{Live}
+use Rattle.model.specs.declared.Station.{Station}
+use Rattle.model.specs.declared.Phase.{Phase}
+use Rattle.model.specs.declared.Phase.the-variants.{Unused, Open, Closing}
+use Rattle.model.specs.declared.Answer.{Answer}
+use Rattle.model.specs.declared.Answer.the-variants as A
+use Rattle.model.specs.Lists.{all, count}
+use Rattle.model.specs.Limits.{slots}
+use Rattle.model.specs.Ids.{older}
+use Rattle.model.specs.Stations.{isClosing, closingSlot, recordsStored, liveAt, entryAt, isHeld, placeOf, slotOf}
+use Rattle.model.specs.Reading.{newest}
+use Rattle.model.specs.Effects.{Effect, says, saysStoring}
+use Rattle.model.specs.Get.{versionAt}
+use Rattle.model.specs.Commit.{commit}
+use Rattle.model.specs.Step.{entryFor, stepped, step}
+use Rattle.model.specs.Calls.{Call, Get, Commit, Step, Scan, does, txnOf}
+use Rattle.model.specs.Answers.{refusedWith, values}
+use Rattle.model.proofs.Tests.{bool-cases}
+use Rattle.model.proofs.RefusalLaws.{accepted, row-off}
+use Rattle.model.proofs.StationLaws.{slot-hit, entry-in, marked}
+use Rattle.model.proofs.GetLaws.{version-entry, get-version}
+use Rattle.model.proofs.SoundFacts.{wrote-held}
+use Rattle.history.specs.Ledger.{Draft, Committed, Ledger, onDraft, withDraft, committedFrom, feed}
+use Rattle.history.specs.Histories.{Event, called, cut, World, begin, afterCall, cutLedger, restarted, next, run, AllInRange}
+use Rattle.history.specs.CutRule.{committedIn, Wrote}
+use Rattle.history.proofs.Invariant.{Prepared, Inv}
+use Rattle.history.proofs.CommittedLaws.{stands, wrote-committed, committed-id, stands-once}
+use Rattle.history.proofs.SlotOwners.{entered, closing}
+use Rattle.history.proofs.Theorem.{history-keeps, cut-rule}
+
+-- ── no dirty read: a version that a get answers is a committed transaction's, which stands, under that key with that value ──
+pub no-dirty-read : (vs : List Event) → AllInRange vs → (t k v : ℕ) (i : Id)
+    → does (Get t k) (run vs begin .station) (run vs begin .store) .answer ≡ A.Version v i
+    → (j : Committed) × List·Memᴰ j (run vs begin .ledger .standing) × (j .id ≡ i) × (j .values k ≡ some v)
+unfolding does versionAt
+no-dirty-read vs f t k v i h =
+    let w = history-keeps vs f in
+    let st = run vs begin .station in
+    let s = run vs begin .store in
+    let g = get-version st s t k v i h in
+    let r = version-entry st (liveAt st (placeOf t st)) k (g .0) (g .1) in
+    let e = entryAt st (g .0) in
+    (committedIn s (g .0) e,
+      stands s _ (w .1 .standing .found) (g .0) e (omega (arith, r .0, w .1 .slots .count)) (w .1 .slots .entered (g .0) (wrote-held st (w .0) (g .0) k (r .1))),
+      committed-id s (g .0) e ∙ sym (g .3),
+      wrote-committed s (g .0) e k (r .1) ∙ ap some (sym (g .2)))
+
+-- ── no fractured read: of a transaction's two reads, one of a version whose transaction also wrote the other's key, the other is not older ──
+pub no-fractured-read : (vs : List Event) → AllInRange vs → (t : ℕ) (p : Draft) → run vs begin .ledger .drafts t ≡ some p
+    → (r q : Read) → List·Memᴰ r (p .reads) → List·Memᴰ q (p .reads)
+    → (j : Committed) → List·Memᴰ j (run vs begin .ledger .standing) → j .id ≡ r .id → Wrote j (q .key) → older (q .id) (r .id) ≡ false
+no-fractured-read vs f t p e r q mr mq j mj ej w =
+    ⊎-elim (λ y. absurd (cut-rule vs f .atomic t p r q j e mr mq mj ej w y)) (λ y. y) (bool-cases (older (q .id) (r .id)))
+
+-- ── acknowledged means durable ──
+-- a transaction that is past stays past
+past-fed : (a : Answer) (c : Call) (b : Ledger) (j : Committed) → List·Memᴰ j (b .past) → List·Memᴰ j (feed a c b .past)
+unfolding feed onDraft withDraft
+past-fed A.Started c b j m = m
+past-fed A.Kept c b j m = m
+past-fed (A.Own v) c b j m = m
+past-fed (A.Version v i) c b j m = m
+past-fed A.None c b j m = m
+past-fed A.Nofit c b j m = m
+past-fed (A.Closing d) c b j m = m
+past-fed A.Empty c b j m = m
+past-fed (A.Done i) c b j m = m
+past-fed (A.Stored k) c b j m = m
+past-fed (A.Slipped d) c b j m = Memᴰ·append-right (committedFrom (txnOf c) (b .drafts (txnOf c))) m
+past-fed A.Dropped c b j m = m
+past-fed (A.Collected i) c b j m = m
+past-fed (A.Found n) c b j m = m
+past-fed (A.Refused n d) c b j m = m
+
+past-next : (v : Event) (w : World) (j : Committed) → List·Memᴰ j (w .ledger .past) → List·Memᴰ j (next v w .ledger .past)
+unfolding next afterCall restarted cutLedger
+past-next (called c) w j m = past-fed _ c (w .ledger) j m
+past-next (cut c n) w j m = past-fed _ Scan _ j (fed (leb (length (does c (w .station) (w .store) .stores)) n))
+  where
+    fed : (y : Bool) → List·Memᴰ j (cond y (feed (does c (w .station) (w .store) .answer) c (w .ledger)) (w .ledger) .past)
+    fed true = past-fed _ c (w .ledger) j m
+    fed false = m
+
+past-run : (us : List Event) (w : World) (j : Committed) → List·Memᴰ j (w .ledger .past) → List·Memᴰ j (run us w .ledger .past)
+unfolding run
+past-run [] w j m = m
+past-run (u ∷ us) w j m = past-run us (next u w) j (past-next u w j m)
+
+run-after : (vs us : List Event) (w : World) → run (vs ++ us) w ≡ run us (run vs w)
+unfolding run
+run-after [] us w = refl
+run-after (v ∷ vs) us w = run-after vs us (next v w)
+
+-- whatever comes later, cuts included: on each key of a past transaction a standing one that is not older is found
+pub durable : (vs us : List Event) → AllInRange (vs ++ us) → (j : Committed) → List·Memᴰ j (run vs begin .ledger .past) → (k : ℕ) → Wrote j k
+    → (i : Committed) × List·Memᴰ i (run (vs ++ us) begin .ledger .standing) × Wrote i k × (older (i .id) (j .id) ≡ false)
+durable vs us f j m k w =
+    let m′ : List·Memᴰ j (run (vs ++ us) begin .ledger .past) = subst (λ (x : World). List·Memᴰ j (x .ledger .past)) (sym (run-after vs us begin)) (past-run us (run vs begin) j m) in
+    let r = cut-rule (vs ++ us) f .newest k j m′ w in
+    (r .0, r .1, r .2, ⊎-elim (λ y. absurd (r .3 j m′ w y)) (λ y. y) (bool-cases (older (r .0 .id) (j .id))))
+
+-- of a step's three answers done is the third
+last : (x y : Bool) (k d : ℕ) (one two three : Effect) (a i : Id) → one .answer ≡ A.Stored k → two .answer ≡ A.Slipped d → three .answer ≡ A.Done a
+    → cond x one (cond y two three) .answer ≡ A.Done i → (x ≡ false) × (y ≡ false) × (a ≡ i)
+last true y k d one two three a i e₁ e₂ e₃ h = let z : _≡_ {A = ℕ} 0 1 = cc in absurd (omega arith)
+last false true k d one two three a i e₁ e₂ e₃ h = let z : _≡_ {A = ℕ} 0 1 = cc in absurd (omega arith)
+last false false k d one two three a i e₁ e₂ e₃ h = (refl, refl, cc)
+
+-- an acknowledging step answers done: its transaction stands in the store
+done-stands : (st : Station) (s : List ℕ) (b : Ledger) → Inv st s b → (t : ℕ) (i : Id) (p : Phase) → liveAt st (placeOf t st) .phase ≡ p → isClosing p ≡ true
+    → stepped st (placeOf t st) (liveAt st (placeOf t st)) p .answer ≡ A.Done i → (j : Committed) × List·Memᴰ j (b .standing) × (j .id ≡ i)
+unfolding stepped isClosing recordsStored closingSlot saysStoring says
+done-stands st s b inv t i Unused q c h = absurd (false≢true c)
+done-stands st s b inv t i Open q c h = absurd (false≢true c)
+done-stands st s b inv t i (Closing d c n) q _ h =
+    let r = last (ltb n (l .«write_count»)) (eqb n (l .«write_count»)) _ d _ _ _ (entryFor l .id) i refl refl refl h in
+    let full : l .«write_count» < n = omega (arith, ltb-false n (l .«write_count») (r .0), eqb-false n (l .«write_count») (r .1)) in
+    (committedIn s d (entryFor l), stands s (b .standing) (inv .standing .found) d (entryFor l) (pr .low) (pr .marked full), committed-id s d (entryFor l) ∙ r .2)
+  where
+    l : Live
+    l = liveAt st (placeOf t st)
+
+    pr : Prepared s (liveAt st (placeOf t st)) d c n
+    pr = inv .slots .closing (placeOf t st) d c n q
+
+pub acknowledged-stands : (vs : List Event) → AllInRange vs → (t : ℕ) (i : Id)
+    → does (Step t) (run vs begin .station) (run vs begin .store) .answer ≡ A.Done i
+    → (j : Committed) × List·Memᴰ j (run vs begin .ledger .standing) × List·Memᴰ j (run vs begin .ledger .past) × (j .id ≡ i)
+unfolding does step all
+acknowledged-stands vs f t i h =
+    let w = history-keeps vs f in
+    let a = accepted _ (run vs begin .station) _ refl (ap refusedWith h ∙ (unfold refusedWith in refl)) in
+    let r10 = row-off 10 _ _ (row-off 8 _ _ (row-off 3 _ _ (row-off 2 _ _ (row-off 1 _ _ (a .0) .1) .1) .1) .1) in
+    let r = done-stands (run vs begin .station) (run vs begin .store) (run vs begin .ledger) (w .1) t i _ refl (not-false _ (r10 .0)) (sym (ap (λ (e : Effect). e .answer) (a .1)) ∙ h) in
+    (r .0, r .1, w .1 .standing .kept (r .0) (r .1), r .2)
+
+-- ── exactly-once retry: a commit that is answered done again alters nothing, and its transaction stands once ──
+-- of commit's three answers done is the first
+held-first : (x y : Bool) (st st₁ st₂ : Station) (a : Id) (d : ℕ) (i : Id) → cond x (says (A.Done a) st) (cond y (says A.Empty st₁) (says (A.Closing d) st₂)) .answer ≡ A.Done i
+    → (x ≡ true) × (a ≡ i) × (cond x (says (A.Done a) st) (cond y (says A.Empty st₁) (says (A.Closing d) st₂)) ≡ says (A.Done a) st)
+unfolding says
+held-first true y st st₁ st₂ a d i h = (refl, cc, refl)
+held-first false true st st₁ st₂ a d i h = let z : _≡_ {A = ℕ} 0 1 = cc in absurd (omega arith)
+held-first false false st st₁ st₂ a d i h = let z : _≡_ {A = ℕ} 0 1 = cc in absurd (omega arith)
+
+pub retry-alters-nothing : (st : Station) (t c : ℕ) (i : Id) → commit st t c .answer ≡ A.Done i
+    → (isHeld t st ≡ true) × (entryAt st (slotOf t st) .id ≡ i) × (commit st t c ≡ says (A.Done i) st) × (t ≢ 0)
+unfolding commit all
+retry-alters-nothing st t c i h =
+    let a = accepted _ st _ refl (ap refusedWith h ∙ (unfold refusedWith in refl)) in
+    let r = held-first (isHeld t st) (eqb (liveAt st (placeOf t st) .«write_count») 0) st _ _ _ _ i (sym (ap (λ (e : Effect). e .answer) (a .1)) ∙ h) in
+    (r .0, r .1, a .1 ∙ (r .2 ∙ ap (λ (x : Id). says (A.Done x) st) (r .1)), eqb-false t 0 (row-off 3 _ _ (row-off 2 _ _ (a .0) .1) .0))
+
+pub retry-stands-once : (vs : List Event) → AllInRange vs → (t c : ℕ) (i : Id)
+    → does (Commit t c) (run vs begin .station) (run vs begin .store) .answer ≡ A.Done i
+    → (j : Committed) × List·Memᴰ j (run vs begin .ledger .standing) × (j .id ≡ i) × ((x : Committed) → List·Memᴰ x (run vs begin .ledger .standing) → x .id .txn ≡ i .txn → x ≡ j)
+unfolding does
+retry-stands-once vs f t c i h =
+    let w = history-keeps vs f in
+    let st = run vs begin .station in
+    let s = run vs begin .store in
+    let r = retry-alters-nothing st t c i h in
+    let d = slotOf t st in
+    let nz : entryAt st d .id .txn ≢ 0 = (λ z. r .3 (sym (slot-hit st t (r .0) .1) ∙ z)) in
+    let seen-d = w .1 .slots .entered d nz in
+    let o : d < slots = omega (arith, entry-in st d nz, w .1 .slots .count) in
+    (committedIn s d (entryAt st d), stands s _ (w .1 .standing .found) d (entryAt st d) o seen-d, committed-id s d (entryAt st d) ∙ r .1,
+      λ x m e. stands-once s _ (w .1 .standing .found) (w .1 .slots .single) x d (entryAt st d) o seen-d m (e ∙ sym (ap (λ (y : Id). y .txn) (r .1))))
