@@ -141,9 +141,12 @@ module _ (st : Station) (s : List ℕ) (b : Ledger) (inv : Inv st s b) (h : soun
       let u = wrote-held st h (r .0) k (r .2) in
       let x = entryAt st (r .0) in
       let m = stands s (b .standing) (inv .standing .found) (r .0) x (omega (arith, r .1, sl .count)) (sl .entered (r .0) u) in
-      let n : x .id .txn ≢ E .id .txn = (λ e. true≢false (sym (r .3) ∙ same (r .0) (one-slot st h (r .0) d e u))) in
-      (committedIn s (r .0) x, strike-keeps (E .id .txn) (b .standing) _ m (λ e. n (sym (ap (λ (i : Id). i .txn) (committed-id s (r .0) x)) ∙ e)),
-        (_, wrote-committed s (r .0) x k (r .2)), rw (committed-id s (r .0) x) (r .3))
+      let n : x .id .txn ≢ E .id .txn = (λ e. true≢false (sym (r .3) ∙ same (r .0) (one-slot st h (r .0) d e u))) in (
+        committedIn s (r .0) x,
+        strike-keeps (E .id .txn) (b .standing) _ m (λ e. n (sym (ap (λ (i : Id). i .txn) (committed-id s (r .0) x)) ∙ e)),
+        (_, wrote-committed s (r .0) x k (r .2)),
+        rw (committed-id s (r .0) x) (r .3),
+      )
     where
       same : (c : ℕ) → c ≡ d → older (E .id) (entryAt st c .id) ≡ false
       same c e = subst (λ (y : ℕ). older (E .id) (entryAt st y .id) ≡ false) (sym e) (older-irrefl (E .id))

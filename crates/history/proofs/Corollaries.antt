@@ -52,11 +52,12 @@ no-dirty-read vs f t k v i h =
     let s = run vs begin .store in
     let g = get-version st s t k v i h in
     let r = version-entry st (liveAt st (placeOf t st)) k (g .0) (g .1) in
-    let e = entryAt st (g .0) in
-    (committedIn s (g .0) e,
+    let e = entryAt st (g .0) in (
+      committedIn s (g .0) e,
       stands s _ (w .1 .standing .found) (g .0) e (omega (arith, r .0, w .1 .slots .count)) (w .1 .slots .entered (g .0) (wrote-held st (w .0) (g .0) k (r .1))),
       committed-id s (g .0) e ∙ sym (g .3),
-      wrote-committed s (g .0) e k (r .1) ∙ ap some (sym (g .2)))
+      wrote-committed s (g .0) e k (r .1) ∙ ap some (sym (g .2)),
+    )
 
 -- ── no fractured read: of a transaction's two reads, one of a version whose transaction also wrote the other's key, the other is not older ──
 pub no-fractured-read : (vs : List Event) → AllInRange vs → (t : ℕ) (p : Draft) → run vs begin .ledger .drafts t ≡ some p
@@ -176,6 +177,9 @@ retry-stands-once vs f t c i h =
     let d = slotOf t st in
     let nz : entryAt st d .id .txn ≢ 0 = (λ z. r .3 (sym (slot-hit st t (r .0) .1) ∙ z)) in
     let seen-d = w .1 .slots .entered d nz in
-    let o : d < slots = omega (arith, entry-in st d nz, w .1 .slots .count) in
-    (committedIn s d (entryAt st d), stands s _ (w .1 .standing .found) d (entryAt st d) o seen-d, committed-id s d (entryAt st d) ∙ r .1,
-      λ x m e. stands-once s _ (w .1 .standing .found) (w .1 .slots .single) x d (entryAt st d) o seen-d m (e ∙ sym (ap (λ (y : Id). y .txn) (r .1))))
+    let o : d < slots = omega (arith, entry-in st d nz, w .1 .slots .count) in (
+      committedIn s d (entryAt st d),
+      stands s _ (w .1 .standing .found) d (entryAt st d) o seen-d,
+      committed-id s d (entryAt st d) ∙ r .1,
+      λ x m e. stands-once s _ (w .1 .standing .found) (w .1 .slots .single) x d (entryAt st d) o seen-d m (e ∙ sym (ap (λ (y : Id). y .txn) (r .1))),
+    )

@@ -169,8 +169,13 @@ newest-of k (x ∷ xs) = go (x .values k) refl (newest-of k xs)
         → ((j : Committed) → List·Memᴰ j (x ∷ xs) → Wrote j k → ⊥)
         ⊎ ((i : Committed) × List·Memᴰ i (x ∷ xs) × Wrote i k × ((j : Committed) → List·Memᴰ j (x ∷ xs) → Wrote j k → older (i .id) (j .id) ≡ false))
     go none e (inl f) = inl (λ j mj wj. ⊎-elim (λ q. Option·none-ne-some (wj .0) (sym e ∙ (ap (λ (y : Committed). y .values k) (sym q) ∙ wj .1))) (λ mj′. f j mj′ wj) (List·Memᴰ·cases-cons mj))
-    go none e (inr r) = inr (r .0, List·Memᴰ·tail (r .1), r .2, λ j mj wj.
-        ⊎-elim (λ q. absurd (Option·none-ne-some (wj .0) (sym e ∙ (ap (λ (y : Committed). y .values k) (sym q) ∙ wj .1)))) (λ mj′. r .3 j mj′ wj) (List·Memᴰ·cases-cons mj))
+    go none e (inr r) = inr (
+      r .0,
+      List·Memᴰ·tail (r .1),
+      r .2,
+      λ j mj wj.
+          ⊎-elim (λ q. absurd (Option·none-ne-some (wj .0) (sym e ∙ (ap (λ (y : Committed). y .values k) (sym q) ∙ wj .1)))) (λ mj′. r .3 j mj′ wj) (List·Memᴰ·cases-cons mj),
+    )
     go (some v) e (inl f) = inr (x, List·Memᴰ·head refl, (v, e), λ j mj wj. ⊎-elim (λ q. rw q (older-irrefl (x .id))) (λ mj′. absurd (f j mj′ wj)) (List·Memᴰ·cases-cons mj))
     go (some v) e (inr r) = inr (compare v e (r .0) (r .1) (r .2) (r .3) (older (x .id) (r .0 .id)) refl)
 

@@ -6,17 +6,18 @@ use mathlib.Core.List.{List, [], _∷_, _++_, map}
 use lib.ListN.{replicate}
 use Rattle.model.specs.declared.Id.{Id}
 use Rattle.model.specs.declared.Write.{Write}
+use Rattle.model.specs.declared.Entry.{Entry}
 use Rattle.model.specs.declared.Phase.the-variants.{Closing}
 use Rattle.model.specs.declared.Answer.{Answer}
 use Rattle.model.specs.declared.Answer.the-variants as A
 use Rattle.model.specs.Lists.{_and_, _or_, all, any, first, filter, count, insert, padded, from, member, ascending, distinct, same, anyBelow, greatestBelow}
-use Rattle.model.specs.Limits.{storeSize}
+use Rattle.model.specs.Limits.{keys, storeSize}
 use Rattle.model.specs.Ids.{older, sameId, newerOf, greatest}
 use Rattle.model.specs.Stations.{emptyStation, writesOf, readsOf, keysOf, wrote, wroteAs, hasWritten, hasRead, valueUnder, isClosing, closingSlot, closingClock, recordsStored, liveAt, entryAt, setLive, setEntry, liveTxns, heldTxns, isLive, isHeld, placeOf, slotOf, holds, slotMark, closingSlots, isFree}
 use Rattle.model.specs.Records.{bytes, number, idIn, markIn, entryIn, valueIn, headBytes, commitRecord, versionRecord, zeroRecord, entryRules, commitRules, carriesEntry, carriesVersion, recordAt, withRecord, recordOf}
 use Rattle.model.specs.Slots.{versionsCarry, judged, seen}
 use Rattle.model.specs.Sound.{isNoWrite, isNoRead, isNoEntry, isNoLive, zeroPastCounts, setsRight, names, inUse, closingRight, placeRight, entryRight, sound}
-use Rattle.model.specs.Reading.{lowerBound, conflictsWith, conflicts, passes, keepNewer, newest, chosen, choose}
+use Rattle.model.specs.Reading.{lowerBound, conflictsWith, conflicts, passes, keepNewer, newest, nofit, chosen, choose}
 use Rattle.model.specs.Supersedence.{newerOn, superseded, isReadBy, isRead}
 use Rattle.model.specs.Effects.{stored, says, saysStoring, refusals, wrongLength, unsound}
 use Rattle.model.specs.Start.{opened, start}
@@ -27,7 +28,7 @@ use Rattle.model.specs.Step.{entryFor, oneMore, stepped, step}
 use Rattle.model.specs.Abort.{abort}
 use Rattle.model.specs.Collect.{collect}
 use Rattle.model.specs.Scan.{slotsSeen, entrySeen, isCommitted, breaks, lowestBroken, scanned, scan}
-use Rattle.model.specs.Calls.{Call, Start, Put, Get, Commit, Step, Collect, Scan, does, answers}
+use Rattle.model.specs.Calls.{Call, Start, Put, Get, Commit, Step, Abort, Collect, Scan, does, answers}
 
 abbrev pub Line : Type 0
 Line = Call × Answer
@@ -38,22 +39,22 @@ id c t = record { clock = c; txn = t }
 abbrev w : ℕ → ℕ → Write
 w k v = record { key = k; value = v }
 
-unfoldable puts : ℕ → List Write → List Line
+pub puts : ℕ → List Write → List Line
 puts t [] = []
 puts t (x ∷ xs) = (Put t (x .key) (x .value), A.Kept) ∷ puts t xs
 
-unfoldable versions : ℕ → List Write → List Line
+pub versions : ℕ → List Write → List Line
 versions t [] = []
 versions t (x ∷ xs) = (Step t, A.Stored (x .key)) ∷ versions t xs
 
 -- transaction t from its start to its last version record, in slot d; to its commit record; to its end
-unfoldable begun : ℕ → ℕ → ℕ → List Write → List Line
+pub begun : ℕ → ℕ → ℕ → List Write → List Line
 begun t c d ws = (Start t, A.Started) ∷ puts t ws ++ ((Commit t c, A.Closing d) ∷ versions t ws)
 
-unfoldable slipped : ℕ → ℕ → ℕ → List Write → List Line
+pub slipped : ℕ → ℕ → ℕ → List Write → List Line
 slipped t c d ws = begun t c d ws ++ ((Step t, A.Slipped d) ∷ [])
 
-unfoldable whole : ℕ → ℕ → ℕ → List Write → List Line
+pub whole : ℕ → ℕ → ℕ → List Write → List Line
 whole t c d ws = slipped t c d ws ++ ((Step t, A.Done (id c t)) ∷ [])
 
 abbrev K : ℕ
@@ -62,58 +63,69 @@ K = 11
 abbrev L : ℕ
 L = 22
 
--- "a {K}, b {L}; K read; then c {K, L} held"
-unfoldable kReadThenC : List Line
-kReadThenC =
-    whole 1 1 63 (w K 10 ∷ [])
-    ++ whole 2 2 62 (w L 20 ∷ [])
-    ++ ((Start 9, A.Started) ∷ (Get 9 K, A.Version 10 (id 1 1)) ∷ [])
-    ++ whole 3 3 61 (w K 30 ∷ w L 31 ∷ [])
-
-unfoldable starred : List (List Line)
+pub starred : List (List Line)
 starred =
     -- "Entries a {L}, b {K, L}: read K gives b, then L gives b."
-    (whole 1 1 63 (w L 10 ∷ []) ++ whole 2 2 62 (w K 20 ∷ w L 21 ∷ []) ++ ((Start 9, A.Started) ∷ (Get 9 K, A.Version 20 (id 2 2)) ∷ (Get 9 L, A.Version 21 (id 2 2)) ∷ []))
+    (whole 1 1 63 (w L 10 ∷ []) ++ whole 2 2 62 (w K 20 ∷ w L 21 ∷ [])
+    ++ ((Start 9, A.Started) ∷ (Get 9 K, A.Version 20 (id 2 2)) ∷ (Get 9 L, A.Version 21 (id 2 2)) ∷ []))
     -- "Only a {L}; L read; then b {K, L} held: K is nofit."
-    ∷ (whole 1 1 63 (w L 10 ∷ []) ++ ((Start 9, A.Started) ∷ (Get 9 L, A.Version 10 (id 1 1)) ∷ []) ++ whole 2 2 62 (w K 20 ∷ w L 21 ∷ []) ++ ((Get 9 K, A.Nofit) ∷ []))
-    -- "a {K}, b {L}; K read; then c {K, L} held: L gives b."
-    ∷ (kReadThenC ++ ((Get 9 L, A.Version 20 (id 2 2)) ∷ []))
-    -- "The same, b collected first: L is nofit (§5.2.1)." "The same, collecting a: 16."
-    ∷ (kReadThenC ++ ((Collect 62, A.Collected (id 2 2)) ∷ (Get 9 L, A.Nofit) ∷ (Collect 63, A.Refused 16 0) ∷ []))
-    -- "Clock 100, tickets 5 and 9 write K: 9 is newer." (in either order of slots)
-    ∷ (whole 5 100 63 (w K 5 ∷ []) ++ whole 9 100 62 (w K 9 ∷ []) ++ ((Start 1, A.Started) ∷ (Get 1 K, A.Version 9 (id 100 9)) ∷ []))
+    ∷ (whole 1 1 63 (w L 10 ∷ []) ++ ((Start 9, A.Started) ∷ (Get 9 L, A.Version 10 (id 1 1)) ∷ [])
+    ++ whole 2 2 62 (w K 20 ∷ w L 21 ∷ []) ++ ((Get 9 K, A.Nofit) ∷ []))
+    -- "a {K}, b {L}; K read; then c {K, L} held": by 9 and by 8, so that L is read once before b is collected and once after
+    ∷ (whole 1 1 63 (w K 10 ∷ []) ++ whole 2 2 62 (w L 20 ∷ [])
+    ++ ((Start 9, A.Started) ∷ (Get 9 K, A.Version 10 (id 1 1)) ∷ (Start 8, A.Started) ∷ (Get 8 K, A.Version 10 (id 1 1)) ∷ [])
+    ++ whole 3 3 61 (w K 30 ∷ w L 31 ∷ [])
+    -- ": L gives b." "The same, b collected first: L is nofit (§5.2.1)." "The same, collecting a: 16."
+    ++ ((Get 9 L, A.Version 20 (id 2 2)) ∷ (Abort 9, A.Dropped) ∷ (Collect 62, A.Collected (id 2 2)) ∷ (Get 8 L, A.Nofit) ∷ (Collect 63, A.Refused 16 0) ∷ []))
+    -- "Clock 100, tickets 5 and 9 write K: 9 is newer.": it is read, and of the two only 5 can be collected
+    ∷ (whole 5 100 63 (w K 5 ∷ []) ++ whole 9 100 62 (w K 9 ∷ [])
+    ++ ((Start 1, A.Started) ∷ (Get 1 K, A.Version 9 (id 100 9)) ∷ (Collect 62, A.Refused 15 0) ∷ (Collect 63, A.Collected (id 100 5)) ∷ []))
+    -- the same with the slots changed about
     ∷ (whole 9 100 63 (w K 9 ∷ []) ++ whole 5 100 62 (w K 5 ∷ []) ++ ((Start 1, A.Started) ∷ (Get 1 K, A.Version 9 (id 100 9)) ∷ []))
     -- "Clock 100 held, then clock 50, both only K: K gives 100, and 50 can be collected."
     ∷ (whole 5 100 63 (w K 5 ∷ []) ++ whole 9 50 62 (w K 9 ∷ []) ++ ((Start 1, A.Started) ∷ (Get 1 K, A.Version 5 (id 100 5)) ∷ (Collect 62, A.Collected (id 50 9)) ∷ []))
     -- "Eight keys, one put again: kept. A ninth key: 11."
     ∷ ((Start 1, A.Started) ∷ puts 1 (w 8 0 ∷ w 7 1 ∷ w 6 2 ∷ w 5 3 ∷ w 4 4 ∷ w 3 5 ∷ w 2 6 ∷ w 1 7 ∷ w 5 9 ∷ []) ++ ((Put 1 9 9, A.Refused 11 0) ∷ (Get 1 5, A.Own 9) ∷ []))
-    -- "Cut after the last version slip: found 0. After the commit slip, unacknowledged: found 1."
-    ∷ (begun 5 1 63 (w K 5 ∷ w L 6 ∷ []) ++ ((Scan, A.Found 0) ∷ []))
-    ∷ (slipped 5 1 63 (w K 5 ∷ w L 6 ∷ []) ++ ((Scan, A.Found 1) ∷ (Commit 5 9, A.Done (id 1 5)) ∷ []))
+    -- "Cut after the last version slip: found 0. After the commit slip, unacknowledged: found 1.": and a retry is done
+    ∷ (begun 5 1 63 (w K 5 ∷ w L 6 ∷ []) ++ ((Scan, A.Found 0) ∷ [])
+    ++ slipped 5 1 63 (w K 5 ∷ w L 6 ∷ []) ++ ((Scan, A.Found 1) ∷ (Commit 5 9, A.Done (id 1 5)) ∷ []))
     -- "Commit with nothing put: empty; the same again: 8."
     ∷ ((Start 5, A.Started) ∷ (Commit 5 1, A.Empty) ∷ (Commit 5 1, A.Refused 8 0) ∷ [])
     ∷ []
 
-unfoldable slipsOfThought : List (List Line)
+-- The ★ rows refute "Storing the commit slip ahead of the last version slip" (the cut), "Testing the lower bound alone and forgetting
+-- conflicts" (nofit) and "Comparing clocks and leaving tickets out" (5 and 9). The other two:
+pub slipsOfThought : List (List Line)
 slipsOfThought =
     -- "Entering own puts in the read list.": own K is no read of K's version, so that may be collected; and the station stays sound
-    (whole 1 1 63 (w K 10 ∷ []) ++ ((Start 9, A.Started) ∷ (Put 9 K 5, A.Kept) ∷ (Get 9 K, A.Own 5) ∷ []) ++ whole 2 2 62 (w K 20 ∷ []) ++ ((Collect 63, A.Collected (id 1 1)) ∷ (Get 9 K, A.Own 5) ∷ []))
-    -- "Making the entry at slip time, before the acknowledging step.": nobody reads it, and its slot can't be collected
+    (whole 1 1 63 (w K 10 ∷ []) ++ ((Start 9, A.Started) ∷ (Put 9 K 5, A.Kept) ∷ (Get 9 K, A.Own 5) ∷ []) ++ whole 2 2 62 (w K 20 ∷ [])
+    ++ ((Collect 63, A.Collected (id 1 1)) ∷ []))
+    -- "Making the entry at slip time, before the acknowledging step.": till then nobody reads it, and its slot can't be collected
     ∷ (slipped 5 1 63 (w K 5 ∷ []) ++ ((Start 9, A.Started) ∷ (Get 9 K, A.None) ∷ (Collect 63, A.Refused 14 0) ∷ (Step 5, A.Done (id 1 5)) ∷ (Get 9 K, A.Version 5 (id 1 5)) ∷ []))
-    -- "Comparing clocks and leaving tickets out.": at one clock the older of two may be collected, the newer not
-    ∷ (whole 5 7 63 (w K 5 ∷ []) ++ whole 9 7 62 (w K 9 ∷ []) ++ ((Collect 62, A.Refused 15 0) ∷ (Collect 63, A.Collected (id 7 5)) ∷ []))
     ∷ []
 
-unfoldable pub given : List Line → List Answer
+pub given : List Line → List Answer
 given ls = answers (map (λ (l : Line). l .0) ls) emptyStation (replicate storeSize 0)
 
-unfoldable pub expected : List Line → List Answer
+pub expected : List Line → List Answer
 expected ls = map (λ (l : Line). l .1) ls
 
-unfoldable pub table : List (List Line)
-table = []
+pub table : List (List Line)
+table = starred ++ slipsOfThought
+
+abbrev wrote-L : Entry
+wrote-L = record { id = id 1 1; count = 1; keys = L ∷ [] }
+
+abbrev wrote-K-L : Entry
+wrote-K-L = record { id = id 2 2; count = 2; keys = K ∷ L ∷ [] }
 
 -- The claim: every line of every case is answered as the table says.
 pub bench-holds : map given table ≡ map expected table
-unfolding given expected table _and_ _or_ all any first filter count insert padded from member ascending distinct same anyBelow greatestBelow older sameId newerOf greatest emptyStation writesOf readsOf keysOf wrote wroteAs hasWritten hasRead valueUnder isClosing closingSlot closingClock recordsStored liveAt entryAt setLive setEntry liveTxns heldTxns isLive isHeld placeOf slotOf holds slotMark closingSlots isFree bytes number idIn markIn entryIn valueIn headBytes commitRecord versionRecord zeroRecord entryRules commitRules carriesEntry carriesVersion recordAt withRecord recordOf versionsCarry judged seen isNoWrite isNoRead isNoEntry isNoLive zeroPastCounts setsRight names inUse closingRight placeRight entryRight sound lowerBound conflictsWith conflicts passes keepNewer newest chosen choose newerOn superseded isReadBy isRead stored says saysStoring refusals wrongLength unsound opened start withWrites withWrite put choiceOf withReads withRead versionAt noRoom notCarried answered get withPhase highestFree clockFor commit entryFor oneMore stepped step abort collect slotsSeen entrySeen isCommitted breaks lowestBroken scanned scan does answers
+unfolding puts versions begun slipped whole starred slipsOfThought given expected table _and_ _or_ all any first filter count insert padded from member ascending distinct same anyBelow greatestBelow older sameId newerOf greatest emptyStation writesOf readsOf keysOf wrote wroteAs hasWritten hasRead valueUnder isClosing closingSlot closingClock recordsStored liveAt entryAt setLive setEntry liveTxns heldTxns isLive isHeld placeOf slotOf holds slotMark closingSlots isFree bytes number idIn markIn entryIn valueIn headBytes commitRecord versionRecord zeroRecord entryRules commitRules carriesEntry carriesVersion recordAt withRecord recordOf versionsCarry judged seen isNoWrite isNoRead isNoEntry isNoLive zeroPastCounts setsRight names inUse closingRight placeRight entryRight sound lowerBound conflictsWith conflicts passes keepNewer newest chosen choose newerOn superseded isReadBy isRead stored says saysStoring refusals wrongLength unsound opened start withWrites withWrite put choiceOf withReads withRead versionAt noRoom notCarried answered get withPhase highestFree clockFor commit entryFor oneMore stepped step abort collect slotsSeen entrySeen isCommitted breaks lowestBroken scanned scan does answers
 bench-holds = refl
+
+-- The lower bound shows only on a read list that no history makes: L read at a's version, K at b's, which wrote L too. Then a is below
+-- the bound, b conflicts, and L is nofit.
+pub bound-holds : choose (wrote-L ∷ wrote-K-L ∷ []) (record { key = K; id = id 2 2 } ∷ record { key = L; id = id 1 1 } ∷ []) L ≡ nofit
+unfolding choose chosen newest keepNewer passes conflicts conflictsWith lowerBound greatest newerOf wroteAs wrote keysOf member any filter sameId older _and_ _or_
+bound-holds = refl

@@ -147,4 +147,3 @@ module _ (xs ys : List ℕ) where
       (λ b. a .1 ∙ (ap (λ (k : ℕ). length xs + k) (oy (a .0) (b .0) (sym (a .2) ∙ (e ∙ b .2)) (λ z. n (a .2 ∙ z))) ∙ sym (b .1)))
       (side j))
       (side i))
-

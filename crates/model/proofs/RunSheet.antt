@@ -26,18 +26,18 @@ use Rattle.model.specs.Scan.{slotsSeen, entrySeen, isCommitted, breaks, 
 use Rattle.model.specs.Calls.{Call, Start, Put, Get, Commit, Step, Abort, Collect, Scan, does, answers}
 use Rattle.model.specs.Answers.{Values, values, valuesOf}
 
-unfoldable pub sheetCalls : List Call
+pub sheetCalls : List Call
 sheetCalls =
     Start 5 ∷ Put 5 2 40 ∷ Put 5 1 7 ∷ Get 5 2 ∷ Commit 5 100 ∷ Step 5 ∷ Step 5 ∷ Step 5
     ∷ Scan ∷ Start 6 ∷ Get 6 2 ∷ Get 6 9 ∷ Commit 5 200 ∷ Collect 63 ∷ Abort 6 ∷ []
 
-unfoldable pub sheetAnswers : List Answer
+pub sheetAnswers : List Answer
 sheetAnswers =
     A.Started ∷ A.Kept ∷ A.Kept ∷ A.Own 40 ∷ A.Closing 63 ∷ A.Stored 1 ∷ A.Stored 2 ∷ A.Slipped 63
     ∷ A.Found 1 ∷ A.Started ∷ A.Version 40 (record { clock = 100; txn = 5 }) ∷ A.None ∷ A.Done (record { clock = 100; txn = 5 })
     ∷ A.Refused 15 0 ∷ A.Dropped ∷ []
 
-unfoldable pub sheetValues : List Values
+pub sheetValues : List Values
 sheetValues =
     values 0 0 0 ∷ values 0 0 0 ∷ values 0 0 0 ∷ values 40 0 0 ∷ values 63 0 0 ∷ values 1 0 0 ∷ values 2 0 0 ∷ values 63 0 0
     ∷ values 1 0 0 ∷ values 0 0 0 ∷ values 40 100 5 ∷ values 0 0 0 ∷ values 0 100 5 ∷ values 15 0 0 ∷ values 0 0 0 ∷ []

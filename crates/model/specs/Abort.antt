@@ -12,10 +12,10 @@ unfoldable pub abort : Station → ℕ → Effect
 abort st t =
     let i : ℕ = placeOf t st in
     refusals (
-      2 when unsound st
-      ∷ 3 when eqb t 0
-      ∷ 8 when not (isLive t st)
-      ∷ 9 when isClosing (liveAt st i .phase)
-      ∷ []
+    2 when unsound st
+    ∷ 3 when eqb t 0
+    ∷ 8 when not (isLive t st)
+    ∷ 9 when isClosing (liveAt st i .phase)
+    ∷ []
     ) st
     (says A.Dropped (setLive st i noLive))

@@ -18,12 +18,12 @@ unfoldable pub collect : Station → List ℕ → ℕ → Effect
 collect st s d =
     let e : Entry = entryAt st d in
     refusals (
-      1 when wrongLength s
-      ∷ 2 when unsound st
-      ∷ 14 when (leb slots d or not (holds st d))
-      ∷ 15 when not (superseded (st .entries) e)
-      ∷ 16 when isRead st e
-      ∷ 17 when not (carriesEntry (recordAt s d 0) e)
-      ∷ []
+    1 when wrongLength s
+    ∷ 2 when unsound st
+    ∷ 14 when (leb slots d or not (holds st d))
+    ∷ 15 when not (superseded (st .entries) e)
+    ∷ 16 when isRead st e
+    ∷ 17 when not (carriesEntry (recordAt s d 0) e)
+    ∷ []
     ) st
     (saysStoring (A.Collected (e .id)) (setEntry st d noEntry) d 0 zeroRecord)

@@ -28,13 +28,13 @@ unfoldable pub commit : Station → ℕ → ℕ → Effect
 commit st t c =
     let i : ℕ = placeOf t st in let l : Live = liveAt st i in let d : ℕ = highestFree st in
     refusals (
-      2 when unsound st
-      ∷ 3 when eqb t 0
-      ∷ 5 when eqb c 0
-      ∷ 8 when (not (isLive t st) and not (isHeld t st))
-      ∷ 9 when isClosing (l .phase)
-      ∷ 13 when (leb 1 (l .«write_count») and not (anyBelow (isFree st) slots))
-      ∷ []
+    2 when unsound st
+    ∷ 3 when eqb t 0
+    ∷ 5 when eqb c 0
+    ∷ 8 when (not (isLive t st) and not (isHeld t st))
+    ∷ 9 when isClosing (l .phase)
+    ∷ 13 when (leb 1 (l .«write_count») and not (anyBelow (isFree st) slots))
+    ∷ []
     ) st
     -- "Already committed and held: done, with the stored id, whichever clock above 0 is given (a retry)."
     (cond (isHeld t st) (says (A.Done (entryAt st (slotOf t st) .id)) st)

@@ -56,14 +56,14 @@ unfoldable pub get : Station → List ℕ → ℕ → ℕ → Effect
 get st s t k =
     let i : ℕ = placeOf t st in let l : Live = liveAt st i in let ch : Choice = choiceOf st l k in
     refusals (
-      1 when wrongLength s
-      ∷ 2 when unsound st
-      ∷ 3 when eqb t 0
-      ∷ 4 when leb keys k
-      ∷ 8 when not (isLive t st)
-      ∷ 9 when isClosing (l .phase)
-      ∷ 12 when noRoom l k ch
-      ∷ 17 when notCarried st s k ch
-      ∷ []
+    1 when wrongLength s
+    ∷ 2 when unsound st
+    ∷ 3 when eqb t 0
+    ∷ 4 when leb keys k
+    ∷ 8 when not (isLive t st)
+    ∷ 9 when isClosing (l .phase)
+    ∷ 12 when noRoom l k ch
+    ∷ 17 when notCarried st s k ch
+    ∷ []
     ) st
     (answered st s i k ch)

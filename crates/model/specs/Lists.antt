@@ -7,7 +7,6 @@ use lib.ListN.{length, replicate}
 
 infixl 35 _and_
 infixl 30 _or_
-
 -- conjunction and disjunction
 unfoldable pub _and_ : Bool → Bool → Bool
 _and_ true b = b

@@ -23,12 +23,12 @@ unfoldable pub put : Station → ℕ → ℕ → ℕ → Effect
 put st t k v =
     let i : ℕ = placeOf t st in let l : Live = liveAt st i in
     refusals (
-      2 when unsound st
-      ∷ 3 when eqb t 0
-      ∷ 4 when leb keys k
-      ∷ 8 when not (isLive t st)
-      ∷ 9 when isClosing (l .phase)
-      ∷ 11 when (not (hasWritten k l) and leb writeLimit (l .«write_count»))
-      ∷ []
+    2 when unsound st
+    ∷ 3 when eqb t 0
+    ∷ 4 when leb keys k
+    ∷ 8 when not (isLive t st)
+    ∷ 9 when isClosing (l .phase)
+    ∷ 11 when (not (hasWritten k l) and leb writeLimit (l .«write_count»))
+    ∷ []
     ) st
     (says A.Kept (setLive st i (withWrite k v l)))

@@ -19,10 +19,10 @@ opened t = record { txn = t; phase = Open; «write_count» = 0; writes = replica
 unfoldable pub start : Station → ℕ → Effect
 start st t =
     refusals (
-      2 when unsound st
-      ∷ 3 when eqb t 0
-      ∷ 6 when (isLive t st or isHeld t st)
-      ∷ 7 when not (isLive 0 st)
-      ∷ []
+    2 when unsound st
+    ∷ 3 when eqb t 0
+    ∷ 6 when (isLive t st or isHeld t st)
+    ∷ 7 when not (isLive 0 st)
+    ∷ []
     ) st
     (says A.Started (setLive st (placeOf 0 st) (opened t)))

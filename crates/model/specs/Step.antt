@@ -45,11 +45,11 @@ unfoldable pub step : Station → List ℕ → ℕ → Effect
 step st s t =
     let i : ℕ = placeOf t st in let l : Live = liveAt st i in
     refusals (
-      1 when wrongLength s
-      ∷ 2 when unsound st
-      ∷ 3 when eqb t 0
-      ∷ 8 when not (isLive t st)
-      ∷ 10 when not (isClosing (l .phase))
-      ∷ []
+    1 when wrongLength s
+    ∷ 2 when unsound st
+    ∷ 3 when eqb t 0
+    ∷ 8 when not (isLive t st)
+    ∷ 10 when not (isClosing (l .phase))
+    ∷ []
     ) st
     (stepped st i l (l .phase))

@@ -73,8 +73,11 @@ pub enum Answer {
 impl Station {
     // Live transactions, slots, keys in a write set and keys in a read set, each at most.
     pub const LIVE: usize = 8;
+
     pub const SLOTS: usize = 64;
+
     pub const WRITES: usize = 8;
+
     pub const READS: usize = 16;
 
     // The station made from nothing.
@@ -92,7 +95,14 @@ impl Station {
             read_count: 0,
             reads: [read; Station::READS],
         };
-        let entry = Entry { id: id, count: 0, keys: [0; Station::WRITES] };
-        Station { live: [live; Station::LIVE], entries: [entry; Station::SLOTS] }
+        let entry = Entry {
+            id: id,
+            count: 0,
+            keys: [0; Station::WRITES],
+        };
+        Station {
+            live: [live; Station::LIVE],
+            entries: [entry; Station::SLOTS],
+        }
     }
 }
