@@ -14,7 +14,7 @@ use Rattle.model.specs.declared.Live.{Live}
 use Rattle.model.specs.declared.Entry.{Entry}
 use Rattle.model.specs.declared.Station.{Station}
 use Rattle.model.specs.declared.Phase.the-variants.{Closing}
-use Rattle.model.specs.Lists.{_and_, any, first, count, member, same}
+use Rattle.model.specs.Lists.{_and_, any, first, member, same}
 use Rattle.model.specs.Limits.{slots, width}
 use Rattle.model.specs.Ids.{older}
 use Rattle.model.specs.Stations.{noEntry, keysOf, wrote, wroteAs, liveAt, entryAt, setEntry}
@@ -38,7 +38,7 @@ use Rattle.history.specs.CutRule.{committedIn, Wrote, Newer}
 use Rattle.history.proofs.Invariant.{inStore, Slots, Dominated, Standing, Inv, Good, good-stores, row, unrefused}
 use Rattle.history.proofs.DraftLaws.{drafts-cast}
 use Rattle.history.proofs.CommittedLaws.{strike-perm, strike-none, strike-head, strike-keeps, strike-sub, holds-free, holds-committed, holds-frame, in-store, hold-one-more, stands-in, stands, committed-wrote, wrote-committed, committed-id, stands-once}
-use Rattle.history.proofs.SlotOwners.{prepared-frame, entered, closing, not-free}
+use Rattle.history.proofs.SlotOwners.{prepared-frame, not-free}
 
 noEntry-wrote : (k : ℕ) → wrote noEntry k ≡ false
 unfolding wrote keysOf member any

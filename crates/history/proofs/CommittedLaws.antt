@@ -13,7 +13,7 @@ use native.Mathlib.Omega.{arith}
 use borrow.Author.Tests.{eqb-true, eq-eqb, ne-eqb}
 use Rattle.model.specs.declared.Id.{Id}
 use Rattle.model.specs.declared.Entry.{Entry}
-use Rattle.model.specs.Lists.{count, from, same}
+use Rattle.model.specs.Lists.{from, same}
 use Rattle.model.specs.Limits.{slots, writeLimit, width}
 use Rattle.model.specs.Stations.{wrote}
 use Rattle.model.specs.Records.{valueIn, recordAt, recordOf}

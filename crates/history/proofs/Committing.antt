@@ -22,10 +22,9 @@ use Rattle.model.specs.Sound.{sound}
 use Rattle.model.specs.Reading.{Atomic}
 use Rattle.model.specs.Commit.{withPhase, highestFree, clockFor, commit}
 use Rattle.model.specs.Calls.{Commit, txnOf, numberOf}
-use Rattle.model.specs.Answers.{values}
 use Rattle.model.proofs.Tests.{and-left, and-right, and-intro, and-second, not-of-false, bool-cases}
 use Rattle.model.proofs.ListLaws.{greatest-below}
-use Rattle.model.proofs.StationLaws.{place-hit, unheld-txn, closing-same, marked, slot-marked}
+use Rattle.model.proofs.StationLaws.{place-hit, unheld-txn, closing-same, slot-marked}
 use Rattle.model.proofs.SoundFacts.{held-not-live}
 use Rattle.history.specs.Ledger.{Draft, Ledger, onDraft, withDraft, feed}
 use Rattle.history.specs.Matches.{Matches}

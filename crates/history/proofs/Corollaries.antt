@@ -17,20 +17,19 @@ use Rattle.model.specs.declared.Phase.{Phase}
 use Rattle.model.specs.declared.Phase.the-variants.{Unused, Open, Closing}
 use Rattle.model.specs.declared.Answer.{Answer}
 use Rattle.model.specs.declared.Answer.the-variants as A
-use Rattle.model.specs.Lists.{all, count}
+use Rattle.model.specs.Lists.{all}
 use Rattle.model.specs.Limits.{slots}
 use Rattle.model.specs.Ids.{older}
 use Rattle.model.specs.Stations.{isClosing, closingSlot, recordsStored, liveAt, entryAt, isHeld, placeOf, slotOf}
-use Rattle.model.specs.Reading.{newest}
 use Rattle.model.specs.Effects.{Effect, says, saysStoring}
 use Rattle.model.specs.Get.{versionAt}
 use Rattle.model.specs.Commit.{commit}
 use Rattle.model.specs.Step.{entryFor, stepped, step}
 use Rattle.model.specs.Calls.{Call, Get, Commit, Step, Scan, does, txnOf}
-use Rattle.model.specs.Answers.{refusedWith, values}
+use Rattle.model.specs.Answers.{refusedWith}
 use Rattle.model.proofs.Tests.{bool-cases}
 use Rattle.model.proofs.RefusalLaws.{accepted, row-off}
-use Rattle.model.proofs.StationLaws.{slot-hit, entry-in, marked}
+use Rattle.model.proofs.StationLaws.{slot-hit, entry-in}
 use Rattle.model.proofs.GetLaws.{version-entry, get-version}
 use Rattle.model.proofs.SoundFacts.{wrote-held}
 use Rattle.history.specs.Ledger.{Draft, Committed, Ledger, onDraft, withDraft, committedFrom, feed}
@@ -38,7 +37,6 @@ use Rattle.history.specs.Histories.{Event, called, cut, World, begin, af
 use Rattle.history.specs.CutRule.{committedIn, Wrote}
 use Rattle.history.proofs.Invariant.{Prepared, Inv}
 use Rattle.history.proofs.CommittedLaws.{stands, wrote-committed, committed-id, stands-once}
-use Rattle.history.proofs.SlotOwners.{entered, closing}
 use Rattle.history.proofs.Theorem.{history-keeps, cut-rule}
 
 -- ── no dirty read: a version that a get answers is a committed transaction's, which stands, under that key with that value ──

@@ -14,7 +14,6 @@ use Rattle.model.specs.declared.Station.{Station}
 use Rattle.model.specs.declared.Phase.the-variants.{Closing}
 use Rattle.model.specs.declared.Answer.{Answer}
 use Rattle.model.specs.declared.Answer.the-variants as A
-use Rattle.model.specs.Lists.{count}
 use Rattle.model.specs.Limits.{slots, writeLimit, storeSize, txnRange, numberRange}
 use Rattle.model.specs.Stations.{noWrite, writesOf, readsOf, liveAt, entryAt}
 use Rattle.model.specs.Records.{versionRecord, recordAt, withRecord}
@@ -25,9 +24,7 @@ use Rattle.model.specs.Effects.{Effect, stored, says, saysStoring, Row, _when_,
 use Rattle.model.specs.Step.{entryFor}
 use Rattle.model.specs.Scan.{slotsSeen, entrySeen}
 use Rattle.model.specs.Calls.{Call}
-use Rattle.model.specs.Answers.{values}
 use Rattle.model.proofs.RefusalLaws.{guard, unguarded, cond-rule}
-use Rattle.model.proofs.StationLaws.{marked}
 use Rattle.history.specs.Ledger.{Committed, Ledger, feed}
 use Rattle.history.specs.CutRule.{committedFound, Wrote, Newer}
 use Rattle.history.specs.Matches.{Correspond}

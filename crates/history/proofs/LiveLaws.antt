@@ -11,12 +11,9 @@ use Rattle.model.specs.declared.Live.{Live}
 use Rattle.model.specs.declared.Entry.{Entry}
 use Rattle.model.specs.declared.Station.{Station}
 use Rattle.model.specs.declared.Phase.the-variants.{Unused, Closing}
-use Rattle.model.specs.Lists.{count}
-use Rattle.model.specs.Limits.{slots}
 use Rattle.model.specs.Stations.{noLive, writesOf, readsOf, isClosing, liveAt, setLive, isLive, placeOf}
 use Rattle.model.specs.Sound.{sound}
 use Rattle.model.specs.Reading.{Atomic}
-use Rattle.model.specs.Answers.{values}
 use Rattle.model.proofs.StationLaws.{place-hit, setLive-at, liveAt-other, setLive-entry, not-closing}
 use Rattle.history.specs.Ledger.{Ledger, withDraft}
 use Rattle.history.proofs.Invariant.{Prepared, Slots, AtomicReads, Ranges, Inv}

@@ -10,7 +10,7 @@ use Rattle.model.specs.declared.Station.{Station}
 use Rattle.model.specs.declared.Answer.{Answer}
 use Rattle.model.specs.declared.Answer.the-variants as A
 use Rattle.model.specs.Lists.{any, member}
-use Rattle.model.specs.Limits.{slots, storeSize}
+use Rattle.model.specs.Limits.{storeSize}
 use Rattle.model.specs.Stations.{recordsStored, liveAt, entryAt, isHeld, placeOf}
 use Rattle.model.specs.Sound.{sound}
 use Rattle.model.specs.Reading.{Choice, own, absent, nofit, version}
@@ -33,7 +33,6 @@ use Rattle.model.proofs.SoundFacts.{wrote-held}
 use Rattle.history.specs.Ledger.{Ledger}
 use Rattle.history.specs.Histories.{Event, begin, run, AllInRange}
 use Rattle.history.proofs.Invariant.{Inv}
-use Rattle.history.proofs.SlotOwners.{entered}
 use Rattle.history.proofs.Recovering.{scan-is}
 use Rattle.history.proofs.Theorem.{history-keeps}
 

@@ -22,17 +22,16 @@ use Rattle.model.specs.Ids.{older}
 use Rattle.model.specs.Stations.{noLive, writesOf, readsOf, wrote, wroteAs, isClosing, liveAt, entryAt}
 use Rattle.model.specs.Slots.{Seen, free, committed, damaged, seen}
 use Rattle.model.specs.Sound.{sound}
-use Rattle.model.specs.Reading.{newest, Atomic}
+use Rattle.model.specs.Reading.{Atomic}
 use Rattle.model.specs.Effects.{Effect, says}
 use Rattle.model.specs.Scan.{slotsSeen, entrySeen, isCommitted, scan}
 use Rattle.model.specs.Calls.{Scan}
-use Rattle.model.specs.Answers.{values}
 use Rattle.model.proofs.ListLaws.{count-yes, count-no}
 use Rattle.model.proofs.IdLaws.{older-irrefl, older-asym, not-older-trans}
 use Rattle.model.proofs.SlotLaws.{rules-txn, committed-injective, committed≢damaged, free≢damaged, committed-rules}
 use Rattle.model.proofs.ScanLaws.{KeepsRules, txn-seen, scan-finds, entries-length, scan-entry}
 use Rattle.model.proofs.ReadingLaws.{wrote-as, as-wrote}
-use Rattle.model.proofs.StationLaws.{live-out, entry-get, entry-in, not-closing, marked}
+use Rattle.model.proofs.StationLaws.{live-out, entry-get, entry-in, not-closing}
 use Rattle.model.proofs.SoundFacts.{wrote-held}
 use Rattle.history.specs.Ledger.{Draft, Committed, Ledger, feed}
 use Rattle.history.specs.CutRule.{committedIn, committedFound, Wrote, Newer, CutRule}

@@ -12,8 +12,8 @@ use Rattle.model.specs.declared.Entry.{Entry}
 use Rattle.model.specs.declared.Station.{Station}
 use Rattle.model.specs.declared.Phase.{Phase}
 use Rattle.model.specs.declared.Phase.the-variants.{Closing}
-use Rattle.model.specs.Lists.{first, count, member}
-use Rattle.model.specs.Limits.{keys, slots, writeLimit, width}
+use Rattle.model.specs.Lists.{first, member}
+use Rattle.model.specs.Limits.{slots, writeLimit, width}
 use Rattle.model.specs.Stations.{writeKey, closingClock, recordsStored, liveAt, entryAt, closingSlots}
 use Rattle.model.specs.Records.{recordAt}
 use Rattle.model.specs.Slots.{Seen, free, committed, seen}

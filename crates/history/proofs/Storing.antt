@@ -21,7 +21,7 @@ use Rattle.model.specs.declared.Entry.{Entry}
 use Rattle.model.specs.declared.Station.{Station}
 use Rattle.model.specs.declared.Phase.{Phase}
 use Rattle.model.specs.declared.Phase.the-variants.{Unused, Open, Closing}
-use Rattle.model.specs.Lists.{any, first, count, member, same}
+use Rattle.model.specs.Lists.{any, first, member, same}
 use Rattle.model.specs.Limits.{slots, recordSize, width, storeSize, numberRange}
 use Rattle.model.specs.Stations.{noWrite, noLive, writesOf, readsOf, keysOf, wrote, wroteAs, writeKey, isClosing, closingSlot, closingClock, recordsStored, liveAt, entryAt, setLive, setEntry, isLive, placeOf}
 use Rattle.model.specs.Records.{entryIn, valueIn, commitRecord, versionRecord, entryRules, carriesVersion, recordAt, withRecord, recordOf}
@@ -37,7 +37,7 @@ use Rattle.model.proofs.IdLaws.{same-id}
 use Rattle.model.proofs.RecordLaws.{Fits, length-commit, length-version, entry-round, commit-rules, version-value, version-round, with-length, record-same, record-other, record-elsewhere}
 use Rattle.model.proofs.SlotLaws.{committed-injective, seen-frame, seen-free, seen-free-mark, seen-committed}
 use Rattle.model.proofs.ReadingLaws.{wrote-as, as-wrote}
-use Rattle.model.proofs.StationLaws.{place-hit, entry-get, setLive-at, liveAt-same, liveAt-other, setLive-entry, setEntry-at, entryAt-same, entryAt-other, setEntry-live, setEntry-length, not-closing, closing-same, marked}
+use Rattle.model.proofs.StationLaws.{place-hit, entry-get, setLive-at, liveAt-same, liveAt-other, setLive-entry, setEntry-at, entryAt-same, entryAt-other, setEntry-live, setEntry-length, not-closing, closing-same}
 use Rattle.model.proofs.SoundLaws.{sound-at, write-limit, writes-length, entryFor-sound}
 use Rattle.model.proofs.SoundFacts.{live-not-held, one-closing, IsClosing, closing-facts}
 use Rattle.history.specs.Ledger.{Draft, Committed, Ledger, at, withDraft, committedFrom, feed}
@@ -49,7 +49,7 @@ use Rattle.history.proofs.LiveLaws.{reads-set, ranges-set, noLive-open,
 use Rattle.history.proofs.Committing.{phase-ranges, phase-reads, phase-of, txn-of}
 use Rattle.history.proofs.Reading.{read-named}
 use Rattle.history.proofs.CommittedLaws.{slotHolds, holds-free, holds-committed, cond-frame, holds-frame, in-store, hold-same, hold-one-more}
-use Rattle.history.proofs.SlotOwners.{prepared-frame, entered, closing, not-free, entryFor-txn, entryFor-id, entryFor-phase, unseen}
+use Rattle.history.proofs.SlotOwners.{prepared-frame, not-free, entryFor-txn, entryFor-id, entryFor-phase, unseen}
 
 -- ── a closing transaction writes to its slot ──
 module _ (st : Station) (s s′ : List ℕ) (b : Ledger) (inv : Inv st s b) (h : sound st ≡ true) (t d c n m : ℕ) (nz : t ≢ 0) (z : isLive t st ≡ true)

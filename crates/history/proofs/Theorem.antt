@@ -24,7 +24,7 @@ use Rattle.model.proofs.ScanLaws.{KeepsRules}
 use Rattle.model.proofs.SoundKept.{sound-empty, sound-scan, sound-kept}
 use Rattle.history.specs.Ledger.{Ledger, emptyLedger, feed}
 use Rattle.history.specs.Histories.{Event, called, cut, World, begin, afterCall, cutStore, cutLedger, restarted, next, run, callOf, AllInRange}
-use Rattle.history.specs.CutRule.{CutRule}
+use Rattle.history.specs.CutRule.{CutRule, Demand3}
 use Rattle.history.specs.Matches.{Correspond}
 use Rattle.history.proofs.Invariant.{Inv, Held, Good}
 use Rattle.history.proofs.Opening.{start-keeps, put-keeps, abort-keeps}
@@ -116,7 +116,7 @@ pub history-keeps : (vs : List Event) → AllInRange vs → State (run vs begin)
 history-keeps vs f = run-keeps vs begin f (unfold begin in (sound-empty, begin-inv))
 
 -- ── the cut rule ──
-pub cut-rule : (vs : List Event) → AllInRange vs → CutRule (run vs begin .store) (run vs begin .ledger)
+pub cut-rule : Demand3
 cut-rule vs f = let st = history-keeps vs f in cut-rule-of _ _ _ (st .0) (st .1)
 
 -- also at the moment of a cut, before its scan

@@ -13,10 +13,9 @@ use Rattle.model.specs.declared.Answer.the-variants as A
 use Rattle.model.specs.Ids.{older}
 use Rattle.model.specs.Stations.{wrote}
 use Rattle.model.specs.Records.{valueIn, recordAt, recordOf}
-use Rattle.model.specs.Reading.{newest}
 use Rattle.model.specs.Scan.{scan}
-use Rattle.model.specs.Answers.{values}
 use Rattle.history.specs.Ledger.{Draft, Committed, Ledger}
+use Rattle.history.specs.Histories.{Event, begin, run, AllInRange}
 
 -- the transaction that slot d of the store holds under entry e: "ticket, clock and keys from the entry, values from the version slips"
 unfoldable pub committedIn : List ℕ → ℕ → Entry → Committed
@@ -52,3 +51,7 @@ pub record CutRule (s : List ℕ) (b : Ledger) : Type 0 where
   -- "and the reads are an Atomic Readset, i's transaction being that job."
   pub atomic : (t : ℕ) (p : Draft) (r q : Read) (j : Committed) → b .drafts t ≡ some p → List·Memᴰ r (p .reads) → List·Memᴰ q (p .reads)
       → List·Memᴰ j (b .standing) → j .id ≡ r .id → Wrote j (q .key) → Newer (r .id) (q .id) → ⊥
+
+-- Demand 3: one claim about every list of calls and cuts, refused calls included and clocks in any order. `cut-rule` proves it.
+abbrev pub Demand3 : Type 0
+Demand3 = (vs : List Event) → AllInRange vs → CutRule (run vs begin .store) (run vs begin .ledger)

@@ -11,7 +11,6 @@ use Rattle.model.specs.declared.Phase.the-variants.{Closing}
 use Rattle.model.specs.declared.Answer.{Answer}
 use Rattle.model.specs.declared.Answer.the-variants as A
 use Rattle.model.specs.Calls.{Call, txnOf, keyOf, numberOf}
-use Rattle.model.specs.Answers.{values}
 
 -- the draft (page) of a live transaction: its clock once it closes, its values by key, its reads
 pub record Draft : Type 0 where

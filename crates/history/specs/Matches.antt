@@ -12,7 +12,6 @@ use Rattle.model.specs.declared.Live.{Live}
 use Rattle.model.specs.declared.Station.{Station}
 use Rattle.model.specs.declared.Phase.the-variants.{Closing}
 use Rattle.model.specs.Stations.{writesOf, readsOf, liveAt}
-use Rattle.model.specs.Answers.{values}
 use Rattle.history.specs.Ledger.{Draft}
 
 -- the value under a key of a write set, if any

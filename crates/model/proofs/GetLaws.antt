@@ -17,7 +17,7 @@ use Rattle.model.specs.declared.Answer.the-variants as A
 use Rattle.model.specs.Lists.{all, first, insert, member}
 use Rattle.model.specs.Stations.{noWrite, writesOf, readsOf, wrote, wroteAs, writeKey, hasWritten, valueUnder, liveAt, entryAt, placeOf}
 use Rattle.model.specs.Records.{valueIn}
-use Rattle.model.specs.Reading.{passes, Choice, own, absent, nofit, version, choose}
+use Rattle.model.specs.Reading.{Choice, own, absent, nofit, version, choose}
 use Rattle.model.specs.Effects.{Effect, says}
 use Rattle.model.specs.Get.{choiceOf, versionAt, answered, get}
 use Rattle.model.specs.Answers.{refusedWith}

@@ -14,8 +14,8 @@ use native.Mathlib.Omega.{arith}
 use borrow.Author.Tests.{eqb-true, eq-eqb}
 use Rattle.model.specs.declared.Id.{Id}
 use Rattle.model.specs.declared.Entry.{Entry}
-use Rattle.model.specs.Lists.{_and_, count, same}
-use Rattle.model.specs.Limits.{keys, slots, writeLimit, recordSize, width, storeSize, txnRange, numberRange, byteRange}
+use Rattle.model.specs.Lists.{_and_, same}
+use Rattle.model.specs.Limits.{slots, writeLimit, recordSize, width, storeSize, txnRange, numberRange, byteRange}
 use Rattle.model.specs.Ids.{sameId}
 use Rattle.model.specs.Records.{bytes, number, idIn, markIn, entryIn, valueIn, freeMark, committedMark, headBytes, commitRecord, versionRecord, zeroRecord, entryRules, commitRules, carriesEntry, carriesVersion, recordPlace, recordAt, withRecord}
 use Rattle.model.proofs.Tests.{and-left, and-right, and-intro}

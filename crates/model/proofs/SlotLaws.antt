@@ -12,7 +12,7 @@ use native.Mathlib.Omega.{arith}
 use borrow.Author.Tests.{leb-true, eqb-true, eq-eqb, ne-eqb}
 use Rattle.model.specs.declared.Id.{Id}
 use Rattle.model.specs.declared.Entry.{Entry}
-use Rattle.model.specs.Lists.{_and_, first, count, ascending}
+use Rattle.model.specs.Lists.{_and_, first, ascending}
 use Rattle.model.specs.Limits.{keys, slots, writeLimit, recordSize, width, slotSize, storeSize}
 use Rattle.model.specs.Stations.{keysOf, wrote}
 use Rattle.model.specs.Records.{markIn, entryIn, freeMark, zeroRecord, entryRules, commitRules, carriesEntry, carriesVersion, recordPlace, recordAt, withRecord, recordOf}

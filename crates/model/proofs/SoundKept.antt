@@ -22,7 +22,6 @@ use Rattle.model.specs.Lists.{_and_, _or_, all, from, ascending, distinc
 use Rattle.model.specs.Limits.{keys, livePlaces, slots, writeLimit, readLimit, storeSize}
 use Rattle.model.specs.Ids.{sameId}
 use Rattle.model.specs.Stations.{noLive, noEntry, emptyStation, writesOf, readsOf, wrote, wroteAs, hasWritten, hasRead, isClosing, closingSlot, closingClock, recordsStored, liveAt, entryAt, setLive, setEntry, liveTxns, heldTxns, isLive, isHeld, placeOf, holds, slotMark, closingSlots, isFree}
-use Rattle.model.specs.Records.{number}
 use Rattle.model.specs.Slots.{Seen, free, committed, damaged, seen}
 use Rattle.model.specs.Sound.{isNoWrite, isNoRead, isNoEntry, isNoLive, zeroPastCounts, setsRight, placeRight, entryRight, sound}
 use Rattle.model.specs.Reading.{Choice, own, absent, nofit, version}

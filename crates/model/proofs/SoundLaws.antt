@@ -19,7 +19,7 @@ use Rattle.model.specs.declared.Entry.{Entry}
 use Rattle.model.specs.declared.Station.{Station}
 use Rattle.model.specs.declared.Phase.{Phase}
 use Rattle.model.specs.declared.Phase.the-variants.{Unused, Open, Closing}
-use Rattle.model.specs.Lists.{_and_, _or_, all, any, count, insert, member, ascending, distinct}
+use Rattle.model.specs.Lists.{_and_, _or_, all, any, insert, member, ascending, distinct}
 use Rattle.model.specs.Limits.{keys, slots, writeLimit, readLimit}
 use Rattle.model.specs.Ids.{sameId}
 use Rattle.model.specs.Stations.{noWrite, noRead, noLive, writesOf, readsOf, keysOf, wrote, wroteAs, writeKey, readKey, hasWritten, hasRead, isClosing, closingSlot, closingClock, recordsStored, liveAt, entryAt, setLive, setEntry, liveTxns, heldTxns, holds, slotMark, closingSlots}

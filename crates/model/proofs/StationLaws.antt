@@ -15,8 +15,7 @@ use Rattle.model.specs.declared.Entry.{Entry}
 use Rattle.model.specs.declared.Station.{Station}
 use Rattle.model.specs.declared.Phase.{Phase}
 use Rattle.model.specs.declared.Phase.the-variants.{Unused, Open, Closing}
-use Rattle.model.specs.Lists.{count, member}
-use Rattle.model.specs.Limits.{keys}
+use Rattle.model.specs.Lists.{member}
 use Rattle.model.specs.Ids.{noId}
 use Rattle.model.specs.Stations.{noEntry, isClosing, closingSlot, closingClock, recordsStored, liveAt, entryAt, setLive, setEntry, liveTxns, heldTxns, isLive, isHeld, placeOf, slotOf, holds, slotMark, closingSlots}
 use Rattle.model.proofs.Tests.{not-of-true}

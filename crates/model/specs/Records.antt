@@ -6,7 +6,7 @@ use lib.Dec.{eqb, leb}
 use lib.ListN.{take, drop, getD, replicate}
 use Rattle.model.specs.declared.Id.{Id}
 use Rattle.model.specs.declared.Entry.{Entry}
-use Rattle.model.specs.Lists.{_and_, all, first, count, ascending, same}
+use Rattle.model.specs.Lists.{_and_, all, first, ascending, same}
 use Rattle.model.specs.Limits.{keys, writeLimit, recordSize, width, byteRange}
 use Rattle.model.specs.Ids.{sameId}
 use Rattle.model.specs.Stations.{keysOf}

@@ -11,7 +11,7 @@ use Rattle.model.specs.declared.Entry.{Entry}
 use Rattle.model.specs.declared.Station.{Station}
 use Rattle.model.specs.declared.Phase.{Phase}
 use Rattle.model.specs.declared.Phase.the-variants.{Unused, Open, Closing}
-use Rattle.model.specs.Lists.{_and_, _or_, all, count, ascending, distinct}
+use Rattle.model.specs.Lists.{_and_, _or_, all, ascending, distinct}
 use Rattle.model.specs.Limits.{keys, slots, writeLimit, readLimit}
 use Rattle.model.specs.Ids.{sameId, noId}
 use Rattle.model.specs.Stations.{writesOf, readsOf, wroteAs, writeKey, readKey, closingSlot, closingClock, recordsStored, liveTxns, heldTxns, holds, closingSlots}

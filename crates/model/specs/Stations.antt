@@ -12,8 +12,8 @@ use Rattle.model.specs.declared.Entry.{Entry}
 use Rattle.model.specs.declared.Station.{Station}
 use Rattle.model.specs.declared.Phase.{Phase}
 use Rattle.model.specs.declared.Phase.the-variants.{Unused, Open, Closing}
-use Rattle.model.specs.Lists.{_and_, any, first, count, member}
-use Rattle.model.specs.Limits.{keys, livePlaces, slots, writeLimit, readLimit}
+use Rattle.model.specs.Lists.{_and_, any, first, member}
+use Rattle.model.specs.Limits.{livePlaces, slots, writeLimit, readLimit}
 use Rattle.model.specs.Ids.{sameId, noId}
 
 -- ── unused: "All fields of unused places, entries and list positions are zero." ──

@@ -11,8 +11,6 @@ use Rattle.model.specs.declared.Station.{Station}
 use Rattle.model.specs.declared.Phase.{Phase}
 use Rattle.model.specs.declared.Phase.the-variants.{Unused, Open, Closing}
 use Rattle.model.specs.declared.Answer.the-variants as A
-use Rattle.model.specs.Lists.{count}
-use Rattle.model.specs.Limits.{keys}
 use Rattle.model.specs.Stations.{noWrite, noLive, writeKey, isClosing, closingSlot, closingClock, recordsStored, liveAt, setLive, setEntry, isLive, placeOf}
 use Rattle.model.specs.Records.{commitRecord, versionRecord}
 use Rattle.model.specs.Effects.{Effect, says, saysStoring, _when_, refusals, wrongLength, unsound}

@@ -1,0 +1,3 @@
+pub mod ListSteps
+pub mod ByteLaws
+pub mod SlotSteps

@@ -1,0 +1,347 @@
+// The bytes of a record and of a slot, read and written. Their meaning is defined in model's specs/Records and specs/Slots.
+use model::Entry;
+use model::Id;
+use model::Station;
+ghost use mathlib.Core.Path.{_≡_};
+ghost use Prim.Native.Nat.{_≤_, _<_, _^_};
+ghost use mathlib.Core.List.{_++_};
+ghost use lib.Dec.{eqb};
+ghost use lib.ListN.{length, take, drop, getD};
+ghost use Rattle.model.specs.Ids.{sameId};
+ghost use Rattle.model.specs.Limits.{keys, writeLimit, recordSize, slotSize, byteRange};
+ghost use Rattle.model.specs.Lists.{_and_, all, ascending, same};
+ghost use Rattle.model.specs.Records.{bytes, number, idIn, markIn, entryIn, valueIn, committedMark, headBytes, commitRecord, versionRecord, zeroRecord, entryRules, carriesEntry, carriesVersion, recordAt};
+ghost use Rattle.model.specs.Slots.{versionsCarry, seen};
+ghost use Rattle.model.specs.Stations.{noEntry, keysOf};
+ghost use Rattle.records.specs.SlotView.{slotWith, slotOf};
+
+// The bytes of a record, 01's slip.
+const RECORD: usize = 24;
+
+// A commit record's first byte, 01's mark.
+const FREE_MARK: u8 = 0;
+
+const COMMITTED_MARK: u8 = 1;
+
+// Keys are below this.
+const KEYS: u8 = 64;
+
+pub enum Mark {
+    Free,
+    Committed,
+    Damaged,
+}
+
+// What a slot, 01's drawer, is read as; the entry is all zero unless the slot is committed.
+pub struct Slot {
+    pub mark: Mark,
+    pub entry: Entry,
+}
+
+// The number that bytes make, least byte first: from the last byte down, so that no power of 256 is kept.
+fn number_in(part: &[u8]) -> u64
+    requires { ⌜ length (now part) ≤ 8 ⌝ }
+    ensures { λ r. ⌜ (r ≡ number (now (part .entry))) × (r < byteRange ^ length (now (part .entry))) ⌝ }
+{
+    let mut sum: u64 = 0;
+    let mut i = part.len();
+    while 0 < i {
+        i -= 1;
+        sum = sum * 256 + part[i] as u64;
+    }
+    sum
+}
+
+// The value of a version record.
+pub fn value_in(r: &[u8]) -> u64
+    requires { ⌜ length (now r) ≡ recordSize ⌝ }
+    ensures { λ v. ⌜ v ≡ valueIn (now (r .entry)) ⌝ }
+{
+    number_in(&r[16..24])
+}
+
+// The id of either kind of record.
+fn id_in(r: &[u8]) -> Id
+    requires { ⌜ length (now r) ≡ recordSize ⌝ }
+    ensures { λ i. ⌜ i ≡ idIn (now (r .entry)) ⌝ }
+{
+    let txn = number_in(&r[4..8]) as u32;
+    let clock = number_in(&r[8..16]);
+    Id { clock, txn }
+}
+
+fn same_id(a: Id, b: Id) -> bool
+    ensures { λ r. ⌜ r ≡ sameId a b ⌝ }
+{
+    if a.clock != b.clock {
+        return false;
+    }
+    a.txn == b.txn
+}
+
+// Key bytes are those of an entry.
+fn same_keys(part: &[u8], keys: [u8; Station::WRITES]) -> bool
+    requires { ⌜ length (now part) ≡ writeLimit ⌝ }
+    ensures { λ r. ⌜ r ≡ same (now (part .entry)) keys ⌝ }
+{
+    let mut i = 0;
+    while i < Station::WRITES {
+        if part[i] != keys[i] {
+            return false;
+        }
+        i += 1;
+    }
+    true
+}
+
+// A commit record has its mark and its two zeros.
+fn is_commit(r: &[u8]) -> bool
+    requires { ⌜ length (now r) ≡ recordSize ⌝ }
+    ensures { λ b. ⌜ b ≡ (eqb (markIn (now (r .entry))) committedMark and eqb (getD (now (r .entry)) 2 0) 0 and eqb (getD (now (r .entry)) 3 0) 0) ⌝ }
+{
+    if r[0] != COMMITTED_MARK {
+        return false;
+    }
+    if r[2] != 0 {
+        return false;
+    }
+    r[3] == 0
+}
+
+// A commit record carries an entry.
+pub fn carries_entry(r: &[u8], e: Entry) -> bool
+    requires { ⌜ length (now r) ≡ recordSize ⌝ }
+    ensures { λ b. ⌜ b ≡ carriesEntry (now (r .entry)) e ⌝ }
+{
+    if !is_commit(r) {
+        return false;
+    }
+    let id = e.id;
+    if !same_id(id_in(r), id) {
+        return false;
+    }
+    if r[1] != e.count {
+        return false;
+    }
+    let keys = e.keys;
+    same_keys(&r[16..24], keys)
+}
+
+// A version record carries a key and an id; its value may be any.
+pub fn carries_version(r: &[u8], key: u8, id: Id) -> bool
+    requires { ⌜ length (now r) ≡ recordSize ⌝ }
+    ensures { λ b. ⌜ b ≡ carriesVersion (now (r .entry)) key id ⌝ }
+{
+    if r[0] != key {
+        return false;
+    }
+    if r[1] != 0 {
+        return false;
+    }
+    if r[2] != 0 {
+        return false;
+    }
+    if r[3] != 0 {
+        return false;
+    }
+    same_id(id_in(r), id)
+}
+
+// The entry of a commit record.
+fn entry_in(r: &[u8]) -> Entry
+    requires { ⌜ length (now r) ≡ recordSize ⌝ }
+    ensures { λ e. ⌜ e ≡ entryIn (now (r .entry)) ⌝ }
+{
+    let id = id_in(r);
+    Entry {
+        id,
+        count: r[1],
+        keys: [r[16], r[17], r[18], r[19], r[20], r[21], r[22], r[23]],
+    }
+}
+
+// The first `count` keys rise strictly and are keys.
+fn keys_ascend(ks: [u8; Station::WRITES], count: usize) -> bool
+    requires { ⌜ count ≤ writeLimit ⌝ }
+    ensures { λ r. ⌜ r ≡ ascending 0 keys (take count ks) ⌝ }
+{
+    let mut low: u8 = 0;
+    let mut i = 0;
+    while i < count {
+        let k = ks[i];
+        if k < low {
+            return false;
+        }
+        if k >= KEYS {
+            return false;
+        }
+        low = k + 1;
+        i += 1;
+    }
+    true
+}
+
+// The key bytes from `count` on are zero.
+fn rest_zero(keys: [u8; Station::WRITES], count: usize) -> bool
+    requires { ⌜ count ≤ writeLimit ⌝ }
+    ensures { λ r. ⌜ r ≡ all (eqb 0) (drop count keys) ⌝ }
+{
+    let mut i = count;
+    while i < Station::WRITES {
+        if keys[i] != 0 {
+            return false;
+        }
+        i += 1;
+    }
+    true
+}
+
+// The rules of a committed entry.
+fn keeps_rules(e: Entry) -> bool
+    ensures { λ r. ⌜ r ≡ entryRules e ⌝ }
+{
+    let count = e.count as usize;
+    if count == 0 {
+        return false;
+    }
+    if count > Station::WRITES {
+        return false;
+    }
+    let id = e.id;
+    if id.txn == 0 {
+        return false;
+    }
+    if id.clock == 0 {
+        return false;
+    }
+    let keys = e.keys;
+    if !keys_ascend(keys, count) {
+        return false;
+    }
+    rest_zero(keys, count)
+}
+
+// A slot's version records carry an entry's keys and its id; records above its count are leftovers and are not read.
+fn versions_carry(w: &[u8], e: Entry) -> bool
+    requires { ⌜ length (now w) ≡ slotSize ⌝ }
+    requires { ⌜ e .count ≤ writeLimit ⌝ }
+    ensures { λ r. ⌜ r ≡ versionsCarry (recordAt (now (w .entry)) 0) (e .id) 1 (keysOf e) ⌝ }
+{
+    let keys = e.keys;
+    let count = e.count as usize;
+    let id = e.id;
+    let mut n = 0;
+    while n < count {
+        let at = RECORD * (n + 1);
+        if !carries_version(&w[at..at + RECORD], keys[n], id) {
+            return false;
+        }
+        n += 1;
+    }
+    true
+}
+
+fn without_entry(mark: Mark) -> Slot
+    ensures { λ r. ⌜ r ≡ slotWith mark noEntry ⌝ }
+{
+    let id = Id { clock: 0, txn: 0 };
+    let entry = Entry {
+        id,
+        count: 0,
+        keys: [0; Station::WRITES],
+    };
+    Slot { mark, entry }
+}
+
+// What a slot's 216 bytes are read as; a free slot's are not read on.
+pub fn read_slot(w: &[u8]) -> Slot
+    requires { ⌜ length (now w) ≡ slotSize ⌝ }
+    ensures { λ r. ⌜ r ≡ slotOf (seen (now (w .entry)) 0) ⌝ }
+{
+    if w[0] == FREE_MARK {
+        return without_entry(Mark::Free);
+    }
+    if !is_commit(&w[0..RECORD]) {
+        return without_entry(Mark::Damaged);
+    }
+    let e = entry_in(&w[0..RECORD]);
+    if !keeps_rules(e) {
+        return without_entry(Mark::Damaged);
+    }
+    if !versions_carry(w, e) {
+        return without_entry(Mark::Damaged);
+    }
+    Slot {
+        mark: Mark::Committed,
+        entry: e,
+    }
+}
+
+// A number's bytes, least byte first, over the part lent.
+fn write_number(part: &mut [u8], x: u64)
+    ensures { λ _. ⌜ now (part .exit) ≡ bytes (length (now (part .entry))) x ⌝ }
+{
+    let mut rest = x;
+    let mut i = 0;
+    while i < part.len() {
+        part[i] = (rest % 256) as u8;
+        rest = rest / 256;
+        i += 1;
+    }
+}
+
+// The first 16 bytes of a record, of either kind.
+fn write_head(part: &mut [u8], first: u8, second: u8, id: Id)
+    requires { ⌜ length (now part) ≡ recordSize ⌝ }
+    ensures { λ _. ⌜ now (part .exit) ≡ headBytes first second id ++ drop 16 (now (part .entry)) ⌝ }
+{
+    part[0] = first;
+    part[1] = second;
+    part[2] = 0;
+    part[3] = 0;
+    write_number(&mut part[4..8], id.txn as u64);
+    write_number(&mut part[8..16], id.clock);
+}
+
+fn write_keys(part: &mut [u8], keys: [u8; Station::WRITES])
+    requires { ⌜ length (now part) ≡ writeLimit ⌝ }
+    ensures { λ _. ⌜ now (part .exit) ≡ keys ⌝ }
+{
+    let mut i = 0;
+    while i < Station::WRITES {
+        part[i] = keys[i];
+        i += 1;
+    }
+}
+
+// A version record over the part lent.
+pub fn write_version(part: &mut [u8], key: u8, id: Id, value: u64)
+    requires { ⌜ length (now part) ≡ recordSize ⌝ }
+    ensures { λ _. ⌜ now (part .exit) ≡ versionRecord key id value ⌝ }
+{
+    write_head(part, key, 0, id);
+    write_number(&mut part[16..24], value);
+}
+
+// A commit record over the part lent.
+pub fn write_commit(part: &mut [u8], e: Entry)
+    requires { ⌜ length (now part) ≡ recordSize ⌝ }
+    ensures { λ _. ⌜ now (part .exit) ≡ commitRecord e ⌝ }
+{
+    let id = e.id;
+    let keys = e.keys;
+    write_head(part, COMMITTED_MARK, e.count, id);
+    write_keys(&mut part[16..24], keys);
+}
+
+// Zeros over the part lent: as a commit record they free a slot.
+pub fn write_zero(part: &mut [u8])
+    requires { ⌜ length (now part) ≡ recordSize ⌝ }
+    ensures { λ _. ⌜ now (part .exit) ≡ zeroRecord ⌝ }
+{
+    let mut i = 0;
+    while i < part.len() {
+        part[i] = 0;
+        i += 1;
+    }
+}

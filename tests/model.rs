@@ -1,0 +1,541 @@
+//! The scope document in plain Rust: written from its text alone, sharing no source with the store that is proved.
+//! The tests compare the two; the benchmarks use it as the idiomatic Rust version with the same checks.
+
+pub const LIVE: usize = 8;
+pub const SLOTS: usize = 64;
+pub const WRITES: usize = 8;
+pub const READS: usize = 16;
+pub const RECORD: usize = 24;
+pub const SLOT: usize = RECORD * (WRITES + 1);
+pub const STORE: usize = SLOT * SLOTS;
+
+/// Compared by clock, then number: the fields stand in that order.
+#[derive(Clone, Copy, PartialEq, Eq, PartialOrd, Ord, Debug, Default)]
+pub struct Id {
+    pub clock: u64,
+    pub txn: u32,
+}
+
+#[derive(Clone, Copy, PartialEq, Eq, Debug, Default)]
+pub enum Phase {
+    #[default]
+    Unused,
+    Open,
+    Closing { slot: u8, clock: u64, stored: u8 },
+}
+
+#[derive(Clone, Copy, PartialEq, Eq, Debug, Default)]
+pub struct Write {
+    pub key: u8,
+    pub value: u64,
+}
+
+#[derive(Clone, Copy, PartialEq, Eq, Debug, Default)]
+pub struct Read {
+    pub key: u8,
+    pub id: Id,
+}
+
+#[derive(Clone, Copy, PartialEq, Eq, Debug, Default)]
+pub struct Live {
+    pub txn: u32,
+    pub phase: Phase,
+    pub write_count: u8,
+    pub writes: [Write; WRITES],
+    pub read_count: u8,
+    pub reads: [Read; READS],
+}
+
+#[derive(Clone, Copy, PartialEq, Eq, Debug, Default)]
+pub struct Entry {
+    pub id: Id,
+    pub count: u8,
+    pub keys: [u8; WRITES],
+}
+
+#[derive(Clone, PartialEq, Eq, Debug)]
+pub struct Station {
+    pub live: [Live; LIVE],
+    pub entries: [Entry; SLOTS],
+}
+
+#[derive(Clone, Copy, PartialEq, Eq, Debug)]
+pub enum Answer {
+    Started,
+    Kept,
+    Own(u64),
+    Version(u64, Id),
+    None,
+    Nofit,
+    Closing(u8),
+    Empty,
+    Done(Id),
+    Stored(u8),
+    Slipped(u8),
+    Dropped,
+    Collected(Id),
+    Found(u8),
+    Refused(u8, u8),
+}
+
+fn refused(number: u8) -> Answer {
+    Answer::Refused(number, 0)
+}
+
+/// Strictly ascending and below 64.
+fn ascends(keys: impl Iterator<Item = u8>) -> bool {
+    let mut low = 0;
+    for key in keys {
+        if u32::from(key) < low || key > 63 {
+            return false;
+        }
+        low = u32::from(key) + 1;
+    }
+    true
+}
+
+impl Live {
+    pub fn writes(&self) -> &[Write] {
+        &self.writes[..usize::from(self.write_count)]
+    }
+
+    pub fn reads(&self) -> &[Read] {
+        &self.reads[..usize::from(self.read_count)]
+    }
+
+    fn put(&mut self, key: u8, value: u64) {
+        let n = usize::from(self.write_count);
+        match self.writes[..n].binary_search_by_key(&key, |w| w.key) {
+            Ok(at) => self.writes[at].value = value,
+            Err(at) => {
+                self.writes.copy_within(at..n, at + 1);
+                self.writes[at] = Write { key, value };
+                self.write_count += 1;
+            }
+        }
+    }
+
+    fn join(&mut self, key: u8, id: Id) {
+        let n = usize::from(self.read_count);
+        match self.reads[..n].binary_search_by_key(&key, |r| r.key) {
+            Ok(at) => self.reads[at].id = id,
+            Err(at) => {
+                self.reads.copy_within(at..n, at + 1);
+                self.reads[at] = Read { key, id };
+                self.read_count += 1;
+            }
+        }
+    }
+
+    /// The entry that this transaction becomes.
+    fn entry(&self, clock: u64) -> Entry {
+        let mut keys = [0; WRITES];
+        for (key, write) in keys.iter_mut().zip(self.writes()) {
+            *key = write.key;
+        }
+        Entry { id: Id { clock, txn: self.txn }, count: self.write_count, keys }
+    }
+
+    fn sound(&self, station: &Station) -> bool {
+        if self.phase == Phase::Unused {
+            return *self == Live::default();
+        }
+        let (w, r) = (usize::from(self.write_count), usize::from(self.read_count));
+        if self.txn == 0 || w > WRITES || r > READS {
+            return false;
+        }
+        if !ascends(self.writes().iter().map(|x| x.key)) || !ascends(self.reads().iter().map(|x| x.key)) {
+            return false;
+        }
+        if self.writes[w..].iter().any(|x| *x != Write::default()) || self.reads[r..].iter().any(|x| *x != Read::default()) {
+            return false;
+        }
+        if !self.reads().iter().all(|x| station.held().any(|(_, e)| e.id == x.id && e.wrote(x.key))) {
+            return false;
+        }
+        match self.phase {
+            Phase::Closing { slot, clock, stored } => {
+                w >= 1 && clock >= 1 && usize::from(stored) <= w + 1 && usize::from(slot) < SLOTS && station.entries[usize::from(slot)] == Entry::default()
+            }
+            _ => true,
+        }
+    }
+}
+
+impl Entry {
+    pub fn keys(&self) -> &[u8] {
+        &self.keys[..usize::from(self.count).min(WRITES)]
+    }
+
+    pub fn wrote(&self, key: u8) -> bool {
+        self.keys().contains(&key)
+    }
+
+    /// The commit record's rules.
+    fn right(&self) -> bool {
+        let n = usize::from(self.count);
+        (1..=WRITES).contains(&n) && self.id.txn >= 1 && self.id.clock >= 1 && ascends(self.keys().iter().copied()) && self.keys[n..].iter().all(|k| *k == 0)
+    }
+}
+
+// ── records ──
+
+fn head(a: u8, b: u8, id: Id) -> [u8; RECORD] {
+    let mut r = [0; RECORD];
+    r[0] = a;
+    r[1] = b;
+    r[4..8].copy_from_slice(&id.txn.to_le_bytes());
+    r[8..16].copy_from_slice(&id.clock.to_le_bytes());
+    r
+}
+
+pub fn commit_record(e: &Entry) -> [u8; RECORD] {
+    let mut r = head(1, e.count, e.id);
+    r[16..].copy_from_slice(&e.keys);
+    r
+}
+
+pub fn version_record(key: u8, id: Id, value: u64) -> [u8; RECORD] {
+    let mut r = head(key, 0, id);
+    r[16..].copy_from_slice(&value.to_le_bytes());
+    r
+}
+
+fn place(slot: usize, n: usize) -> usize {
+    slot * SLOT + n * RECORD
+}
+
+fn record(store: &[u8], slot: usize, n: usize) -> &[u8] {
+    &store[place(slot, n)..][..RECORD]
+}
+
+fn write(store: &mut [u8], slot: usize, n: usize, r: &[u8; RECORD]) {
+    store[place(slot, n)..][..RECORD].copy_from_slice(r);
+}
+
+fn value(r: &[u8]) -> u64 {
+    u64::from_le_bytes(r[16..24].try_into().unwrap())
+}
+
+/// What a slot holds: nothing, an entry, or damage.
+pub enum Seen {
+    Free,
+    Committed(Entry),
+    Damaged,
+}
+
+pub fn seen(store: &[u8], slot: usize) -> Seen {
+    let r = record(store, slot, 0);
+    if r[0] == 0 {
+        return Seen::Free;
+    }
+    let e = Entry {
+        id: Id { clock: u64::from_le_bytes(r[8..16].try_into().unwrap()), txn: u32::from_le_bytes(r[4..8].try_into().unwrap()) },
+        count: r[1],
+        keys: r[16..24].try_into().unwrap(),
+    };
+    let versions = |e: &Entry| e.keys().iter().enumerate().all(|(n, key)| record(store, slot, n + 1)[..16] == head(*key, 0, e.id)[..16]);
+    if e.right() && *r == commit_record(&e) && versions(&e) {
+        Seen::Committed(e)
+    } else {
+        Seen::Damaged
+    }
+}
+
+// ── the calls ──
+
+impl Station {
+    pub fn empty() -> Station {
+        Station { live: [Live::default(); LIVE], entries: [Entry::default(); SLOTS] }
+    }
+
+    pub fn held(&self) -> impl Iterator<Item = (usize, &Entry)> {
+        self.entries.iter().enumerate().filter(|(_, e)| e.id.txn != 0)
+    }
+
+    pub fn sound(&self) -> bool {
+        if !self.entries.iter().all(|e| *e == Entry::default() || e.right()) {
+            return false;
+        }
+        if !self.live.iter().all(|l| l.sound(self)) {
+            return false;
+        }
+        let mut txns: Vec<u32> = self.live.iter().map(|l| l.txn).chain(self.entries.iter().map(|e| e.id.txn)).filter(|t| *t != 0).collect();
+        let count = txns.len();
+        txns.sort_unstable();
+        txns.dedup();
+        let mut slots: Vec<u8> = self.live.iter().filter_map(|l| if let Phase::Closing { slot, .. } = l.phase { Some(slot) } else { None }).collect();
+        let closing = slots.len();
+        slots.sort_unstable();
+        slots.dedup();
+        txns.len() == count && slots.len() == closing
+    }
+
+    fn live_at(&self, txn: u32) -> Option<usize> {
+        self.live.iter().position(|l| l.txn == txn)
+    }
+
+    fn held_at(&self, txn: u32) -> Option<usize> {
+        self.entries.iter().position(|e| e.id.txn == txn)
+    }
+
+    fn highest_free(&self) -> Option<usize> {
+        let closing = |d: usize| self.live.iter().any(|l| matches!(l.phase, Phase::Closing { slot, .. } if usize::from(slot) == d));
+        (0..SLOTS).rev().find(|d| self.entries[*d].id.txn == 0 && !closing(*d))
+    }
+
+    pub fn start(&mut self, txn: u32) -> Answer {
+        if !self.sound() {
+            return refused(2);
+        }
+        if txn == 0 {
+            return refused(3);
+        }
+        if self.live_at(txn).is_some() || self.held_at(txn).is_some() {
+            return refused(6);
+        }
+        let Some(i) = self.live_at(0) else { return refused(7) };
+        self.live[i] = Live { txn, phase: Phase::Open, ..Live::default() };
+        Answer::Started
+    }
+
+    /// The place of an open transaction, or the refusal.
+    fn open(&self, txn: u32) -> Result<usize, Answer> {
+        let i = self.live_at(txn).ok_or(refused(8))?;
+        if self.live[i].phase == Phase::Open { Ok(i) } else { Err(refused(9)) }
+    }
+
+    pub fn put(&mut self, txn: u32, key: u8, value: u64) -> Answer {
+        if !self.sound() {
+            return refused(2);
+        }
+        if txn == 0 {
+            return refused(3);
+        }
+        if key > 63 {
+            return refused(4);
+        }
+        let i = match self.open(txn) {
+            Ok(i) => i,
+            Err(r) => return r,
+        };
+        let l = &mut self.live[i];
+        if usize::from(l.write_count) == WRITES && !l.writes().iter().any(|w| w.key == key) {
+            return refused(11);
+        }
+        l.put(key, value);
+        Answer::Kept
+    }
+
+    /// Algorithm 1: the slot of the version, or the answer where there is none.
+    fn choose(&self, l: &Live, key: u8) -> Result<usize, Answer> {
+        let written_by = |id: Id| self.held().any(|(_, e)| e.id == id && e.wrote(key));
+        let bound = l.reads().iter().map(|r| r.id).filter(|id| written_by(*id)).max();
+        let mut candidates: Vec<(usize, &Entry)> = self.held().filter(|(_, e)| e.wrote(key)).collect();
+        if candidates.is_empty() {
+            return Err(Answer::None);
+        }
+        candidates.sort_by_key(|(_, e)| std::cmp::Reverse(e.id));
+        'candidates: for (d, e) in candidates {
+            if bound.is_some_and(|b| e.id < b) {
+                break;
+            }
+            for k in e.keys() {
+                if l.reads().iter().any(|r| r.key == *k && r.id < e.id) {
+                    continue 'candidates;
+                }
+            }
+            return Ok(d);
+        }
+        Err(Answer::Nofit)
+    }
+
+    pub fn get(&mut self, store: &[u8], txn: u32, key: u8) -> Answer {
+        if store.len() != STORE {
+            return refused(1);
+        }
+        if !self.sound() {
+            return refused(2);
+        }
+        if txn == 0 {
+            return refused(3);
+        }
+        if key > 63 {
+            return refused(4);
+        }
+        let i = match self.open(txn) {
+            Ok(i) => i,
+            Err(r) => return r,
+        };
+        let l = &self.live[i];
+        if let Some(w) = l.writes().iter().find(|w| w.key == key) {
+            return Answer::Own(w.value);
+        }
+        let d = match self.choose(l, key) {
+            Ok(d) => d,
+            Err(a) => return a,
+        };
+        if usize::from(l.read_count) == READS && !l.reads().iter().any(|r| r.key == key) {
+            return refused(12);
+        }
+        let e = self.entries[d];
+        let n = e.keys().iter().position(|k| *k == key).unwrap();
+        let r = record(store, d, n + 1);
+        if r[..16] != head(key, 0, e.id)[..16] {
+            return refused(17);
+        }
+        self.live[i].join(key, e.id);
+        Answer::Version(value(r), e.id)
+    }
+
+    pub fn commit(&mut self, txn: u32, clock: u64) -> Answer {
+        if !self.sound() {
+            return refused(2);
+        }
+        if txn == 0 {
+            return refused(3);
+        }
+        if clock == 0 {
+            return refused(5);
+        }
+        if let Some(d) = self.held_at(txn) {
+            return Answer::Done(self.entries[d].id);
+        }
+        let i = match self.open(txn) {
+            Ok(i) => i,
+            Err(r) => return r,
+        };
+        if self.live[i].write_count == 0 {
+            self.live[i] = Live::default();
+            return Answer::Empty;
+        }
+        let Some(d) = self.highest_free() else { return refused(13) };
+        self.live[i].phase = Phase::Closing { slot: d as u8, clock, stored: 0 };
+        Answer::Closing(d as u8)
+    }
+
+    pub fn step(&mut self, store: &mut [u8], txn: u32) -> Answer {
+        if store.len() != STORE {
+            return refused(1);
+        }
+        if !self.sound() {
+            return refused(2);
+        }
+        if txn == 0 {
+            return refused(3);
+        }
+        let Some(i) = self.live_at(txn) else { return refused(8) };
+        let l = self.live[i];
+        let Phase::Closing { slot, clock, stored } = l.phase else { return refused(10) };
+        let (d, n) = (usize::from(slot), usize::from(stored));
+        let e = l.entry(clock);
+        if n > l.writes().len() {
+            self.live[i] = Live::default();
+            self.entries[d] = e;
+            return Answer::Done(e.id);
+        }
+        self.live[i].phase = Phase::Closing { slot, clock, stored: stored + 1 };
+        if n == l.writes().len() {
+            write(store, d, 0, &commit_record(&e));
+            return Answer::Slipped(slot);
+        }
+        let w = l.writes[n];
+        write(store, d, n + 1, &version_record(w.key, e.id, w.value));
+        Answer::Stored(w.key)
+    }
+
+    pub fn abort(&mut self, txn: u32) -> Answer {
+        if !self.sound() {
+            return refused(2);
+        }
+        if txn == 0 {
+            return refused(3);
+        }
+        match self.open(txn) {
+            Ok(i) => {
+                self.live[i] = Live::default();
+                Answer::Dropped
+            }
+            Err(r) => r,
+        }
+    }
+
+    pub fn collect(&mut self, store: &mut [u8], slot: u8) -> Answer {
+        if store.len() != STORE {
+            return refused(1);
+        }
+        if !self.sound() {
+            return refused(2);
+        }
+        let d = usize::from(slot);
+        if d >= SLOTS || self.entries[d].id.txn == 0 {
+            return refused(14);
+        }
+        let e = self.entries[d];
+        if !e.keys().iter().all(|k| self.held().any(|(_, f)| f.id > e.id && f.wrote(*k))) {
+            return refused(15);
+        }
+        if self.live.iter().any(|l| l.reads().iter().any(|r| r.id == e.id)) {
+            return refused(16);
+        }
+        if *record(store, d, 0) != commit_record(&e) {
+            return refused(17);
+        }
+        write(store, d, 0, &[0; RECORD]);
+        self.entries[d] = Entry::default();
+        Answer::Collected(e.id)
+    }
+
+    /// A refused scan hands back the empty station.
+    pub fn scan(store: &[u8]) -> (Station, Answer) {
+        let mut station = Station::empty();
+        if store.len() != STORE {
+            return (station, refused(1));
+        }
+        for d in 0..SLOTS {
+            match seen(store, d) {
+                Seen::Free => {}
+                Seen::Committed(e) if station.held_at(e.id.txn).is_none() => station.entries[d] = e,
+                _ => return (Station::empty(), Answer::Refused(18, d as u8)),
+            }
+        }
+        let found = station.held().count() as u8;
+        (station, Answer::Found(found))
+    }
+}
+
+impl Answer {
+    pub fn word(&self) -> &'static str {
+        match self {
+            Answer::Started => "started",
+            Answer::Kept => "kept",
+            Answer::Own(_) => "own",
+            Answer::Version(..) => "version",
+            Answer::None => "none",
+            Answer::Nofit => "nofit",
+            Answer::Closing(_) => "closing",
+            Answer::Empty => "empty",
+            Answer::Done(_) => "done",
+            Answer::Stored(_) => "stored",
+            Answer::Slipped(_) => "slipped",
+            Answer::Dropped => "dropped",
+            Answer::Collected(_) => "collected",
+            Answer::Found(_) => "found",
+            Answer::Refused(..) => "refused",
+        }
+    }
+
+    /// The output's fields a, b, c.
+    pub fn values(&self) -> (u64, u64, u64) {
+        match *self {
+            Answer::Own(v) => (v, 0, 0),
+            Answer::Version(v, id) => (v, id.clock, id.txn.into()),
+            Answer::Closing(d) | Answer::Slipped(d) => (d.into(), 0, 0),
+            Answer::Done(id) | Answer::Collected(id) => (0, id.clock, id.txn.into()),
+            Answer::Stored(k) => (k.into(), 0, 0),
+            Answer::Found(n) => (n.into(), 0, 0),
+            Answer::Refused(n, d) => (n.into(), d.into(), 0),
+            _ => (0, 0, 0),
+        }
+    }
+}
