@@ -1,7 +1,7 @@
 -- Laws of a row of refusals and of a choice by a test, for any property P.
 use Prim.Native.Nat.{ℕ}
 use mathlib.Core.Path.{_≡_, refl, _∙_}
-use mathlib.Core.Bool.{Bool, true, false, cond, true≢false}
+use mathlib.Core.Bool.{Bool, true, false, cond, true≢false, false≢true}
 use mathlib.Core.List.{List, [], _∷_}
 use lib.Dec.{leb}
 use native.Mathlib.Nat.{lt-irrefl}
@@ -58,3 +58,9 @@ pub skipped : (n : ℕ) (b : Bool) (rs : List Row) (st : Station) (e : Effect) �
 unfolding refusals
 skipped n true rs st e h = absurd (true≢false h)
 skipped n false rs st e h = refl
+
+-- the first row that applies decides
+pub hit : (n : ℕ) (b : Bool) (rs : List Row) (st : Station) (e : Effect) → b ≡ true → refusals (n when b ∷ rs) st e ≡ says (A.Refused n 0) st
+unfolding refusals
+hit n true rs st e h = refl
+hit n false rs st e h = absurd (false≢true h)

@@ -5,6 +5,7 @@ use mathlib.Core.List.{List, [], _∷_}
 use lib.Dec.{eqb}
 use lib.ListN.{length}
 use Rattle.model.specs.declared.Station.{Station}
+use Rattle.model.specs.declared.Outcome.{Outcome}
 use Rattle.model.specs.declared.Answer.{Answer}
 use Rattle.model.specs.declared.Answer.the-variants as A
 use Rattle.model.specs.Limits.{storeSize}
@@ -26,6 +27,10 @@ pub record Effect : Type 0 where
 unfoldable pub stored : List RecordWrite → List ℕ → List ℕ
 stored [] s = s
 stored (w ∷ ws) s = stored ws (withRecord s (w .slot) (w .index) (w .content))
+
+-- what the call hands back beside the store
+unfoldable pub outcomeOf : Effect → Outcome
+outcomeOf e = record { answer = e .answer; station = e .station }
 
 -- an answer with nothing stored; with one record stored
 unfoldable pub says : Answer → Station → Effect

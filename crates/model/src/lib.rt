@@ -70,6 +70,12 @@ pub enum Answer {
     Refused(u8, u8),
 }
 
+// What a call hands back beside the store: its answer, and the station.
+pub struct Outcome {
+    pub answer: Answer,
+    pub station: Station,
+}
+
 impl Station {
     // Live transactions, slots, keys in a write set and keys in a read set, each at most.
     pub const LIVE: usize = 8;
