@@ -1,0 +1,84 @@
+// The scan: from a store alone, the station with no live transaction and an entry for each committed slot.
+use model::Answer;
+use model::Outcome;
+use model::Station;
+use records::Mark;
+ghost use mathlib.Core.Path.{_≡_};
+ghost use Prim.Native.Nat.{_≤_};
+ghost use lib.ListN.{length, take};
+ghost use Rattle.model.specs.Limits.{slots};
+ghost use Rattle.model.specs.Lists.{member};
+ghost use Rattle.model.specs.Effects.{outcomeOf};
+ghost use Rattle.model.specs.Scan.{scan};
+
+// The bytes of a slot, 01's drawer, and of a store.
+const SLOT: usize = 216;
+
+const STORE: usize = SLOT * Station::SLOTS;
+
+// One of the first `below` numbers is the transaction's.
+fn has_txn(txns: &[u32; Station::SLOTS], below: usize, txn: u32) -> bool
+    requires { ⌜ below ≤ slots ⌝ }
+    requires { ⌜ length (now txns) ≡ slots ⌝ }
+    ensures { λ r. ⌜ r ≡ member txn (take below (now (txns .entry))) ⌝ }
+{
+    let mut i = 0;
+    while i < below {
+        if txns[i] == txn {
+            return true;
+        }
+        i += 1;
+    }
+    false
+}
+
+// From the lowest slot up: the first that breaks the rules is refused. The numbers found stand in a column of their own.
+pub fn scan(store: &[u8]) -> Outcome
+    ensures { λ r. ⌜ r ≡ outcomeOf (scan (now (store .entry))) ⌝ }
+{
+    let empty = Station::empty();
+    if store.len() != STORE {
+        return Outcome {
+            answer: Answer::Refused(1, 0),
+            station: empty,
+        };
+    }
+    let live = empty.live;
+    let mut entries = empty.entries;
+    let mut txns = [0u32; Station::SLOTS];
+    let mut found: u8 = 0;
+    let mut d = 0;
+    while d < Station::SLOTS {
+        let at = SLOT * d;
+        let slot = records::read_slot(&store[at..at + SLOT]);
+        let mark = slot.mark;
+        let entry = slot.entry;
+        let id = entry.id;
+        let txn = id.txn;
+        match mark {
+            Mark::Free => {}
+            Mark::Damaged => {
+                return Outcome {
+                    answer: Answer::Refused(18, d as u8),
+                    station: empty,
+                };
+            }
+            Mark::Committed => {
+                if has_txn(&txns, d, txn) {
+                    return Outcome {
+                        answer: Answer::Refused(18, d as u8),
+                        station: empty,
+                    };
+                }
+                found += 1;
+            }
+        }
+        entries[d] = entry;
+        txns[d] = txn;
+        d += 1;
+    }
+    Outcome {
+        answer: Answer::Found(found),
+        station: Station { live, entries },
+    }
+}

@@ -1,0 +1,7 @@
+pub mod Defaults
+pub mod Search
+pub mod Fill
+pub mod Joined
+pub mod Free
+pub mod Sets
+pub mod Callers

@@ -1,0 +1,18 @@
+-- `stations::entry_for` meets its contract. Assumes nothing.
+use borrow.Author.Needs.{needs}
+use Rattle.model.specs.Step.{entryFor}
+use Rattle.stations.proofs.entry_for.Statement.{statement}
+use Rattle.stations.proofs.entry_for.Tie as tie
+
+closing-clock-requires : tie.Need-closing-clock-requires
+closing-clock-requires c κs = search needs
+
+write-keys-requires : tie.Need-write-keys-requires
+write-keys-requires c κs = search needs
+
+returns : tie.Need-returns
+unfolding entryFor
+returns c = rw (c .write-keys .ensures, c .before .closing-clock .ensures)
+
+pub entry-for-spec : {M : Type 1} → statement M
+entry-for-spec = tie.close (tie.spec closing-clock-requires write-keys-requires returns)

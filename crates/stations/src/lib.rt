@@ -1,0 +1,458 @@
+// What is found, set and cleared in a station: the transaction at a place, the entry in a slot, a write set and a read set.
+ghost use mathlib.Core.Path.{_≡_};
+ghost use mathlib.Core.Bool.{true, false, not, cond};
+ghost use mathlib.Core.List.{map};
+ghost use Prim.Native.Nat.{_≤_};
+ghost use lib.Dec.{eqb, leb};
+ghost use lib.ListN.{take};
+ghost use Rattle.model.specs.Lists.{_and_, first, member, anyBelow};
+ghost use Rattle.model.specs.Limits.{slots, writeLimit, readLimit};
+ghost use Rattle.model.specs.Stations.{noLive, noEntry, writesOf, readsOf, writeKey, readKey, hasWritten, hasRead, valueUnder, isClosing, closingClock, slotMark, isFree};
+ghost use Rattle.model.specs.Sound.{setsRight, zeroPastCounts};
+ghost use Rattle.model.specs.Records.{recordOf};
+ghost use Rattle.model.specs.Start.{opened};
+ghost use Rattle.model.specs.Put.{withWrite};
+ghost use Rattle.model.specs.Get.{withRead};
+ghost use Rattle.model.specs.Commit.{withPhase, highestFree};
+ghost use Rattle.model.specs.Step.{entryFor};
+ghost use Rattle.model.specs.Effects.{outcomeOf, says};
+ghost use Rattle.stations.specs.Found.{liveTxn, entryTxn, phaseMark, atLeast, joined};
+use model::Answer;
+use model::Entry;
+use model::Id;
+use model::Live;
+use model::Outcome;
+use model::Phase;
+use model::Read;
+use model::Station;
+use model::Write;
+
+fn wide(x: u8) -> usize
+    ensures { λ r. ⌜ r ≡ x ⌝ }
+{
+    x as usize
+}
+
+// ---- unused, and just started
+pub fn no_live() -> Live
+    ensures { λ r. ⌜ r ≡ noLive ⌝ }
+{
+    let id = Id { clock: 0, txn: 0 };
+    let write = Write { key: 0, value: 0 };
+    let read = Read { key: 0, id: id };
+    Live {
+        txn: 0,
+        phase: Phase::Unused,
+        write_count: 0,
+        writes: [write; 8],
+        read_count: 0,
+        reads: [read; 16],
+    }
+}
+
+pub fn no_entry() -> Entry
+    ensures { λ r. ⌜ r ≡ noEntry ⌝ }
+{
+    let id = Id { clock: 0, txn: 0 };
+    Entry {
+        id: id,
+        count: 0,
+        keys: [0; 8],
+    }
+}
+
+pub fn opened(txn: u32) -> Live
+    ensures { λ r. ⌜ r ≡ opened txn ⌝ }
+{
+    let id = Id { clock: 0, txn: 0 };
+    let write = Write { key: 0, value: 0 };
+    let read = Read { key: 0, id: id };
+    Live {
+        txn: txn,
+        phase: Phase::Open,
+        write_count: 0,
+        writes: [write; 8],
+        read_count: 0,
+        reads: [read; 16],
+    }
+}
+
+// ---- where a transaction is
+// The first place with this transaction, 0 for the lowest unused; 8 where there is none.
+pub fn place_of(live: [Live; 8], txn: u32) -> usize
+    ensures { λ r. ⌜ r ≡ first (eqb txn) (map liveTxn live) ⌝ }
+{
+    let mut i = 0;
+    while i < 8 {
+        let l = live[i];
+        if txn == l.txn {
+            return i;
+        }
+        i += 1;
+    }
+    8
+}
+
+// The first slot whose entry is this transaction's; 64 where there is none.
+pub fn slot_of(entries: [Entry; 64], txn: u32) -> usize
+    ensures { λ r. ⌜ r ≡ first (eqb txn) (map entryTxn entries) ⌝ }
+{
+    let mut i = 0;
+    while i < 64 {
+        let e = entries[i];
+        let id = e.id;
+        if txn == id.txn {
+            return i;
+        }
+        i += 1;
+    }
+    64
+}
+
+// ---- free slots
+// The slot of a closing transaction, counted from 1; 0 of any other.
+fn slot_mark(p: Phase) -> usize
+    ensures { λ r. ⌜ r ≡ slotMark p ⌝ }
+{
+    match p {
+        Phase::Unused => 0,
+        Phase::Open => 0,
+        Phase::Closing(d, _, _) => wide(d) + 1,
+    }
+}
+
+// The slots that closing transactions have, counted from 1; 0 for any other place.
+fn closing_slots(live: [Live; 8]) -> [usize; 8]
+    ensures { λ r. ⌜ r ≡ map phaseMark live ⌝ }
+{
+    let mut marks = [0usize; 8];
+    let mut i = 0;
+    while i < 8 {
+        let l = live[i];
+        let p = l.phase;
+        marks[i] = slot_mark(p);
+        i += 1;
+    }
+    marks
+}
+
+// Whether a closing transaction has the slot with this mark.
+fn is_marked(marks: [usize; 8], mark: usize) -> bool
+    ensures { λ r. ⌜ r ≡ member mark marks ⌝ }
+{
+    let mut i = 0;
+    while i < 8 {
+        if mark == marks[i] {
+            return true;
+        }
+        i += 1;
+    }
+    false
+}
+
+// The highest slot that no entry and no closing transaction has; 64 where there is none.
+pub fn highest_free(station: Station) -> usize
+    ensures { λ r. ⌜ r ≡ cond (anyBelow (isFree station) slots) (highestFree station) slots ⌝ }
+{
+    let entries = station.entries;
+    let live = station.live;
+    let marks = closing_slots(live);
+    let mut n = 64;
+    while 0 < n {
+        let d = n - 1;
+        let e = entries[d];
+        let id = e.id;
+        if id.txn == 0 {
+            if !is_marked(marks, d + 1) {
+                return d;
+            }
+        }
+        n -= 1;
+    }
+    64
+}
+
+// ---- a transaction's sets
+// The position of the key in the write set; the count where it is not there.
+fn write_at(l: Live, key: u8) -> usize
+    requires { ⌜ l .«write_count» ≤ 8 ⌝ }
+    ensures { λ r. ⌜ r ≡ first (eqb key) (map writeKey (writesOf l)) ⌝ }
+{
+    let n = wide(l.write_count);
+    let mut i = 0;
+    while i < n {
+        let w = l.writes[i];
+        if key == w.key {
+            return i;
+        }
+        i += 1;
+    }
+    i
+}
+
+pub fn has_written(l: Live, key: u8) -> bool
+    requires { ⌜ l .«write_count» ≤ 8 ⌝ }
+    ensures { λ r. ⌜ r ≡ hasWritten key l ⌝ }
+{
+    let n = wide(l.write_count);
+    write_at(l, key) < n
+}
+
+// The value under a key of the write set.
+pub fn value_under(l: Live, key: u8) -> u64
+    requires { ⌜ l .«write_count» ≤ 8 ⌝ }
+    requires { ⌜ hasWritten key l ≡ true ⌝ }
+    ensures { λ r. ⌜ r ≡ valueUnder key (writesOf l) ⌝ }
+{
+    let i = write_at(l, key);
+    let w = l.writes[i];
+    w.value
+}
+
+// The position of the key in the read set; the count where it is not there.
+fn read_at(l: Live, key: u8) -> usize
+    requires { ⌜ l .«read_count» ≤ 16 ⌝ }
+    ensures { λ r. ⌜ r ≡ first (eqb key) (map readKey (readsOf l)) ⌝ }
+{
+    let n = wide(l.read_count);
+    let mut i = 0;
+    while i < n {
+        let w = l.reads[i];
+        if key == w.key {
+            return i;
+        }
+        i += 1;
+    }
+    i
+}
+
+pub fn has_read(l: Live, key: u8) -> bool
+    requires { ⌜ l .«read_count» ≤ 16 ⌝ }
+    ensures { λ r. ⌜ r ≡ hasRead key l ⌝ }
+{
+    let n = wide(l.read_count);
+    read_at(l, key) < n
+}
+
+// ---- a key put into a write set
+// The position of the first key of the write set that is not lower; the count where there is none.
+fn write_place(l: Live, key: u8) -> usize
+    requires { ⌜ l .«write_count» ≤ 8 ⌝ }
+    ensures { λ r. ⌜ r ≡ first (atLeast writeKey key) (writesOf l) ⌝ }
+{
+    let n = wide(l.write_count);
+    let mut i = 0;
+    while i < n {
+        let w = l.writes[i];
+        if key <= w.key {
+            return i;
+        }
+        i += 1;
+    }
+    i
+}
+
+// The writes with one more at a position, those from there on moved up by one.
+fn write_joined(old: [Write; 8], at: usize, w: Write) -> [Write; 8]
+    requires { ⌜ at ≤ 8 ⌝ }
+    ensures { λ r. ⌜ r ≡ take 8 (joined at w old) ⌝ }
+{
+    let mut writes = old;
+    let mut carried = w;
+    let mut i = at;
+    while i < 8 {
+        let next = writes[i];
+        writes[i] = carried;
+        carried = next;
+        i += 1;
+    }
+    writes
+}
+
+// The key and value put into the write set: in the place of the key, or before the first greater.
+pub fn with_write(l: Live, key: u8, value: u64) -> Live
+    requires { ⌜ setsRight l ≡ true ⌝ }
+    requires { ⌜ zeroPastCounts l ≡ true ⌝ }
+    requires { ⌜ (not (hasWritten key l) and leb writeLimit (l .«write_count»)) ≡ false ⌝ }
+    ensures { λ r. ⌜ r ≡ withWrite key value l ⌝ }
+{
+    let at = write_place(l, key);
+    let n = l.write_count;
+    let mut m = l;
+    if at < wide(n) {
+        let old = l.writes[at];
+        if key == old.key {
+            let w = Write {
+                key: key,
+                value: value,
+            };
+            m.writes[at] = w;
+            return m;
+        }
+    }
+    let old = l.writes;
+    let w = Write {
+        key: key,
+        value: value,
+    };
+    let writes = write_joined(old, at, w);
+    m.writes = writes;
+    m.write_count = n + 1;
+    m
+}
+
+// ---- a read joined to a read set
+// The position of the first key of the read set that is not lower; the count where there is none.
+fn read_place(l: Live, key: u8) -> usize
+    requires { ⌜ l .«read_count» ≤ 16 ⌝ }
+    ensures { λ r. ⌜ r ≡ first (atLeast readKey key) (readsOf l) ⌝ }
+{
+    let n = wide(l.read_count);
+    let mut i = 0;
+    while i < n {
+        let w = l.reads[i];
+        if key <= w.key {
+            return i;
+        }
+        i += 1;
+    }
+    i
+}
+
+// The reads with one more at a position, those from there on moved up by one.
+fn read_joined(old: [Read; 16], at: usize, r: Read) -> [Read; 16]
+    requires { ⌜ at ≤ 16 ⌝ }
+    ensures { λ x. ⌜ x ≡ take 16 (joined at r old) ⌝ }
+{
+    let mut reads = old;
+    let mut carried = r;
+    let mut i = at;
+    while i < 16 {
+        let next = reads[i];
+        reads[i] = carried;
+        carried = next;
+        i += 1;
+    }
+    reads
+}
+
+// The key and id put into the read set: in the place of the key, or before the first greater.
+pub fn with_read(l: Live, key: u8, id: Id) -> Live
+    requires { ⌜ setsRight l ≡ true ⌝ }
+    requires { ⌜ zeroPastCounts l ≡ true ⌝ }
+    requires { ⌜ (not (hasRead key l) and leb readLimit (l .«read_count»)) ≡ false ⌝ }
+    ensures { λ r. ⌜ r ≡ withRead key id l ⌝ }
+{
+    let at = read_place(l, key);
+    let n = l.read_count;
+    let mut m = l;
+    if at < wide(n) {
+        let old = l.reads[at];
+        if key == old.key {
+            let r = Read { key: key, id: id };
+            m.reads[at] = r;
+            return m;
+        }
+    }
+    let old = l.reads;
+    let r = Read { key: key, id: id };
+    let reads = read_joined(old, at, r);
+    m.reads = reads;
+    m.read_count = n + 1;
+    m
+}
+
+// ---- a commit
+pub fn with_phase(l: Live, p: Phase) -> Live
+    ensures { λ r. ⌜ r ≡ withPhase p l ⌝ }
+{
+    let writes = l.writes;
+    let reads = l.reads;
+    Live {
+        txn: l.txn,
+        phase: p,
+        write_count: l.write_count,
+        writes: writes,
+        read_count: l.read_count,
+        reads: reads,
+    }
+}
+
+// The clock of a closing transaction; 0 of any other.
+fn closing_clock(p: Phase) -> u64
+    ensures { λ r. ⌜ r ≡ closingClock p ⌝ }
+{
+    match p {
+        Phase::Unused => 0,
+        Phase::Open => 0,
+        Phase::Closing(_, c, _) => c,
+    }
+}
+
+fn write_keys(writes: [Write; 8]) -> [u8; 8]
+    ensures { λ r. ⌜ r ≡ map writeKey writes ⌝ }
+{
+    let mut keys = [0u8; 8];
+    let mut i = 0;
+    while i < 8 {
+        let w = writes[i];
+        keys[i] = w.key;
+        i += 1;
+    }
+    keys
+}
+
+// The entry that a closing transaction becomes.
+pub fn entry_for(l: Live) -> Entry
+    ensures { λ r. ⌜ r ≡ entryFor l ⌝ }
+{
+    let p = l.phase;
+    let writes = l.writes;
+    let id = Id {
+        clock: closing_clock(p),
+        txn: l.txn,
+    };
+    Entry {
+        id: id,
+        count: l.write_count,
+        keys: write_keys(writes),
+    }
+}
+
+// The number of the version record of a key, from 1; the count and 1 where the entry did not write it.
+pub fn record_of(e: Entry, key: u8) -> usize
+    requires { ⌜ e .count ≤ 8 ⌝ }
+    ensures { λ r. ⌜ r ≡ recordOf e key ⌝ }
+{
+    let n = wide(e.count);
+    let mut i = 0;
+    while i < n {
+        let k = e.keys[i];
+        if key == k {
+            return i + 1;
+        }
+        i += 1;
+    }
+    i + 1
+}
+
+// ---- what a call needs
+pub fn is_closing(p: Phase) -> bool
+    ensures { λ r. ⌜ r ≡ isClosing p ⌝ }
+{
+    match p {
+        Phase::Unused => false,
+        Phase::Open => false,
+        Phase::Closing(_, _, _) => true,
+    }
+}
+
+// A refusal hands the station back as given.
+pub fn refused(station: Station, number: u8) -> Outcome
+    ensures { λ r. ⌜ r ≡ outcomeOf (says (Answer.Refused number 0) station) ⌝ }
+{
+    Outcome {
+        answer: Answer::Refused(number, 0),
+        station,
+    }
+}
