@@ -1,0 +1,88 @@
+-- Laws of loops over a list: what is known of the elements passed, and an array that is filled from its front.
+use Prim.Native.Nat.{ℕ, zero, suc, _+_, _<_, _≤_, min}
+use mathlib.Core.Path.{_≡_, refl, sym, ap, subst, _∙_}
+use mathlib.Core.Logic.{⊎-elim}
+use mathlib.Core.Bool.{Bool, true, false, true≢false, false≢true}
+use mathlib.Core.List.{List, [], _∷_}
+use lib.ListN.{length, take, getD, set, length-take, List·getD-eq-default}
+use lib.Seq.{getD-take}
+use native.Mathlib.Nat.{not-suc-le-zero}
+use native.Mathlib.Decide.{ℕ-discrete, decLt}
+use native.Mathlib.Omega.{arith}
+use native.Mathlib.Numerals.{add-one}
+use Rattle.model.specs.Lists.{_or_, all, any, count, anyBelow}
+use Rattle.model.proofs.Tests.{or-none, or-intro-left, or-intro-right, bool-cases}
+use Rattle.model.proofs.ListLaws.{at-set, all-at, all-of, any-at, any-none-of, count-yes, count-no}
+
+-- one more passed
+pub below-more : (P : ℕ → Type 0) (i : ℕ) → ((j : ℕ) → j < i → P j) → P i → (j : ℕ) → j < i + 1 → P j
+below-more P i f q j o = go (ℕ-discrete j i)
+  where
+    go : Dec (j ≡ i) → P j
+    go (yes e) = subst P (sym e) q
+    go (no n) = f j (omega arith)
+
+-- some number below n passes
+module _ (p : ℕ → Bool) where
+  pub none-yet : anyBelow p 0 ≡ false
+  unfolding anyBelow
+  none-yet = refl
+
+  pub none-more : (i : ℕ) → anyBelow p i ≡ false → p i ≡ false → anyBelow p (i + 1) ≡ false
+  unfolding anyBelow
+  none-more i h e = rw add-one (or-none _ _ e h)
+
+  pub some-at : (n i : ℕ) → i < n → p i ≡ true → anyBelow p n ≡ true
+  unfolding anyBelow
+  some-at zero i o h = absurd (not-suc-le-zero o)
+  some-at (suc n) i o h = go (ℕ-discrete i n) (some-at n i)
+    where
+      go : Dec (i ≡ n) → (i < n → p i ≡ true → anyBelow p n ≡ true) → (p n or anyBelow p n) ≡ true
+      go (yes e) ih = or-intro-left _ _ (ap p (sym e) ∙ h)
+      go (no m) ih = or-intro-right _ _ (ih (omega arith) h)
+
+module _ {A : Type 0} where
+  -- an array filled so far with f, and its next element stored
+  pub filled-more : (f : ℕ → A) (xs : List A) (z x : A) (i n : ℕ) → length xs ≡ n → i < n → ((j : ℕ) → j < i → getD xs j z ≡ f j) → x ≡ f i
+      → (j : ℕ) → j < i + 1 → getD (set xs i x) j z ≡ f j
+  filled-more f xs z x i n l o h q j =
+      at-set (λ j y. j < i + 1 → y ≡ f j) xs i x z (omega arith) (λ u. q) (λ j m u. h j (omega arith)) j
+
+  -- none of the first n passes, and there are no more
+  pub any-below : (p : A → Bool) (l : List A) (d : A) (n : ℕ) → length l ≤ n → ((j : ℕ) → j < n → p (getD l j d) ≡ false) → any p l ≡ false
+  any-below p l d n h f = any-none-of p l d (λ j o. f j (omega arith))
+
+  -- one passes, where what lies past the end does not
+  pub any-hit : (p : A → Bool) (l : List A) (d : A) (j : ℕ) → p d ≡ false → p (getD l j d) ≡ true → any p l ≡ true
+  any-hit p l d j n h = go (decLt j (length l))
+    where
+      go : Dec (j < length l) → any p l ≡ true
+      go (yes o) = any-at p l d j o h
+      go (no o) = absurd (true≢false (sym h ∙ (ap p (List·getD-eq-default l d {n = j} (omega arith)) ∙ n)))
+
+  -- the first n of a list
+  pub any-in-take : (p : A → Bool) (l : List A) (d : A) (n j : ℕ) → j < n → j < length l → p (getD l j d) ≡ true → any p (take n l) ≡ true
+  any-in-take p l d n j o u h = any-at p (take n l) d j (rw (length-take n l) (omega arith)) (rw (getD-take n l j d o) h)
+
+  pub any-no-take : (p : A → Bool) (l : List A) (d : A) (n m : ℕ) → min n (length l) ≤ m → ((j : ℕ) → j < m → p (getD l j d) ≡ false) → any p (take n l) ≡ false
+  any-no-take p l d n m h f = any-none-of p (take n l) d (λ j o.
+      let u : j < min n (length l) = subst (λ (x : ℕ). j < x) (length-take n l) o in
+      rw (getD-take n l j d (omega arith)) (f j (omega arith)))
+
+  pub all-take : (p : A → Bool) (l : List A) (d : A) (n m : ℕ) → min n (length l) ≤ m → ((j : ℕ) → j < m → p (getD l j d) ≡ true) → all p (take n l) ≡ true
+  all-take p l d n m h f = all-of p (take n l) d (λ j o.
+      let u : j < min n (length l) = subst (λ (x : ℕ). j < x) (length-take n l) o in
+      rw (getD-take n l j d (omega arith)) (f j (omega arith)))
+
+  pub all-fails-take : (p : A → Bool) (l : List A) (d : A) (n j : ℕ) → j < n → j < length l → p (getD l j d) ≡ false → all p (take n l) ≡ false
+  all-fails-take p l d n j o u h = ⊎-elim
+      (λ t. absurd (true≢false (sym (all-at p (take n l) d t j (rw (length-take n l) (omega arith))) ∙ (ap p (getD-take n l j d o) ∙ h))))
+      (λ f. f) (bool-cases (all p (take n l)))
+
+-- a mark taken away
+pub marks-less : (ms : List Bool) (d : ℕ) → getD ms d false ≡ true → count (λ m. m) (set ms d false) < count (λ m. m) ms
+unfolding count
+marks-less [] d h = absurd (false≢true h)
+marks-less (m ∷ ms) zero h = let e : m ≡ true = h in rw (count-yes (λ x. x) m ms e, count-no (λ x. x) false ms refl) (omega arith)
+marks-less (true ∷ ms) (suc d) h = omega (arith, marks-less ms d h)
+marks-less (false ∷ ms) (suc d) h = marks-less ms d h

@@ -1,0 +1,4 @@
+
+pub mod Loops
+pub mod PartLaws
+pub mod Whole

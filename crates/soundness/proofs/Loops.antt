@@ -1,0 +1,157 @@
+-- Laws of a list that a loop goes through: what a test of the rest comes to, one element further.
+-- ── all, any, first ──
+use Prim.Native.Nat.{ℕ, suc, _+_, _-_, _<_, _≤_}
+use mathlib.Core.Path.{_≡_, refl, sym, ap, _∙_}
+use mathlib.Core.Logic.{_≢_, _⊎_, inl, inr}
+use mathlib.Core.Bool.{Bool, true, false}
+use mathlib.Core.List.{List, [], _∷_, _++_, append-assoc}
+use lib.Dec.{leb}
+use lib.ListN.{length, take, drop, getD, set, drop-of-length-le}
+use lib.Seq.{take-suc-set, take-all, take-suc, drop-cons}
+use native.Mathlib.Omega.{arith}
+use native.Mathlib.Numerals.{add-one}
+use borrow.Author.Tests.{ltb-true, leb-true, leb-false, le-leb, lt-leb, eq-eqb, ne-eqb}
+use Rattle.model.specs.Lists.{_and_, _or_, all, any, first, member, distinct}
+use Rattle.model.specs.Limits.{keys}
+use Rattle.model.specs.Slots.{seen}
+use Rattle.model.proofs.Tests.{and-right, or-intro-right, bool-cases}
+use Rattle.soundness.specs.Parts.{fits, setRight}
+
+module _ {A : Type 0} (p : A → Bool) (xs : List A) (i : ℕ) where
+  pub all-more : (d : A) → i < length xs → p (getD xs i d) ≡ true → all p (drop i xs) ≡ all p (drop (i + 1) xs)
+  unfolding all
+  all-more d h e = rw (add-one i, drop-cons xs i d h, e, all)
+
+  pub all-stop : (d : A) → i < length xs → p (getD xs i d) ≡ false → all p (drop i xs) ≡ false
+  unfolding all
+  all-stop d h e = rw (drop-cons xs i d h, e, all)
+
+  pub all-end : length xs ≤ i → all p (drop i xs) ≡ true
+  unfolding all
+  all-end h = rw (drop-of-length-le xs h)
+
+  pub any-more : (d : A) → i < length xs → p (getD xs i d) ≡ false → any p (drop i xs) ≡ any p (drop (i + 1) xs)
+  unfolding any
+  any-more d h e = rw (add-one i, drop-cons xs i d h, e, any)
+
+  pub any-stop : (d : A) → i < length xs → p (getD xs i d) ≡ true → any p (drop i xs) ≡ true
+  unfolding any
+  any-stop d h e = rw (drop-cons xs i d h, e, any)
+
+  pub any-end : length xs ≤ i → any p (drop i xs) ≡ false
+  unfolding any
+  any-end h = rw (drop-of-length-le xs h)
+
+  pub first-more : (d : A) → i < length xs → p (getD xs i d) ≡ false → first p (drop i xs) ≡ suc (first p (drop (i + 1) xs))
+  unfolding first
+  first-more d h e = rw (add-one i, drop-cons xs i d h, e, first)
+
+  pub first-stop : (d : A) → i < length xs → p (getD xs i d) ≡ true → first p (drop i xs) ≡ 0
+  unfolding first
+  first-stop d h e = rw (drop-cons xs i d h, e, first)
+
+  pub first-end : length xs ≤ i → first p (drop i xs) ≡ 0
+  unfolding first
+  first-end h = rw (drop-of-length-le xs h)
+
+  -- the first element's test, and the rest's
+  pub all-split : (d : A) → i < length xs → all p (drop i xs) ≡ (p (getD xs i d) and all p (drop (i + 1) xs))
+  unfolding _and_
+  all-split d h = go (bool-cases (p (getD xs i d)))
+    where
+      go : (p (getD xs i d) ≡ true) ⊎ (p (getD xs i d) ≡ false) → all p (drop i xs) ≡ (p (getD xs i d) and all p (drop (i + 1) xs))
+      go (inl e) = all-more d h e ∙ ap (λ (b : Bool). b and all p (drop (i + 1) xs)) (sym e)
+      go (inr e) = all-stop d h e ∙ ap (λ (b : Bool). b and all p (drop (i + 1) xs)) (sym e)
+
+-- a search that remembers what it has seen, and looks on
+module _ {A : Type 0} (p : A → Bool) (xs : List A) (i : ℕ) (seen : Bool) where
+  pub seen-yes : (d : A) → i < length xs → p (getD xs i d) ≡ true → (seen or any p (drop i xs)) ≡ (true or any p (drop (i + 1) xs))
+  unfolding _or_
+  seen-yes d h e = or-intro-right seen (any p (drop i xs)) (any-stop p xs i d h e)
+
+  pub seen-no : (d : A) → i < length xs → p (getD xs i d) ≡ false → (seen or any p (drop i xs)) ≡ (seen or any p (drop (i + 1) xs))
+  seen-no d h e = ap (λ (b : Bool). seen or b) (any-more p xs i d h e)
+
+  pub seen-end : length xs ≤ i → (seen or any p (drop i xs)) ≡ seen
+  unfolding _or_
+  seen-end h = ap (λ (b : Bool). seen or b) (any-end p xs i h) ∙ go seen
+    where
+      go : (b : Bool) → (b or false) ≡ b
+      go true = refl
+      go false = refl
+
+-- ── distinct ──
+module _ (xs : List ℕ) (i : ℕ) where
+  pub distinct-zero : i < length xs → getD xs i 0 ≡ 0 → distinct (drop i xs) ≡ distinct (drop (i + 1) xs)
+  unfolding distinct _or_
+  distinct-zero h e = rw (add-one i, drop-cons xs i 0 h, eq-eqb (getD xs i 0) 0 e, distinct)
+
+  pub distinct-new : i < length xs → getD xs i 0 ≢ 0 → member (getD xs i 0) (drop (i + 1) xs) ≡ false → distinct (drop i xs) ≡ distinct (drop (i + 1) xs)
+  unfolding distinct _or_
+  distinct-new h n e = rw (drop-cons xs i 0 h, sym (add-one i), ne-eqb (getD xs i 0) 0 n, e, distinct) (ap (λ (k : ℕ). distinct (drop k xs)) (sym (add-one i)))
+
+  pub distinct-old : i < length xs → getD xs i 0 ≢ 0 → member (getD xs i 0) (drop (i + 1) xs) ≡ true → distinct (drop i xs) ≡ false
+  unfolding distinct _or_
+  distinct-old h n e = rw (drop-cons xs i 0 h, sym (add-one i), ne-eqb (getD xs i 0) 0 n, e, distinct)
+
+  pub distinct-end : length xs ≤ i → distinct (drop i xs) ≡ true
+  unfolding distinct
+  distinct-end h = rw (drop-of-length-le xs h)
+
+-- ── sets: ascending keys, then zeros ──
+module _ {A : Type 0} (key : A → ℕ) (isZero : A → Bool) (lo n : ℕ) (xs : List A) (j : ℕ) (d : A) (h : j < length xs) where
+  in-is : j < n → setRight key isZero lo (n - j) (drop j xs) ≡ (fits lo (key (getD xs j d)) and setRight key isZero (key (getD xs j d) + 1) (n - (j + 1)) (drop (j + 1) xs))
+  unfolding setRight
+  in-is m = let e : n - j ≡ suc (n - (j + 1)) = omega arith in rw (e, drop-cons xs j d h, add-one j, add-one (key (getD xs j d)))
+
+  past-is : n ≤ j → setRight key isZero lo (n - j) (drop j xs) ≡ (isZero (getD xs j d) and setRight key isZero lo (n - (j + 1)) (drop (j + 1) xs))
+  unfolding setRight
+  past-is m =
+      let e : n - j ≡ 0 = omega arith in
+      let f : n - (j + 1) ≡ 0 = omega arith in
+      rw (f, e, drop-cons xs j d h, add-one j)
+
+  pub key-more : j < n → fits lo (key (getD xs j d)) ≡ true → setRight key isZero lo (n - j) (drop j xs) ≡ setRight key isZero (key (getD xs j d) + 1) (n - (j + 1)) (drop (j + 1) xs)
+  unfolding _and_
+  key-more m e = in-is m ∙ ap (λ (b : Bool). b and setRight key isZero (key (getD xs j d) + 1) (n - (j + 1)) (drop (j + 1) xs)) e
+
+  pub key-stop : j < n → fits lo (key (getD xs j d)) ≡ false → setRight key isZero lo (n - j) (drop j xs) ≡ false
+  unfolding _and_
+  key-stop m e = in-is m ∙ ap (λ (b : Bool). b and setRight key isZero (key (getD xs j d) + 1) (n - (j + 1)) (drop (j + 1) xs)) e
+
+  pub zero-more : n ≤ j → isZero (getD xs j d) ≡ true → setRight key isZero lo (n - j) (drop j xs) ≡ setRight key isZero lo (n - (j + 1)) (drop (j + 1) xs)
+  unfolding _and_
+  zero-more m e = past-is m ∙ ap (λ (b : Bool). b and setRight key isZero lo (n - (j + 1)) (drop (j + 1) xs)) e
+
+  pub zero-stop : n ≤ j → isZero (getD xs j d) ≡ false → setRight key isZero lo (n - j) (drop j xs) ≡ false
+  unfolding _and_
+  zero-stop m e = past-is m ∙ ap (λ (b : Bool). b and setRight key isZero lo (n - (j + 1)) (drop (j + 1) xs)) e
+
+module _ {A : Type 0} (key : A → ℕ) (isZero : A → Bool) (lo n : ℕ) (xs : List A) (j : ℕ) where
+  pub set-start : setRight key isZero lo n xs ≡ setRight key isZero lo (n - 0) (drop 0 xs)
+  set-start = ap (λ (k : ℕ). setRight key isZero lo k xs) (omega arith)
+
+  pub set-end : length xs ≤ j → setRight key isZero lo (n - j) (drop j xs) ≡ true
+  unfolding setRight
+  set-end h = rw (drop-of-length-le xs h)
+
+-- a key that fits is below the limit
+pub fits-low : (lo k : ℕ) → fits lo k ≡ true → k < keys
+unfolding fits
+fits-low lo k h = ltb-true k keys (and-right _ _ h)
+
+-- ── a column that is filled from place i on with the numbers ys ──
+pub column-more : (before xs ys : List ℕ) (i j a : ℕ) → i < length xs → j < length ys → a ≡ getD ys j 0 → take i xs ≡ before ++ take j ys → take (i + 1) (set xs i a) ≡ before ++ take (j + 1) ys
+column-more before xs ys i j a h k e t =
+    rw (add-one i, add-one j, take-suc-set xs i a h, take-suc ys j 0 k, t, e) (append-assoc before (take j ys) (getD ys j 0 ∷ []))
+
+pub column-end : (xs ys : List ℕ) (n i : ℕ) → length xs ≡ n → length ys ≡ n → n ≤ i → take i xs ≡ take i ys → xs ≡ ys
+column-end xs ys n i h k m e = sym (take-all i xs (omega arith)) ∙ e ∙ take-all i ys (omega arith)
+
+-- ── a sum that may not fit, tested by a difference ──
+pub leb-less : (n w : ℕ) → 1 ≤ n → leb (n - 1) w ≡ leb n (w + 1)
+leb-less n w h = go (bool-cases (leb n (w + 1)))
+  where
+    go : (leb n (w + 1) ≡ true) ⊎ (leb n (w + 1) ≡ false) → leb (n - 1) w ≡ leb n (w + 1)
+    go (inl e) = le-leb (n - 1) w (omega (arith, leb-true n (w + 1) e)) ∙ sym e
+    go (inr e) = lt-leb (n - 1) w (omega (arith, leb-false n (w + 1) e)) ∙ sym e

@@ -1,0 +1,181 @@
+-- Laws of the parts (specs/Parts), one for each way that a test of the code goes.
+-- ── sets within their limits ──
+use Prim.Native.Nat.{ℕ, zero, suc, _+_, _<_, _≤_, min}
+use mathlib.Core.Path.{_≡_, refl, sym, ap, ap₂, subst, _∙_}
+use mathlib.Core.Logic.{_≢_, _⊎_, inl, inr}
+use mathlib.Core.Bool.{Bool, true, false}
+use mathlib.Core.List.{List, [], _∷_, _++_, map}
+use lib.Dec.{eqb, ltb, leb}
+use lib.ListN.{length, take, drop, getD, length-append, length-take, length-map, List·getD-map}
+use lib.Seq.{take-all, getD-take}
+use native.Mathlib.Nat.{zero-lt-suc}
+use native.Mathlib.Omega.{arith}
+use borrow.Author.Tests.{lt-ltb, le-ltb, le-leb, lt-leb, eq-eqb, ne-eqb}
+use Rattle.model.specs.declared.Read.{Read}
+use Rattle.model.specs.declared.Live.{Live}
+use Rattle.model.specs.declared.Entry.{Entry}
+use Rattle.model.specs.declared.Phase.the-variants.{Unused}
+use Rattle.model.specs.Lists.{_and_, _or_, all, count, ascending}
+use Rattle.model.specs.Limits.{keys}
+use Rattle.model.specs.Ids.{sameId, noId}
+use Rattle.model.specs.Stations.{readsOf, keysOf, writeKey, readKey, slotMark}
+use Rattle.model.specs.Records.{entryRules}
+use Rattle.model.specs.Sound.{isNoWrite, isNoRead, isNoEntry, entryRight}
+use Rattle.soundness.specs.Parts.{fits, setRight, keysRight, writesRight, readsRight, liveColumn, heldColumn, txnColumn, markColumn, slotIn, isNamed, namedBy, slotFree}
+use Rattle.soundness.proofs.Loops.{all-split}
+
+module _ (l : Live) (n : ℕ) where
+  pub writes-is : n ≡ l .«write_count» → n ≤ 8 → writesRight l ≡ setRight writeKey isNoWrite 0 n (l .writes)
+  unfolding writesRight _and_
+  writes-is e h = rw (← e, le-leb n 8 h)
+
+  pub writes-long : n ≡ l .«write_count» → 8 < n → writesRight l ≡ false
+  unfolding writesRight _and_
+  writes-long e h = rw (← e, lt-leb n 8 h)
+
+  pub reads-is : n ≡ l .«read_count» → n ≤ 16 → readsRight l ≡ setRight readKey isNoRead 0 n (l .reads)
+  unfolding readsRight _and_
+  reads-is e h = rw (← e, le-leb n 16 h)
+
+  pub reads-long : n ≡ l .«read_count» → 16 < n → readsRight l ≡ false
+  unfolding readsRight _and_
+  reads-long e h = rw (← e, lt-leb n 16 h)
+
+-- ── slots ──
+module _ (ts : List ℕ) (m : ℕ) where
+  pub free-none : m ≡ 0 → slotFree ts m ≡ true
+  unfolding slotFree _or_
+  free-none e = rw (eq-eqb m 0 e)
+
+  pub free-high : m ≢ 0 → 64 < m → slotFree ts m ≡ false
+  unfolding slotFree _or_ _and_
+  free-high n h = rw (ne-eqb m 0 n, lt-leb m 64 h)
+
+  pub free-is : m ≢ 0 → m ≤ 64 → slotFree ts m ≡ eqb (getD ts (m + 7) 0) 0
+  unfolding slotFree _or_ _and_
+  free-is n h = rw (ne-eqb m 0 n, le-leb m 64 h)
+
+-- ── keys and reads of a set are those of its array ──
+module _ (e : Entry) (j : ℕ) where
+  pub key-at : j < e .count → getD (keysOf e) j 0 ≡ getD (e .keys) j 0
+  unfolding keysOf
+  key-at h = getD-take (e .count) (e .keys) j 0 h
+
+  pub keys-longer : length (e .keys) ≡ 8 → j < 8 → j < e .count → j < length (keysOf e)
+  unfolding keysOf
+  keys-longer l h k = omega (arith, length-take (e .count) (e .keys))
+
+  pub keys-shorter : length (e .keys) ≡ 8 → (8 ≤ j) ⊎ (e .count ≤ j) → length (keysOf e) ≤ j
+  unfolding keysOf
+  keys-shorter l (inl h) = omega (arith, length-take (e .count) (e .keys))
+  keys-shorter l (inr h) = omega (arith, length-take (e .count) (e .keys))
+
+pub reads-count : (l : Live) → length (l .reads) ≡ 16 → length (readsOf l) ≡ min (l .«read_count») 16
+unfolding readsOf
+reads-count l h = length-take (l .«read_count») (l .reads) ∙ ap (min (l .«read_count»)) h
+
+pub read-at : (l : Live) (j : ℕ) (d : Read) → j < length (readsOf l) → getD (readsOf l) j d ≡ getD (l .reads) j d
+unfolding readsOf
+read-at l j d h = getD-take (l .«read_count») (l .reads) j d (omega (arith, length-take (l .«read_count») (l .reads)))
+
+-- ── named reads ──
+module _ (es : List Entry) (ts : List ℕ) (r : Read) (d : ℕ) (e : d ≡ slotIn ts (r .id .txn)) where
+  pub unnamed : 63 < d → namedBy es ts r ≡ false
+  unfolding namedBy _and_
+  unnamed h = rw (← e, le-ltb d 64 (omega arith))
+
+  pub named-is : d ≤ 63 → namedBy es ts r ≡ isNamed (getD es d (record { id = noId; count = 0; keys = [] })) r
+  unfolding namedBy _and_
+  named-is h = rw (← e, lt-ltb d 64 (omega arith))
+
+-- ── columns ──
+pub mark-at : (ls : List Live) (i : ℕ) → getD (markColumn ls) i 0 ≡ slotMark (getD ls i (record { txn = 0; phase = Unused; «write_count» = 0; writes = []; «read_count» = 0; reads = [] }) .phase)
+unfolding slotMark
+mark-at ls i = List·getD-map (λ (l : Live). slotMark (l .phase)) ls i (record { txn = 0; phase = Unused; «write_count» = 0; writes = []; «read_count» = 0; reads = [] })
+
+pub live-at : (ls : List Live) (i : ℕ) → getD (liveColumn ls) i 0 ≡ getD ls i (record { txn = 0; phase = Unused; «write_count» = 0; writes = []; «read_count» = 0; reads = [] }) .txn
+live-at ls i = List·getD-map (λ (l : Live). l .txn) ls i (record { txn = 0; phase = Unused; «write_count» = 0; writes = []; «read_count» = 0; reads = [] })
+
+pub held-txn-at : (es : List Entry) (d : ℕ) → getD (heldColumn es) d 0 ≡ getD es d (record { id = noId; count = 0; keys = [] }) .id .txn
+held-txn-at es d = List·getD-map (λ (e : Entry). e .id .txn) es d (record { id = noId; count = 0; keys = [] })
+
+pub marks-count : (ls : List Live) → length ls ≡ 8 → 8 ≡ length (markColumn ls)
+marks-count ls h = sym (length-map ls (λ (l : Live). slotMark (l .phase)) ∙ h)
+
+pub txns-count : (ls : List Live) (es : List Entry) → length ls ≡ 8 → length es ≡ 64 → 72 ≡ length (txnColumn ls es)
+txns-count ls es h k = omega (arith, length-append (liveColumn ls) (heldColumn es), length-map ls (λ (l : Live). l .txn), length-map es (λ (e : Entry). e .id .txn))
+
+-- the two parts of the column of transactions
+pub txn-column-end : (xs ys : List ℕ) (ls : List Live) (es : List Entry) (i d : ℕ) → length xs ≡ 72 → length ls ≡ 8 → length es ≡ 64 → 8 ≤ i → 64 ≤ d → take i ys ≡ take i (liveColumn ls) → i ≡ 8
+    → take (8 + d) xs ≡ take 8 ys ++ take d (heldColumn es) → xs ≡ txnColumn ls es
+txn-column-end xs ys ls es i d hx hl he hi hd el ei e =
+    sym (take-all (8 + d) xs (omega arith)) ∙ e
+    ∙ ap₂ (λ (a b : List ℕ). a ++ b) (subst (λ (k : ℕ). take k ys ≡ take k (liveColumn ls)) ei el ∙ take-all 8 (liveColumn ls) (omega (arith, length-map ls (λ (l : Live). l .txn)))) (take-all d (heldColumn es) (omega (arith, length-map es (λ (x : Entry). x .id .txn))))
+
+-- ── a set is right: model's two tests of it ──
+and-assoc : (a b c : Bool) → (a and (b and c)) ≡ (a and b and c)
+unfolding _and_
+and-assoc true b c = refl
+and-assoc false b c = refl
+
+module _ {A : Type 0} (key : A → ℕ) (isZero : A → Bool) where
+  all-cons-is : (x : A) (xs : List A) → all isZero (x ∷ xs) ≡ (isZero x and all isZero xs)
+  all-cons-is x xs = all-split isZero (x ∷ xs) 0 x (zero-lt-suc _)
+
+  ascending-cons-is : (lo hi n : ℕ) (ns : List ℕ) → ascending lo hi (n ∷ ns) ≡ (leb lo n and ltb n hi and ascending (suc n) hi ns)
+  unfolding ascending _and_
+  ascending-cons-is lo hi n ns = go (leb lo n and ltb n hi) refl
+    where
+      go : (b : Bool) → (leb lo n and ltb n hi) ≡ b → ascending lo hi (n ∷ ns) ≡ (leb lo n and ltb n hi and ascending (suc n) hi ns)
+      go true e = rw (e, ascending)
+      go false e = rw (e, ascending)
+
+  pub set-is : (lo n : ℕ) (xs : List A) → setRight key isZero lo n xs ≡ (ascending lo keys (map key (take n xs)) and all isZero (drop n xs))
+  unfolding setRight fits all ascending _and_
+  set-is lo zero [] = refl
+  set-is lo (suc n) [] = refl
+  set-is lo zero (x ∷ xs) = ap (λ (b : Bool). isZero x and b) (set-is lo zero xs) ∙ sym (all-cons-is x xs)
+  set-is lo (suc n) (x ∷ xs) =
+      ap (λ (b : Bool). fits lo (key x) and b) (set-is (suc (key x)) n xs)
+      ∙ and-assoc (fits lo (key x)) (ascending (suc (key x)) keys (map key (take n xs))) (all isZero (drop n xs))
+      ∙ ap (λ (b : Bool). b and all isZero (drop n xs)) (sym (ascending-cons-is lo keys (key x) (map key (take n xs))))
+
+-- ── entries ──
+map-same : (ks : List ℕ) → map (λ (k : ℕ). k) ks ≡ ks
+map-same [] = refl
+map-same (k ∷ ks) = ap (λ (r : List ℕ). k ∷ r) (map-same ks)
+
+none-left : (x k : Bool) → ((x and true and k) or false) ≡ (x and k)
+unfolding _and_ _or_
+none-left true true = refl
+none-left true false = refl
+none-left false k = refl
+
+none-right : (x k r : Bool) → ((x and false and k) or r) ≡ r
+unfolding _and_ _or_
+none-right true k r = refl
+none-right false k r = refl
+
+module _ (e : Entry) where
+  pub entry-none : e .count ≡ 0 → entryRight e ≡ (eqb (e .id .clock) 0 and eqb (e .id .txn) 0 and all (eqb 0) (e .keys))
+  unfolding entryRight isNoEntry sameId entryRules _and_
+  entry-none h =
+      let r : entryRules e ≡ false = rw (lt-leb 1 (e .count) (omega arith)) in
+      ap₂ (λ (y z : Bool). (sameId (e .id) noId and y and all (eqb 0) (e .keys)) or z) (eq-eqb (e .count) 0 h) r ∙ none-left (sameId (e .id) noId) (all (eqb 0) (e .keys))
+
+  rules-is : leb 1 (e .count) ≡ true → entryRules e ≡ (leb (e .count) 8 and leb 1 (e .id .txn) and leb 1 (e .id .clock) and keysRight (e .count) (e .keys))
+  unfolding entryRules keysOf _and_
+  rules-is q =
+      let zeros : Bool = all (eqb 0) (drop (e .count) (e .keys)) in
+      let front : Bool = leb (e .count) 8 and leb 1 (e .id .txn) and leb 1 (e .id .clock) in
+      let asc : Bool = ascending 0 keys (take (e .count) (e .keys)) in
+      ap (λ (y : Bool). y and leb (e .count) 8 and leb 1 (e .id .txn) and leb 1 (e .id .clock) and asc and zeros) q
+      ∙ sym (and-assoc front asc zeros)
+      ∙ ap (λ (b : Bool). front and b) (sym (set-is (λ (k : ℕ). k) (eqb 0) 0 (e .count) (e .keys) ∙ ap (λ (ks : List ℕ). ascending 0 keys ks and zeros) (map-same (take (e .count) (e .keys)))))
+
+  pub entry-some : e .count ≢ 0 → entryRight e ≡ (leb (e .count) 8 and leb 1 (e .id .txn) and leb 1 (e .id .clock) and keysRight (e .count) (e .keys))
+  unfolding entryRight isNoEntry
+  entry-some h =
+      ap (λ (y : Bool). (sameId (e .id) noId and y and all (eqb 0) (e .keys)) or entryRules e) (ne-eqb (e .count) 0 h)
+      ∙ none-right (sameId (e .id) noId) (all (eqb 0) (e .keys)) (entryRules e)
+      ∙ rules-is (le-leb 1 (e .count) (omega (arith, h)))

@@ -1,0 +1,221 @@
+-- The parts together are model's `sound`.
+-- ── tests ──
+use Prim.Native.Nat.{ℕ, suc, _+_, _<_, _≤_}
+use mathlib.Core.Path.{_≡_, refl, sym, ap, subst, _∙_}
+use mathlib.Core.Logic.{_⊎_, inl, inr}
+use mathlib.Core.Bool.{Bool, true, false, true≢false}
+use mathlib.Core.List.{List, [], _∷_, map}
+use lib.Dec.{eqb, leb}
+use lib.ListN.{length, getD, length-map}
+use lib.Seq.{getD-append-add, drop-at}
+use native.Mathlib.Nat.{suc-ne-zero}
+use native.Mathlib.Omega.{arith}
+use borrow.Author.Tests.{ltb-true, leb-true, leb-false, eqb-true, lt-ltb, le-leb, eq-eqb}
+use Rattle.model.specs.declared.Id.{Id}
+use Rattle.model.specs.declared.Read.{Read}
+use Rattle.model.specs.declared.Live.{Live}
+use Rattle.model.specs.declared.Entry.{Entry}
+use Rattle.model.specs.declared.Station.{Station}
+use Rattle.model.specs.declared.Phase.{Phase}
+use Rattle.model.specs.declared.Phase.the-variants.{Unused, Open, Closing}
+use Rattle.model.specs.Lists.{_and_, all, any, first, count, distinct, same}
+use Rattle.model.specs.Limits.{keys}
+use Rattle.model.specs.Ids.{noId}
+use Rattle.model.specs.Stations.{writesOf, readsOf, wroteAs, writeKey, readKey, closingSlot, closingClock, recordsStored, entryAt, liveTxns, heldTxns, holds, slotMark, closingSlots}
+use Rattle.model.specs.Sound.{isNoWrite, isNoRead, isNoLive, names, placeRight, entryRight, sound}
+use Rattle.model.proofs.Tests.{and-left, and-right, and-intro, bool-cases}
+use Rattle.model.proofs.ListLaws.{first-finds, all-head, all-tail, all-cons, all-at, all-mem, all-by, any-finds, any-at, all-map}
+use Rattle.model.proofs.DistinctLaws.{once-right}
+use Rattle.model.proofs.IdLaws.{same-id}
+use Rattle.model.proofs.StationLaws.{unheld-txn, unheld-of}
+use Rattle.model.proofs.SoundLaws.{Used, used-at, used-of, write-limit, read-limit, writes-ascending, reads-ascending, sets-of, writes-zero, reads-zero, zeros-of, Shut, shut-at, shut-of, unheld-wrote}
+use Rattle.soundness.specs.Parts.{writesRight, readsRight, listsRight, countsRight, shapeRight, shape, liveColumn, heldColumn, txnColumn, markColumn, slotIn, isNamed, namedBy, allNamed, slotFree, parts}
+use Rattle.soundness.proofs.PartLaws.{free-none, free-high, free-is, held-txn-at, set-is}
+
+pub bool-same : (a b : Bool) → (a ≡ true → b ≡ true) → (b ≡ true → a ≡ true) → a ≡ b
+bool-same a b f g = go (bool-cases a) (bool-cases b)
+  where
+    go : (a ≡ true) ⊎ (a ≡ false) → (b ≡ true) ⊎ (b ≡ false) → a ≡ b
+    go (inl p) q = p ∙ sym (f p)
+    go (inr p) (inl q) = absurd (true≢false (sym (g q) ∙ p))
+    go (inr p) (inr q) = p ∙ sym q
+
+-- ── a place of a station, by its phase ──
+module _ (es : List Entry) (l : Live) where
+  pub lists-of : Used es l → listsRight l ≡ true
+  unfolding listsRight writesRight readsRight writesOf readsOf
+  lists-of u =
+      and-intro _ _
+      (and-intro _ _ (le-leb 1 (l .txn) (omega (arith, u .numbered)))
+      (and-intro _ _ (le-leb (l .«write_count») 8 (write-limit l (u .sets)))
+      (set-is writeKey isNoWrite 0 (l .«write_count») (l .writes) ∙ and-intro _ _ (writes-ascending l (u .sets)) (writes-zero l (u .zeros)))))
+      (and-intro _ _ (le-leb (l .«read_count») 16 (read-limit l (u .sets)))
+      (set-is readKey isNoRead 0 (l .«read_count») (l .reads) ∙ and-intro _ _ (reads-ascending l (u .sets)) (reads-zero l (u .zeros))))
+
+  pub used-lists : listsRight l ≡ true → all (names es) (readsOf l) ≡ true → Used es l
+  unfolding listsRight writesRight readsRight writesOf readsOf
+  used-lists h n =
+      let w : writesRight l ≡ true = and-right _ _ (and-left _ _ h) in
+      let r : readsRight l ≡ true = and-right _ _ h in
+      let x = sym (set-is writeKey isNoWrite 0 (l .«write_count») (l .writes)) ∙ and-right _ _ w in
+      let y = sym (set-is readKey isNoRead 0 (l .«read_count») (l .reads)) ∙ and-right _ _ r in
+      record {
+        numbered = λ (z : l .txn ≡ 0). omega (arith, leb-true 1 (l .txn) (and-left _ _ (and-left _ _ h)));
+        sets = sets-of l (leb-true (l .«write_count») 8 (and-left _ _ w)) (leb-true (l .«read_count») 16 (and-left _ _ r)) (and-left _ _ x) (and-left _ _ y);
+        named = n;
+        zeros = zeros-of l (and-right _ _ x) (and-right _ _ y);
+      }
+
+-- an unused place has read nothing
+pub unused-names : (p : Read → Bool) (l : Live) → isNoLive l ≡ true → all p (readsOf l) ≡ true
+unfolding isNoLive readsOf all
+unused-names p l h = let e : l .«read_count» ≡ 0 = eqb-true (l .«read_count») 0 (and-right _ _ (and-left _ _ (and-left _ _ h))) in rw e
+
+-- a closing transaction's write set, clock and records
+module _ (st : Station) (l : Live) (d c n : ℕ) (e : l .phase ≡ Closing d c n) where
+  pub counts-of : Shut st l → countsRight c n (l .«write_count») ≡ true
+  unfolding countsRight closingClock recordsStored
+  counts-of s =
+      and-intro _ _
+      (and-intro _ _ (le-leb 1 (l .«write_count») (s .keyed)) (le-leb 1 c (subst (λ (p : Phase). 1 ≤ closingClock p) e (s .clocked))))
+      (le-leb n (l .«write_count» + 1) (subst (λ (p : Phase). recordsStored p ≤ l .«write_count» + 1) e (s .within)))
+
+  pub shut-counts : countsRight c n (l .«write_count») ≡ true → (d < 64) × (holds st d ≡ false) → Shut st l
+  unfolding countsRight closingClock recordsStored closingSlot
+  shut-counts h f =
+      record {
+        keyed = leb-true 1 (l .«write_count») (and-left _ _ (and-left _ _ h));
+        clocked = subst (λ (p : Phase). 1 ≤ closingClock p) (sym e) (leb-true 1 c (and-right _ _ (and-left _ _ h)));
+        within = subst (λ (p : Phase). recordsStored p ≤ l .«write_count» + 1) (sym e) (leb-true n (l .«write_count» + 1) (and-right _ _ h));
+        low = subst (λ (p : Phase). closingSlot p < 64) (sym e) (f .0);
+        unheld = subst (λ (p : Phase). holds st (closingSlot p) ≡ false) (sym e) (f .1);
+      }
+
+module _ (st : Station) (ts : List ℕ) (at-slot : (d : ℕ) → d < 64 → getD ts (suc d + 7) 0 ≡ entryAt st d .id .txn) where
+  pub slot-free : (d : ℕ) → d < 64 → holds st d ≡ false → slotFree ts (suc d) ≡ true
+  slot-free d h n = free-is ts (suc d) (suc-ne-zero d) (omega arith) ∙ eq-eqb (getD ts (suc d + 7) 0) 0 (at-slot d h ∙ unheld-txn st d n)
+
+  pub free-slot : (d : ℕ) → slotFree ts (suc d) ≡ true → (d < 64) × (holds st d ≡ false)
+  free-slot d h =
+      let b : d < 64 = go (bool-cases (leb (suc d) 64)) in
+      (b, unheld-of st d (sym (at-slot d b) ∙ eqb-true (getD ts (suc d + 7) 0) 0 (sym (free-is ts (suc d) (suc-ne-zero d) (omega arith)) ∙ h)))
+    where
+      go : (leb (suc d) 64 ≡ true) ⊎ (leb (suc d) 64 ≡ false) → d < 64
+      go (inl e) = leb-true (suc d) 64 e
+      go (inr e) = absurd (true≢false (sym h ∙ free-high ts (suc d) (suc-ne-zero d) (leb-false (suc d) 64 e)))
+
+  -- what is right of a place: its shape, its reads, its slot
+  module _ (l : Live) where
+    pub place-parts : (p : Phase) → l .phase ≡ p → placeRight st p l ≡ true
+        → (shapeRight p l ≡ true) × (all (names (st .entries)) (readsOf l) ≡ true) × (slotFree ts (slotMark p) ≡ true)
+    unfolding placeRight shapeRight slotMark closingSlot
+    place-parts Unused e h = (h, unused-names (names (st .entries)) l h, free-none ts 0 refl)
+    place-parts Open e h = let u = used-at (st .entries) l h in (lists-of (st .entries) l u, u .named, free-none ts 0 refl)
+    place-parts (Closing d c n) e h =
+        let u = used-at (st .entries) l (and-left _ _ h) in
+        let s = shut-at st l (and-right _ _ h) in (
+          and-intro _ _ (counts-of st l d c n e s) (lists-of (st .entries) l u),
+          u .named,
+          slot-free d (subst (λ (p : Phase). closingSlot p < 64) e (s .low)) (subst (λ (p : Phase). holds st (closingSlot p) ≡ false) e (s .unheld)),
+        )
+
+    pub parts-place : (p : Phase) → l .phase ≡ p → shapeRight p l ≡ true → all (names (st .entries)) (readsOf l) ≡ true → slotFree ts (slotMark p) ≡ true → placeRight st p l ≡ true
+    unfolding placeRight shapeRight slotMark
+    parts-place Unused e h n f = h
+    parts-place Open e h n f = used-of (st .entries) l (used-lists (st .entries) l h n)
+    parts-place (Closing d c n′) e h n f =
+        and-intro _ _ (used-of (st .entries) l (used-lists (st .entries) l (and-right _ _ h) n)) (shut-of st l (shut-counts st l d c n′ e (and-left _ _ h) (free-slot d f)))
+
+-- ── reads: where entries are right and transactions distinct, the entry found by its transaction is the only one that a read can name ──
+abbrev past : Entry
+past = record { id = noId; count = 0; keys = [] }
+
+module _ (ls : List Live) (es : List Entry) (hl : length ls ≡ 8) (he : length es ≡ 64) where
+  slot-is : (t : ℕ) → slotIn (txnColumn ls es) t ≡ first (eqb t) (heldColumn es)
+  unfolding slotIn
+  slot-is t = ap (first (eqb t)) (drop-at (liveColumn ls) (heldColumn es) 8 (length-map ls (λ (l : Live). l .txn) ∙ hl))
+
+  names-is : (r : Read) → names es r ≡ any (λ e. isNamed e r) es
+  unfolding names wroteAs isNamed
+  names-is r = refl
+
+  named-names : (r : Read) → namedBy es (txnColumn ls es) r ≡ true → names es r ≡ true
+  unfolding namedBy
+  named-names r h =
+      let o : slotIn (txnColumn ls es) (r .id .txn) < length es = omega (arith, ltb-true (slotIn (txnColumn ls es) (r .id .txn)) 64 (and-left _ _ h)) in
+      names-is r ∙ any-at (λ e. isNamed e r) es past (slotIn (txnColumn ls es) (r .id .txn)) o (and-right _ _ h)
+
+  names-named : all entryRight es ≡ true → distinct (txnColumn ls es) ≡ true → (r : Read) → names es r ≡ true → namedBy es (txnColumn ls es) r ≡ true
+  unfolding namedBy isNamed
+  names-named a u r h = go (any-finds (λ e. isNamed e r) es past (sym (names-is r) ∙ h))
+    where
+      go : (j : ℕ) × (j < length es) × (isNamed (getD es j past) r ≡ true) → namedBy es (txnColumn ls es) r ≡ true
+      go (j, o, q) =
+          let t : ℕ = r .id .txn in
+          let e : Entry = getD es j past in
+          let x : e .id .txn ≡ t = ap (λ (i : Id). i .txn) (same-id (e .id) (r .id) (and-left _ _ q)) in
+          let hj : getD (heldColumn es) j 0 ≡ t = held-txn-at es j ∙ x in
+          let k : j < length (heldColumn es) = omega (arith, length-map es (λ (y : Entry). y .id .txn)) in
+          let f = first-finds (eqb t) (heldColumn es) 0 j (eq-eqb t (getD (heldColumn es) j 0) (sym hj)) k in
+          let hd : getD (heldColumn es) (first (eqb t) (heldColumn es)) 0 ≡ t = sym (eqb-true t (getD (heldColumn es) (first (eqb t) (heldColumn es)) 0) (f .1)) in
+          let same : first (eqb t) (heldColumn es) ≡ j =
+          once-right (liveColumn ls) (heldColumn es) u (first (eqb t) (heldColumn es)) j (hd ∙ sym hj) (λ z. true≢false (sym (and-right _ _ q) ∙ unheld-wrote e (all-at entryRight es past a j o) (x ∙ sym hd ∙ z) (r .key))) in
+          and-intro _ _ (lt-ltb (slotIn (txnColumn ls es) t) 64 (omega (arith, slot-is t))) (subst (λ (i : ℕ). isNamed (getD es i past) r ≡ true) (sym (slot-is t ∙ same)) q)
+
+-- ── the whole ──
+all-unmap : {A B : Type 0} (f : A → B) (q : B → Bool) (l : List A) → all q (map f l) ≡ true → all (λ x. q (f x)) l ≡ true
+unfolding all
+all-unmap f q [] h = refl
+all-unmap f q (x ∷ xs) h = all-cons (λ y. q (f y)) x xs (all-head q (f x) (map f xs) h) (all-unmap f q xs (all-tail q (f x) (map f xs) h))
+
+module _ (st : Station) (hl : length (st .live) ≡ 8) (he : length (st .entries) ≡ 64) where
+  slot-at : (d : ℕ) → d < 64 → getD (txnColumn (st .live) (st .entries)) (suc d + 7) 0 ≡ entryAt st d .id .txn
+  unfolding entryAt
+  slot-at d h =
+      ap (λ (k : ℕ). getD (txnColumn (st .live) (st .entries)) k 0) (omega (arith, length-map (st .live) (λ (l : Live). l .txn)))
+      ∙ getD-append-add (liveColumn (st .live)) (heldColumn (st .entries)) d 0 ∙ held-txn-at (st .entries) d
+
+  to-parts : sound st ≡ true → parts (st .live) (st .entries) ≡ true
+  unfolding sound parts liveTxns heldTxns closingSlots
+  to-parts h =
+      let a : all entryRight (st .entries) ≡ true = and-left _ _ (and-left _ _ (and-left _ _ h)) in
+      let b : all (λ l. placeRight st (l .phase) l) (st .live) ≡ true = and-right _ _ (and-left _ _ (and-left _ _ h)) in
+      let u : distinct (txnColumn (st .live) (st .entries)) ≡ true = and-right _ _ (and-left _ _ h) in
+      let m : distinct (markColumn (st .live)) ≡ true = and-right _ _ h in
+      let at : (l : Live) → placeRight st (l .phase) l ≡ true → (shapeRight (l .phase) l ≡ true) × (all (names (st .entries)) (readsOf l) ≡ true) × (slotFree (txnColumn (st .live) (st .entries)) (slotMark (l .phase)) ≡ true) =
+      λ l q. place-parts st (txnColumn (st .live) (st .entries)) slot-at l (l .phase) refl q in
+      and-intro _ _
+      (and-intro _ _
+      (and-intro _ _
+      (and-intro _ _
+      (and-intro _ _ a (all-by (λ l. placeRight st (l .phase) l) shape (st .live) (λ l _ q. at l q .0) b))
+      u)
+      (all-by (λ l. placeRight st (l .phase) l) (allNamed (st .entries) (txnColumn (st .live) (st .entries))) (st .live)
+      (λ l _ q. all-by (names (st .entries)) (namedBy (st .entries) (txnColumn (st .live) (st .entries))) (readsOf l) (λ r _ z. names-named (st .live) (st .entries) hl he a u r z) (at l q .1)) b))
+      m)
+      (all-map (λ (l : Live). slotMark (l .phase)) (λ l. placeRight st (l .phase) l) (slotFree (txnColumn (st .live) (st .entries))) (λ l q. at l q .2) (st .live) b)
+
+  of-parts : parts (st .live) (st .entries) ≡ true → sound st ≡ true
+  unfolding sound parts liveTxns heldTxns closingSlots
+  of-parts h =
+      let f : all (slotFree (txnColumn (st .live) (st .entries))) (markColumn (st .live)) ≡ true = and-right _ _ h in
+      let m : distinct (markColumn (st .live)) ≡ true = and-right _ _ (and-left _ _ h) in
+      let n : all (allNamed (st .entries) (txnColumn (st .live) (st .entries))) (st .live) ≡ true = and-right _ _ (and-left _ _ (and-left _ _ h)) in
+      let g : (all entryRight (st .entries) and all shape (st .live) and distinct (txnColumn (st .live) (st .entries))) ≡ true = and-left _ _ (and-left _ _ (and-left _ _ h)) in
+      let a : all entryRight (st .entries) ≡ true = and-left _ _ (and-left _ _ g) in
+      let s : all shape (st .live) ≡ true = and-right _ _ (and-left _ _ g) in
+      let u : distinct (txnColumn (st .live) (st .entries)) ≡ true = and-right _ _ g in
+      let f′ = all-unmap (λ (l : Live). slotMark (l .phase)) (slotFree (txnColumn (st .live) (st .entries))) (st .live) f in
+      and-intro _ _
+      (and-intro _ _
+      (and-intro _ _ a
+      (all-by shape (λ l. placeRight st (l .phase) l) (st .live)
+      (λ l e q.
+      parts-place st (txnColumn (st .live) (st .entries)) slot-at l (l .phase) refl q
+      (all-by (namedBy (st .entries) (txnColumn (st .live) (st .entries))) (names (st .entries)) (readsOf l) (λ r _ z. named-names (st .live) (st .entries) hl he r z) (all-mem (allNamed (st .entries) (txnColumn (st .live) (st .entries))) (st .live) n l e))
+      (all-mem (λ (x : Live). slotFree (txnColumn (st .live) (st .entries)) (slotMark (x .phase))) (st .live) f′ l e)) s))
+      u)
+      m
+
+  pub sound-is : sound st ≡ parts (st .live) (st .entries)
+  sound-is = bool-same (sound st) (parts (st .live) (st .entries)) to-parts of-parts

@@ -1,0 +1,95 @@
+-- The parts that soundness is tested in, each with a loop of its own; proofs/Whole says that together they are model's `sound`.
+-- a key of an ascending set: at least lo, below the limit
+use Prim.Native.Nat.{ℕ, zero, suc, _+_}
+use mathlib.Core.Bool.{Bool, true}
+use mathlib.Core.List.{List, [], _∷_, _++_, map}
+use lib.Dec.{eqb, ltb, leb}
+use lib.ListN.{drop, getD}
+use Rattle.model.specs.declared.Read.{Read}
+use Rattle.model.specs.declared.Live.{Live}
+use Rattle.model.specs.declared.Entry.{Entry}
+use Rattle.model.specs.declared.Phase.{Phase}
+use Rattle.model.specs.declared.Phase.the-variants.{Unused, Open, Closing}
+use Rattle.model.specs.Lists.{_and_, _or_, all, first, count, distinct}
+use Rattle.model.specs.Limits.{keys, livePlaces, slots, writeLimit, readLimit}
+use Rattle.model.specs.Ids.{sameId, noId}
+use Rattle.model.specs.Stations.{readsOf, wrote, writeKey, readKey, slotMark}
+use Rattle.model.specs.Sound.{isNoWrite, isNoRead, isNoLive, entryRight}
+
+unfoldable pub fits : ℕ → ℕ → Bool
+fits lo k = leb lo k and ltb k keys
+
+-- the keys of the first n ascend from lo on below the limit, the others are zero
+module _ {A : Type 0} (key : A → ℕ) (isZero : A → Bool) where
+  unfoldable pub setRight : ℕ → ℕ → List A → Bool
+  setRight lo n [] = true
+  setRight lo zero (x ∷ xs) = isZero x and setRight lo zero xs
+  setRight lo (suc n) (x ∷ xs) = fits lo (key x) and setRight (suc (key x)) n xs
+
+abbrev pub keysRight : ℕ → List ℕ → Bool
+keysRight n ks = setRight (λ k. k) (eqb 0) 0 n ks
+
+unfoldable pub writesRight : Live → Bool
+writesRight l = leb (l .«write_count») writeLimit and setRight writeKey isNoWrite 0 (l .«write_count») (l .writes)
+
+unfoldable pub readsRight : Live → Bool
+readsRight l = leb (l .«read_count») readLimit and setRight readKey isNoRead 0 (l .«read_count») (l .reads)
+
+abbrev pub noWrites : Live → Bool
+noWrites l = all isNoWrite (l .writes)
+
+abbrev pub noReads : Live → Bool
+noReads l = all isNoRead (l .reads)
+
+unfoldable pub listsRight : Live → Bool
+listsRight l = leb 1 (l .txn) and writesRight l and readsRight l
+
+-- a closing transaction's write set, clock and records stored
+unfoldable pub countsRight : ℕ → ℕ → ℕ → Bool
+countsRight c n w = leb 1 w and leb 1 c and leb n (w + 1)
+
+-- a live place by itself
+unfoldable pub shapeRight : Phase → Live → Bool
+shapeRight Unused l = isNoLive l
+shapeRight Open l = listsRight l
+shapeRight (Closing d c n) l = countsRight c n (l .«write_count») and listsRight l
+
+abbrev pub shape : Live → Bool
+shape l = shapeRight (l .phase) l
+
+-- ── columns: the transactions of the live places and then of the entries; the slots of the closing transactions ──
+abbrev pub liveColumn : List Live → List ℕ
+liveColumn ls = map (λ (l : Live). l .txn) ls
+
+abbrev pub heldColumn : List Entry → List ℕ
+heldColumn es = map (λ (e : Entry). e .id .txn) es
+
+abbrev pub txnColumn : List Live → List Entry → List ℕ
+txnColumn ls es = liveColumn ls ++ heldColumn es
+
+abbrev pub markColumn : List Live → List ℕ
+markColumn ls = map (λ (l : Live). slotMark (l .phase)) ls
+
+-- the slot of a transaction by the column ts
+unfoldable pub slotIn : List ℕ → ℕ → ℕ
+slotIn ts t = first (eqb t) (drop livePlaces ts)
+
+unfoldable pub isNamed : Entry → Read → Bool
+isNamed e r = sameId (e .id) (r .id) and wrote e (r .key)
+
+-- the entry that a read names, found by its transaction, has the id and wrote the key
+unfoldable pub namedBy : List Entry → List ℕ → Read → Bool
+namedBy es ts r = ltb (slotIn ts (r .id .txn)) slots and isNamed (getD es (slotIn ts (r .id .txn)) (record { id = noId; count = 0; keys = [] })) r
+
+abbrev pub allNamed : List Entry → List ℕ → Live → Bool
+allNamed es ts l = all (namedBy es ts) (readsOf l)
+
+-- a closing transaction's slot, counted from 1, is there and not held
+unfoldable pub slotFree : List ℕ → ℕ → Bool
+slotFree ts m = eqb m 0 or (leb m slots and eqb (getD ts (m + 7) 0) 0)
+
+-- all of it, in the order of the tests
+unfoldable pub parts : List Live → List Entry → Bool
+parts ls es =
+    all entryRight es and all shape ls and distinct (txnColumn ls es)
+    and all (allNamed es (txnColumn ls es)) ls and distinct (markColumn ls) and all (slotFree (txnColumn ls es)) (markColumn ls)

@@ -1,0 +1,491 @@
+// Whether a station is sound, as model's specs/Sound.antt defines it. What reads the whole station is called once, outside of loops.
+use model::Entry;
+use model::Live;
+use model::Phase;
+use model::Read;
+use model::Station;
+use model::Write;
+ghost use mathlib.Core.Path.{_≡_};
+ghost use mathlib.Core.List.{map};
+ghost use Prim.Native.Nat.{_≤_, _<_};
+ghost use lib.Dec.{eqb};
+ghost use lib.ListN.{length, drop};
+ghost use Rattle.model.specs.Lists.{all, member, distinct};
+ghost use Rattle.model.specs.Stations.{readsOf, wrote, slotMark};
+ghost use Rattle.model.specs.Sound.{isNoWrite, isNoRead, isNoLive, entryRight, sound};
+ghost use Rattle.soundness.specs.Parts.{fits, keysRight, writesRight, readsRight, noWrites, noReads, listsRight, countsRight, shape, txnColumn, markColumn, slotIn, isNamed, allNamed, slotFree};
+
+fn wide(x: u8) -> usize
+    ensures { λ r. ⌜ r ≡ x ⌝ }
+{
+    x as usize
+}
+
+// ---- entries ----
+fn key_fits(low: u8, key: u8) -> bool
+    ensures { λ r. ⌜ r ≡ fits low key ⌝ }
+{
+    if key < low {
+        return false;
+    }
+    key < 64
+}
+
+fn no_keys(keys: [u8; 8]) -> bool
+    ensures { λ r. ⌜ r ≡ all (eqb 0) keys ⌝ }
+{
+    let mut j = 0;
+    while j < 8 {
+        if keys[j] != 0 {
+            return false;
+        }
+        j += 1;
+    }
+    true
+}
+
+fn keys_right(keys: [u8; 8], n: usize) -> bool
+    ensures { λ r. ⌜ r ≡ keysRight n keys ⌝ }
+{
+    let mut low = 0u8;
+    let mut j = 0;
+    while j < 8 {
+        let k = keys[j];
+        if j < n {
+            if !key_fits(low, k) {
+                return false;
+            }
+            low = k + 1;
+        } else {
+            if k != 0 {
+                return false;
+            }
+        }
+        j += 1;
+    }
+    true
+}
+
+fn entry_right(e: Entry) -> bool
+    ensures { λ r. ⌜ r ≡ entryRight e ⌝ }
+{
+    let n = e.count;
+    let id = e.id;
+    let keys = e.keys;
+    if n == 0 {
+        if id.clock != 0 {
+            return false;
+        }
+        if id.txn != 0 {
+            return false;
+        }
+        return no_keys(keys);
+    }
+    if 8 < n {
+        return false;
+    }
+    if id.txn == 0 {
+        return false;
+    }
+    if id.clock == 0 {
+        return false;
+    }
+    keys_right(keys, wide(n))
+}
+
+fn entries_right(entries: [Entry; 64]) -> bool
+    ensures { λ r. ⌜ r ≡ all entryRight entries ⌝ }
+{
+    let mut d = 0;
+    while d < 64 {
+        let e = entries[d];
+        if !entry_right(e) {
+            return false;
+        }
+        d += 1;
+    }
+    true
+}
+
+// ---- a live place by itself ----
+fn no_write(w: Write) -> bool
+    ensures { λ r. ⌜ r ≡ isNoWrite w ⌝ }
+{
+    if w.key != 0 {
+        return false;
+    }
+    w.value == 0
+}
+
+fn no_read(read: Read) -> bool
+    ensures { λ r. ⌜ r ≡ isNoRead read ⌝ }
+{
+    let id = read.id;
+    if read.key != 0 {
+        return false;
+    }
+    if id.clock != 0 {
+        return false;
+    }
+    id.txn == 0
+}
+
+fn writes_right(l: Live) -> bool
+    ensures { λ r. ⌜ r ≡ writesRight l ⌝ }
+{
+    let n = wide(l.write_count);
+    if 8 < n {
+        return false;
+    }
+    let mut low = 0u8;
+    let mut j = 0;
+    while j < 8 {
+        let w = l.writes[j];
+        if j < n {
+            if !key_fits(low, w.key) {
+                return false;
+            }
+            low = w.key + 1;
+        } else {
+            if !no_write(w) {
+                return false;
+            }
+        }
+        j += 1;
+    }
+    true
+}
+
+fn reads_right(l: Live) -> bool
+    ensures { λ r. ⌜ r ≡ readsRight l ⌝ }
+{
+    let n = wide(l.read_count);
+    if 16 < n {
+        return false;
+    }
+    let mut low = 0u8;
+    let mut j = 0;
+    while j < 16 {
+        let read = l.reads[j];
+        if j < n {
+            if !key_fits(low, read.key) {
+                return false;
+            }
+            low = read.key + 1;
+        } else {
+            if !no_read(read) {
+                return false;
+            }
+        }
+        j += 1;
+    }
+    true
+}
+
+fn no_writes(l: Live) -> bool
+    ensures { λ r. ⌜ r ≡ noWrites l ⌝ }
+{
+    let mut j = 0;
+    while j < 8 {
+        let w = l.writes[j];
+        if !no_write(w) {
+            return false;
+        }
+        j += 1;
+    }
+    true
+}
+
+fn no_reads(l: Live) -> bool
+    ensures { λ r. ⌜ r ≡ noReads l ⌝ }
+{
+    let mut j = 0;
+    while j < 16 {
+        let read = l.reads[j];
+        if !no_read(read) {
+            return false;
+        }
+        j += 1;
+    }
+    true
+}
+
+fn unused_right(l: Live) -> bool
+    ensures { λ r. ⌜ r ≡ isNoLive l ⌝ }
+{
+    if l.txn != 0 {
+        return false;
+    }
+    if l.write_count != 0 {
+        return false;
+    }
+    if l.read_count != 0 {
+        return false;
+    }
+    if !no_writes(l) {
+        return false;
+    }
+    no_reads(l)
+}
+
+fn lists_right(l: Live) -> bool
+    ensures { λ r. ⌜ r ≡ listsRight l ⌝ }
+{
+    if l.txn == 0 {
+        return false;
+    }
+    if !writes_right(l) {
+        return false;
+    }
+    reads_right(l)
+}
+
+fn counts_right(clock: u64, stored: u8, writes: u8) -> bool
+    ensures { λ r. ⌜ r ≡ countsRight clock stored writes ⌝ }
+{
+    if writes == 0 {
+        return false;
+    }
+    if clock == 0 {
+        return false;
+    }
+    if stored == 0 {
+        return true;
+    }
+    stored - 1 <= writes
+}
+
+fn live_right(l: Live) -> bool
+    ensures { λ r. ⌜ r ≡ shape l ⌝ }
+{
+    let p = l.phase;
+    match p {
+        Phase::Unused => unused_right(l),
+        Phase::Open => lists_right(l),
+        Phase::Closing(_, clock, stored) => {
+            if !counts_right(clock, stored, l.write_count) {
+                return false;
+            }
+            lists_right(l)
+        }
+    }
+}
+
+fn lives_right(live: [Live; 8]) -> bool
+    ensures { λ r. ⌜ r ≡ all shape live ⌝ }
+{
+    let mut i = 0;
+    while i < 8 {
+        let l = live[i];
+        if !live_right(l) {
+            return false;
+        }
+        i += 1;
+    }
+    true
+}
+
+// ---- columns ----
+fn txns_of(live: [Live; 8], entries: [Entry; 64]) -> [u32; 72]
+    ensures { λ r. ⌜ r ≡ txnColumn live entries ⌝ }
+{
+    let mut txns = [0u32; 72];
+    let mut i = 0;
+    while i < 8 {
+        let l = live[i];
+        txns[i] = l.txn;
+        i += 1;
+    }
+    let mut d = 0;
+    while d < 64 {
+        let e = entries[d];
+        let id = e.id;
+        txns[8 + d] = id.txn;
+        d += 1;
+    }
+    txns
+}
+
+// The slot that a closing transaction has, counted from 1; 0 of any other.
+fn mark_of(l: Live) -> u32
+    ensures { λ r. ⌜ r ≡ slotMark (l .phase) ⌝ }
+{
+    let p = l.phase;
+    match p {
+        Phase::Unused => 0,
+        Phase::Open => 0,
+        Phase::Closing(d, _, _) => d as u32 + 1,
+    }
+}
+
+fn marks_of(live: [Live; 8]) -> [u32; 8]
+    ensures { λ r. ⌜ r ≡ markColumn live ⌝ }
+{
+    let mut marks = [0u32; 8];
+    let mut i = 0;
+    while i < 8 {
+        let l = live[i];
+        marks[i] = mark_of(l);
+        i += 1;
+    }
+    marks
+}
+
+// ---- numbers that nothing else has ----
+// All of them are looked at: a loop with no other way out compares several at a time.
+fn among(xs: &[u32], start: usize, x: u32) -> bool
+    ensures { λ r. ⌜ r ≡ member x (drop start (now (xs .entry))) ⌝ }
+{
+    let mut found = false;
+    let mut j = start;
+    while j < xs.len() {
+        if xs[j] == x {
+            found = true;
+        }
+        j += 1;
+    }
+    found
+}
+
+fn differ(xs: &[u32]) -> bool
+    ensures { λ r. ⌜ r ≡ distinct (now (xs .entry)) ⌝ }
+{
+    let mut i = 0;
+    while i < xs.len() {
+        let x = xs[i];
+        i += 1;
+        if x != 0 {
+            if among(xs, i, x) {
+                return false;
+            }
+        }
+    }
+    true
+}
+
+// Every closing transaction's slot is there and not held.
+fn slots_free(txns: &[u32; 72], marks: &[u32]) -> bool
+    ensures { λ r. ⌜ r ≡ all (slotFree (now (txns .entry))) (now (marks .entry)) ⌝ }
+{
+    let mut i = 0;
+    while i < marks.len() {
+        let m = marks[i];
+        i += 1;
+        if m != 0 {
+            if 64 < m {
+                return false;
+            }
+            let at = m as usize + 7;
+            if txns[at] != 0 {
+                return false;
+            }
+        }
+    }
+    true
+}
+
+// ---- reads ----
+// The slot of a held transaction by the column of transactions; where none has it, how many slots there are.
+fn slot_of(txns: &[u32], txn: u32) -> usize
+    ensures { λ r. ⌜ r ≡ slotIn (now (txns .entry)) txn ⌝ }
+{
+    let mut j = 8;
+    while j < txns.len() {
+        if txns[j] == txn {
+            return j - 8;
+        }
+        j += 1;
+    }
+    j - 8
+}
+
+fn wrote_key(e: Entry, key: u8) -> bool
+    ensures { λ r. ⌜ r ≡ wrote e key ⌝ }
+{
+    let n = wide(e.count);
+    let mut j = 0;
+    while j < 8 {
+        if n <= j {
+            return false;
+        }
+        let k = e.keys[j];
+        if k == key {
+            return true;
+        }
+        j += 1;
+    }
+    false
+}
+
+fn named(e: Entry, read: Read) -> bool
+    ensures { λ r. ⌜ r ≡ isNamed e read ⌝ }
+{
+    let a = e.id;
+    let b = read.id;
+    if a.clock != b.clock {
+        return false;
+    }
+    if a.txn != b.txn {
+        return false;
+    }
+    wrote_key(e, read.key)
+}
+
+fn read_count(l: Live) -> usize
+    ensures { λ r. ⌜ (r ≡ length (readsOf l)) × (r ≤ 16) ⌝ }
+{
+    let n = l.read_count;
+    if n < 16 { wide(n) } else { 16 }
+}
+
+// Every read names the entry that its transaction has.
+fn reads_named(live: [Live; 8], entries: [Entry; 64], txns: &[u32]) -> bool
+    ensures { λ r. ⌜ r ≡ all (allNamed entries (now (txns .entry))) live ⌝ }
+{
+    let mut i = 0;
+    while i < 8 {
+        let l = live[i];
+        let n = read_count(l);
+        let mut j = 0;
+        while j < n {
+            let read = l.reads[j];
+            let id = read.id;
+            let d = slot_of(txns, id.txn);
+            if 63 < d {
+                return false;
+            }
+            let e = entries[d];
+            if !named(e, read) {
+                return false;
+            }
+            j += 1;
+        }
+        i += 1;
+    }
+    true
+}
+
+pub fn is_sound(station: Station) -> bool
+    ensures { λ r. ⌜ r ≡ sound station ⌝ }
+{
+    let entries = station.entries;
+    let live = station.live;
+    if !entries_right(entries) {
+        return false;
+    }
+    if !lives_right(live) {
+        return false;
+    }
+    let txns = txns_of(live, entries);
+    if !differ(&txns) {
+        return false;
+    }
+    if !reads_named(live, entries, &txns) {
+        return false;
+    }
+    let marks = marks_of(live);
+    if !differ(&marks) {
+        return false;
+    }
+    slots_free(&txns, &marks)
+}
