@@ -1,4 +1,3 @@
-
 pub mod Loops
 pub mod PartLaws
 pub mod Whole

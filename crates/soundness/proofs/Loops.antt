@@ -1,5 +1,4 @@
 -- Laws of a list that a loop goes through: what a test of the rest comes to, one element further.
--- ── all, any, first ──
 use Prim.Native.Nat.{ℕ, suc, _+_, _-_, _<_, _≤_}
 use mathlib.Core.Path.{_≡_, refl, sym, ap, _∙_}
 use mathlib.Core.Logic.{_≢_, _⊎_, inl, inr}
@@ -13,10 +12,10 @@ use native.Mathlib.Numerals.{add-one}
 use borrow.Author.Tests.{ltb-true, leb-true, leb-false, le-leb, lt-leb, eq-eqb, ne-eqb}
 use Rattle.model.specs.Lists.{_and_, _or_, all, any, first, member, distinct}
 use Rattle.model.specs.Limits.{keys}
-use Rattle.model.specs.Slots.{seen}
 use Rattle.model.proofs.Tests.{and-right, or-intro-right, bool-cases}
 use Rattle.soundness.specs.Parts.{fits, setRight}
 
+-- ── all, any, first ──
 module _ {A : Type 0} (p : A → Bool) (xs : List A) (i : ℕ) where
   pub all-more : (d : A) → i < length xs → p (getD xs i d) ≡ true → all p (drop i xs) ≡ all p (drop (i + 1) xs)
   unfolding all
@@ -64,17 +63,17 @@ module _ {A : Type 0} (p : A → Bool) (xs : List A) (i : ℕ) where
       go (inr e) = all-stop d h e ∙ ap (λ (b : Bool). b and all p (drop (i + 1) xs)) (sym e)
 
 -- a search that remembers what it has seen, and looks on
-module _ {A : Type 0} (p : A → Bool) (xs : List A) (i : ℕ) (seen : Bool) where
-  pub seen-yes : (d : A) → i < length xs → p (getD xs i d) ≡ true → (seen or any p (drop i xs)) ≡ (true or any p (drop (i + 1) xs))
+module _ {A : Type 0} (p : A → Bool) (xs : List A) (i : ℕ) (was : Bool) where
+  pub seen-yes : (d : A) → i < length xs → p (getD xs i d) ≡ true → (was or any p (drop i xs)) ≡ (true or any p (drop (i + 1) xs))
   unfolding _or_
-  seen-yes d h e = or-intro-right seen (any p (drop i xs)) (any-stop p xs i d h e)
+  seen-yes d h e = or-intro-right was (any p (drop i xs)) (any-stop p xs i d h e)
 
-  pub seen-no : (d : A) → i < length xs → p (getD xs i d) ≡ false → (seen or any p (drop i xs)) ≡ (seen or any p (drop (i + 1) xs))
-  seen-no d h e = ap (λ (b : Bool). seen or b) (any-more p xs i d h e)
+  pub seen-no : (d : A) → i < length xs → p (getD xs i d) ≡ false → (was or any p (drop i xs)) ≡ (was or any p (drop (i + 1) xs))
+  seen-no d h e = ap (λ (b : Bool). was or b) (any-more p xs i d h e)
 
-  pub seen-end : length xs ≤ i → (seen or any p (drop i xs)) ≡ seen
+  pub seen-end : length xs ≤ i → (was or any p (drop i xs)) ≡ was
   unfolding _or_
-  seen-end h = ap (λ (b : Bool). seen or b) (any-end p xs i h) ∙ go seen
+  seen-end h = ap (λ (b : Bool). was or b) (any-end p xs i h) ∙ go was
     where
       go : (b : Bool) → (b or false) ≡ b
       go true = refl

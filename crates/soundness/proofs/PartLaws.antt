@@ -1,5 +1,4 @@
 -- Laws of the parts (specs/Parts), one for each way that a test of the code goes.
--- ── sets within their limits ──
 use Prim.Native.Nat.{ℕ, zero, suc, _+_, _<_, _≤_, min}
 use mathlib.Core.Path.{_≡_, refl, sym, ap, ap₂, subst, _∙_}
 use mathlib.Core.Logic.{_≢_, _⊎_, inl, inr}
@@ -21,9 +20,11 @@ use Rattle.model.specs.Ids.{sameId, noId}
 use Rattle.model.specs.Stations.{readsOf, keysOf, writeKey, readKey, slotMark}
 use Rattle.model.specs.Records.{entryRules}
 use Rattle.model.specs.Sound.{isNoWrite, isNoRead, isNoEntry, entryRight}
-use Rattle.soundness.specs.Parts.{fits, setRight, keysRight, writesRight, readsRight, liveColumn, heldColumn, txnColumn, markColumn, slotIn, isNamed, namedBy, slotFree}
-use Rattle.soundness.proofs.Loops.{all-split}
+use Rattle.soundness.specs.Parts.{fits, setRight, keysRight, writesRight, readsRight, liveColumn, heldColumn, txnColumn, markColumn, slotIn}
+use Rattle.soundness.specs.Parts.{isNamed, namedBy, slotFree}
+use Rattle.soundness.proofs.Loops.{all-more, all-stop, all-end, all-split}
 
+-- ── sets within their limits ──
 module _ (l : Live) (n : ℕ) where
   pub writes-is : n ≡ l .«write_count» → n ≤ 8 → writesRight l ≡ setRight writeKey isNoWrite 0 n (l .writes)
   unfolding writesRight _and_
@@ -78,15 +79,30 @@ pub read-at : (l : Live) (j : ℕ) (d : Read) → j < length (readsOf l) → get
 unfolding readsOf
 read-at l j d h = getD-take (l .«read_count») (l .reads) j d (omega (arith, length-take (l .«read_count») (l .reads)))
 
--- ── named reads ──
-module _ (es : List Entry) (ts : List ℕ) (r : Read) (d : ℕ) (e : d ≡ slotIn ts (r .id .txn)) where
-  pub unnamed : 63 < d → namedBy es ts r ≡ false
-  unfolding namedBy _and_
-  unnamed h = rw (← e, le-ltb d 64 (omega arith))
+-- ── named reads: the rest of a place's reads from place j on, and the places after it ──
+module _ (es : List Entry) (ts : List ℕ) (l : Live) (j : ℕ) (rest whole : Bool) (v : whole ≡ (all (namedBy es ts) (drop j (readsOf l)) and rest)) where
+  module _ (d : ℕ) (e : d ≡ slotIn ts (getD (l .reads) j (record { key = 0; id = noId }) .id .txn)) (o : j < length (readsOf l)) where
+    named-is : d ≤ 63 → namedBy es ts (getD (readsOf l) j (record { key = 0; id = noId })) ≡ isNamed (getD es d (record { id = noId; count = 0; keys = [] })) (getD (l .reads) j (record { key = 0; id = noId }))
+    unfolding namedBy _and_
+    named-is h = rw (read-at l j (record { key = 0; id = noId }) o, ← e, lt-ltb d 64 (omega arith))
 
-  pub named-is : d ≤ 63 → namedBy es ts r ≡ isNamed (getD es d (record { id = noId; count = 0; keys = [] })) r
-  unfolding namedBy _and_
-  named-is h = rw (← e, lt-ltb d 64 (omega arith))
+    pub unnamed : 63 < d → whole ≡ false
+    unfolding namedBy _and_
+    unnamed h =
+        let q : namedBy es ts (getD (readsOf l) j (record { key = 0; id = noId })) ≡ false = rw (read-at l j (record { key = 0; id = noId }) o, ← e, le-ltb d 64 (omega arith)) in
+        v ∙ rw (all-stop (namedBy es ts) (readsOf l) j (record { key = 0; id = noId }) o q)
+
+    pub named-stop : d ≤ 63 → isNamed (getD es d (record { id = noId; count = 0; keys = [] })) (getD (l .reads) j (record { key = 0; id = noId })) ≡ false → whole ≡ false
+    unfolding _and_
+    named-stop h n = v ∙ rw (all-stop (namedBy es ts) (readsOf l) j (record { key = 0; id = noId }) o (named-is h ∙ n))
+
+    pub named-more : d ≤ 63 → isNamed (getD es d (record { id = noId; count = 0; keys = [] })) (getD (l .reads) j (record { key = 0; id = noId })) ≡ true
+        → whole ≡ (all (namedBy es ts) (drop (j + 1) (readsOf l)) and rest)
+    named-more h n = v ∙ rw (all-more (namedBy es ts) (readsOf l) j (record { key = 0; id = noId }) o (named-is h ∙ n))
+
+  pub named-end : length (readsOf l) ≤ j → whole ≡ rest
+  unfolding _and_
+  named-end h = v ∙ rw (all-end (namedBy es ts) (readsOf l) j h)
 
 -- ── columns ──
 pub mark-at : (ls : List Live) (i : ℕ) → getD (markColumn ls) i 0 ≡ slotMark (getD ls i (record { txn = 0; phase = Unused; «write_count» = 0; writes = []; «read_count» = 0; reads = [] }) .phase)

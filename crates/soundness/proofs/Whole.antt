@@ -1,5 +1,4 @@
 -- The parts together are model's `sound`.
--- ── tests ──
 use Prim.Native.Nat.{ℕ, suc, _+_, _<_, _≤_}
 use mathlib.Core.Path.{_≡_, refl, sym, ap, subst, _∙_}
 use mathlib.Core.Logic.{_⊎_, inl, inr}
@@ -21,17 +20,21 @@ use Rattle.model.specs.declared.Phase.the-variants.{Unused, Open, Closing}
 use Rattle.model.specs.Lists.{_and_, all, any, first, count, distinct, same}
 use Rattle.model.specs.Limits.{keys}
 use Rattle.model.specs.Ids.{noId}
-use Rattle.model.specs.Stations.{writesOf, readsOf, wroteAs, writeKey, readKey, closingSlot, closingClock, recordsStored, entryAt, liveTxns, heldTxns, holds, slotMark, closingSlots}
+use Rattle.model.specs.Stations.{writesOf, readsOf, wroteAs, writeKey, readKey, closingSlot, closingClock, recordsStored, entryAt, liveTxns, heldTxns}
+use Rattle.model.specs.Stations.{holds, slotMark, closingSlots}
 use Rattle.model.specs.Sound.{isNoWrite, isNoRead, isNoLive, names, placeRight, entryRight, sound}
 use Rattle.model.proofs.Tests.{and-left, and-right, and-intro, bool-cases}
 use Rattle.model.proofs.ListLaws.{first-finds, all-head, all-tail, all-cons, all-at, all-mem, all-by, any-finds, any-at, all-map}
 use Rattle.model.proofs.DistinctLaws.{once-right}
 use Rattle.model.proofs.IdLaws.{same-id}
 use Rattle.model.proofs.StationLaws.{unheld-txn, unheld-of}
-use Rattle.model.proofs.SoundLaws.{Used, used-at, used-of, write-limit, read-limit, writes-ascending, reads-ascending, sets-of, writes-zero, reads-zero, zeros-of, Shut, shut-at, shut-of, unheld-wrote}
-use Rattle.soundness.specs.Parts.{writesRight, readsRight, listsRight, countsRight, shapeRight, shape, liveColumn, heldColumn, txnColumn, markColumn, slotIn, isNamed, namedBy, allNamed, slotFree, parts}
+use Rattle.model.proofs.SoundLaws.{Used, used-at, used-of, write-limit, read-limit, writes-ascending, reads-ascending, sets-of, writes-zero}
+use Rattle.model.proofs.SoundLaws.{reads-zero, zeros-of, Shut, shut-at, shut-of, unheld-wrote}
+use Rattle.soundness.specs.Parts.{writesRight, readsRight, listsRight, countsRight, shapeRight, shape, liveColumn, heldColumn, txnColumn}
+use Rattle.soundness.specs.Parts.{markColumn, slotIn, isNamed, namedBy, allNamed, slotFree, parts}
 use Rattle.soundness.proofs.PartLaws.{free-none, free-high, free-is, held-txn-at, set-is}
 
+-- ── tests ──
 pub bool-same : (a b : Bool) → (a ≡ true → b ≡ true) → (b ≡ true → a ≡ true) → a ≡ b
 bool-same a b f g = go (bool-cases a) (bool-cases b)
   where

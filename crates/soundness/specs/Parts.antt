@@ -1,5 +1,4 @@
 -- The parts that soundness is tested in, each with a loop of its own; proofs/Whole says that together they are model's `sound`.
--- a key of an ascending set: at least lo, below the limit
 use Prim.Native.Nat.{ℕ, zero, suc, _+_}
 use mathlib.Core.Bool.{Bool, true}
 use mathlib.Core.List.{List, [], _∷_, _++_, map}
@@ -10,12 +9,13 @@ use Rattle.model.specs.declared.Live.{Live}
 use Rattle.model.specs.declared.Entry.{Entry}
 use Rattle.model.specs.declared.Phase.{Phase}
 use Rattle.model.specs.declared.Phase.the-variants.{Unused, Open, Closing}
-use Rattle.model.specs.Lists.{_and_, _or_, all, first, count, distinct}
+use Rattle.model.specs.Lists.{_and_, _or_, all, first, distinct}
 use Rattle.model.specs.Limits.{keys, livePlaces, slots, writeLimit, readLimit}
 use Rattle.model.specs.Ids.{sameId, noId}
 use Rattle.model.specs.Stations.{readsOf, wrote, writeKey, readKey, slotMark}
 use Rattle.model.specs.Sound.{isNoWrite, isNoRead, isNoLive, entryRight}
 
+-- a key of an ascending set: at least lo, below the limit
 unfoldable pub fits : ℕ → ℕ → Bool
 fits lo k = leb lo k and ltb k keys
 

@@ -6,8 +6,7 @@ use model::Read;
 use model::Station;
 use model::Write;
 ghost use mathlib.Core.Path.{_≡_};
-ghost use mathlib.Core.List.{map};
-ghost use Prim.Native.Nat.{_≤_, _<_};
+ghost use Prim.Native.Nat.{_≤_};
 ghost use lib.Dec.{eqb};
 ghost use lib.ListN.{length, drop};
 ghost use Rattle.model.specs.Lists.{all, member, distinct};
@@ -44,6 +43,7 @@ fn no_keys(keys: [u8; 8]) -> bool
     true
 }
 
+// The first n keys ascend below 64, the others are zero.
 fn keys_right(keys: [u8; 8], n: usize) -> bool
     ensures { λ r. ⌜ r ≡ keysRight n keys ⌝ }
 {
@@ -130,6 +130,7 @@ fn no_read(read: Read) -> bool
     id.txn == 0
 }
 
+// The write set: within its limit, its keys ascending, the positions past it zero.
 fn writes_right(l: Live) -> bool
     ensures { λ r. ⌜ r ≡ writesRight l ⌝ }
 {
@@ -156,6 +157,7 @@ fn writes_right(l: Live) -> bool
     true
 }
 
+// The read set, likewise.
 fn reads_right(l: Live) -> bool
     ensures { λ r. ⌜ r ≡ readsRight l ⌝ }
 {
@@ -240,6 +242,7 @@ fn lists_right(l: Live) -> bool
     reads_right(l)
 }
 
+// A closing transaction's clock, records stored and keys written.
 fn counts_right(clock: u64, stored: u8, writes: u8) -> bool
     ensures { λ r. ⌜ r ≡ countsRight clock stored writes ⌝ }
 {
@@ -286,6 +289,7 @@ fn lives_right(live: [Live; 8]) -> bool
 }
 
 // ---- columns ----
+// The transactions of the live places, then of the entries; 0 where unused.
 fn txns_of(live: [Live; 8], entries: [Entry; 64]) -> [u32; 72]
     ensures { λ r. ⌜ r ≡ txnColumn live entries ⌝ }
 {
@@ -347,6 +351,7 @@ fn among(xs: &[u32], start: usize, x: u32) -> bool
     found
 }
 
+// No number but 0 stands twice.
 fn differ(xs: &[u32]) -> bool
     ensures { λ r. ⌜ r ≡ distinct (now (xs .entry)) ⌝ }
 {
@@ -465,6 +470,7 @@ fn reads_named(live: [Live; 8], entries: [Entry; 64], txns: &[u32]) -> bool
     true
 }
 
+// Reads are tested after the entries and the transactions: where those are right, only the entry found by its transaction can be the one named.
 pub fn is_sound(station: Station) -> bool
     ensures { λ r. ⌜ r ≡ sound station ⌝ }
 {

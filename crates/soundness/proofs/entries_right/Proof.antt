@@ -1,36 +1,14 @@
-use Prim.Native.Nat.{ℕ, zero, suc, _+_, _-_, _≤_, _<_, min}
-use mathlib.Core.Path.{_≡_, refl, sym, ap, ap₂, subst, _∙_}
-use mathlib.Core.Logic.{⊎-elim, inl, inr}
-use mathlib.Core.Bool.{Bool, true, false, not}
-use mathlib.Core.List.{List, [], _∷_, _++_, map, append-nil}
+use Prim.Native.Nat.{_-_, _≤_}
+use mathlib.Core.Path.{_≡_, refl, sym, _∙_}
 use native.Mathlib.Omega.{arith}
-use native.Mathlib.Numerals.{add-one}
-use lib.Dec.{eqb, ltb, leb}
-use lib.ListN.{length, take, drop, getD, set, replicate, length-map, length-take, length-set, length-append}
-use Rattle.model.specs.declared.Phase.{Phase}
-use lib.Seq.{take-nil, take-all, drop-drop, getD-take}
+use lib.ListN.{length, drop}
 use borrow.Author.Needs.{needs}
-use borrow.Author.Tests.{eq-eqb, ne-eqb, le-leb, lt-leb, lt-ltb, le-ltb, not-true, not-false, ltb-true, leb-true}
-use Rattle.model.specs.declared.Live.{Live}
-use Rattle.model.specs.declared.Entry.{Entry}
-use Rattle.model.specs.declared.Read.{Read}
-use Rattle.model.specs.declared.Write.{Write}
-use Rattle.model.specs.declared.Phase.the-variants.{Unused, Open, Closing}
-use Rattle.model.specs.Lists.{_and_, _or_, all, any, first, member, distinct}
-use Rattle.model.specs.Ids.{sameId, noId}
-use Rattle.model.specs.Stations.{writeKey, readKey, keysOf, readsOf, writesOf, wrote, slotMark, liveTxns, heldTxns, closingSlots}
-use Rattle.model.specs.Records.{entryRules}
-use Rattle.model.specs.Sound.{isNoWrite, isNoRead, isNoLive, isNoEntry, entryRight, sound}
-use Rattle.model.proofs.Tests.{and-left, and-right}
-use Rattle.soundness.specs.Parts.{fits, setRight, keysRight, writesRight, readsRight, noWrites, noReads, listsRight, countsRight, shapeRight, shape, txnColumn, liveColumn, heldColumn, markColumn, parts, slotIn, isNamed, namedBy, allNamed, slotFree}
-use Rattle.soundness.proofs.Loops.{all-more, all-stop, all-end, all-split, any-more, any-stop, any-end, seen-yes, seen-no, seen-end, first-more, first-stop, first-end, distinct-zero, distinct-new, distinct-old, distinct-end, key-more, key-stop, zero-more, zero-stop, set-start, set-end, fits-low, column-more, column-end, leb-less}
-use Rattle.soundness.proofs.PartLaws.{writes-is, writes-long, reads-is, reads-long, free-none, free-high, free-is, key-at, keys-longer, keys-shorter, reads-count, read-at, unnamed, named-is, mark-at, live-at, held-txn-at, txn-column-end, marks-count, txns-count, entry-none, entry-some}
-use Rattle.soundness.proofs.Whole.{sound-is}
+use borrow.Author.Tests.{not-true, not-false}
+use Rattle.model.specs.Lists.{all}
+use Rattle.model.specs.Sound.{entryRight}
+use Rattle.soundness.proofs.Loops.{all-more, all-stop, all-end}
 use Rattle.soundness.proofs.entries_right.Statement.{statement}
 use Rattle.soundness.proofs.entries_right.Tie as tie
-use Rattle.soundness.proofs.entries_right.Reads as reads
-use Rattle.soundness.proofs.entries_right.Lts as lts
-use Rattle.soundness.proofs.entry_right.Reads as entry-right-reads
 
 abbrev Inv-loop : tie.InvT-loop
 Inv-loop entries d₀ d = (d ≤ 64) × (all entryRight entries ≡ all entryRight (drop d entries))
@@ -38,23 +16,18 @@ Inv-loop entries d₀ d = (d ≤ 64) × (all entryRight entries ≡ all entryRig
 abbrev μ-loop : tie.MeasureT-loop
 μ-loop entries d₀ d = 64 - d
 
--- src/lib.rt:96:5
 loop-holds : tie.Need-loop-holds Inv-loop μ-loop
 loop-holds c = (omega arith, refl)
 
--- src/lib.rt:97:17
 mul-e : tie.Need-mul-e Inv-loop μ-loop
 mul-e c = search needs
 
--- src/lib.rt:97:17
 array-copy-out-e : tie.Need-array-copy-out-e Inv-loop μ-loop
 array-copy-out-e c = search needs
 
--- src/lib.rt:98:13
 entry-right-requires : tie.Need-entry-right-requires Inv-loop μ-loop
 entry-right-requires c κs = tt
 
--- src/lib.rt:99:13
 returns : tie.Need-returns Inv-loop μ-loop
 returns c =
     let l = c .before .before .before .before in
@@ -63,15 +36,12 @@ returns c =
     let h : length xs ≡ 64 = s .good .0 .1 .0 .1 in
     sym (l .loop .inv .1 ∙ all-stop entryRight xs (l .loop .d) _ (omega arith) (sym (c .before .entry-right .ensures) ∙ not-true _ (c .if1 .taken)))
 
--- src/lib.rt:101:9
 add-d : tie.Need-add-d Inv-loop μ-loop
 add-d c = search needs
 
--- src/lib.rt:96:5
 loop-less : tie.Need-loop-less Inv-loop μ-loop
 loop-less c = search needs
 
--- src/lib.rt:96:5
 loop-again : tie.Need-loop-again Inv-loop μ-loop
 loop-again c =
     let l = c .before .before .before .before in
@@ -80,7 +50,6 @@ loop-again c =
     let h : length xs ≡ 64 = s .good .0 .1 .0 .1 in
     (omega arith, l .loop .inv .1 ∙ all-more entryRight xs (l .loop .d) _ (omega arith) (sym (c .before .entry-right .ensures) ∙ not-false _ (c .if1 .left)))
 
--- src/lib.rt:92:1
 returns-2 : tie.Need-returns-2 Inv-loop μ-loop
 returns-2 c =
     let l = c .before in

@@ -1,49 +1,19 @@
-use Prim.Native.Nat.{ℕ, zero, suc, _+_, _-_, _≤_, _<_, min}
-use mathlib.Core.Path.{_≡_, refl, sym, ap, ap₂, subst, _∙_}
-use mathlib.Core.Logic.{⊎-elim, inl, inr}
-use mathlib.Core.Bool.{Bool, true, false, not}
-use mathlib.Core.List.{List, [], _∷_, _++_, map, append-nil}
+use mathlib.Core.Path.{_≡_}
 use native.Mathlib.Omega.{arith}
-use native.Mathlib.Numerals.{add-one}
-use lib.Dec.{eqb, ltb, leb}
-use lib.ListN.{length, take, drop, getD, set, replicate, length-map, length-take, length-set, length-append}
-use Rattle.model.specs.declared.Phase.{Phase}
-use lib.Seq.{take-nil, take-all, drop-drop, getD-take}
-use borrow.Author.Needs.{needs}
-use borrow.Author.Tests.{eq-eqb, ne-eqb, le-leb, lt-leb, lt-ltb, le-ltb, not-true, not-false, ltb-true, leb-true}
-use Rattle.model.specs.declared.Live.{Live}
-use Rattle.model.specs.declared.Entry.{Entry}
-use Rattle.model.specs.declared.Read.{Read}
-use Rattle.model.specs.declared.Write.{Write}
-use Rattle.model.specs.declared.Phase.the-variants.{Unused, Open, Closing}
-use Rattle.model.specs.Lists.{_and_, _or_, all, any, first, member, distinct}
-use Rattle.model.specs.Ids.{sameId, noId}
-use Rattle.model.specs.Stations.{writeKey, readKey, keysOf, readsOf, writesOf, wrote, slotMark, liveTxns, heldTxns, closingSlots}
-use Rattle.model.specs.Records.{entryRules}
-use Rattle.model.specs.Sound.{isNoWrite, isNoRead, isNoLive, isNoEntry, entryRight, sound}
-use Rattle.model.proofs.Tests.{and-left, and-right}
-use Rattle.soundness.specs.Parts.{fits, setRight, keysRight, writesRight, readsRight, noWrites, noReads, listsRight, countsRight, shapeRight, shape, txnColumn, liveColumn, heldColumn, markColumn, parts, slotIn, isNamed, namedBy, allNamed, slotFree}
-use Rattle.soundness.proofs.Loops.{all-more, all-stop, all-end, all-split, any-more, any-stop, any-end, seen-yes, seen-no, seen-end, first-more, first-stop, first-end, distinct-zero, distinct-new, distinct-old, distinct-end, key-more, key-stop, zero-more, zero-stop, set-start, set-end, fits-low, column-more, column-end, leb-less}
-use Rattle.soundness.proofs.PartLaws.{writes-is, writes-long, reads-is, reads-long, free-none, free-high, free-is, key-at, keys-longer, keys-shorter, reads-count, read-at, unnamed, named-is, mark-at, live-at, held-txn-at, txn-column-end, marks-count, txns-count, entry-none, entry-some}
-use Rattle.soundness.proofs.Whole.{sound-is}
+use lib.ListN.{length, length-map}
+use Rattle.soundness.proofs.PartLaws.{reads-count}
 use Rattle.soundness.proofs.read_count.Statement.{statement}
 use Rattle.soundness.proofs.read_count.Tie as tie
-use Rattle.soundness.proofs.read_count.Reads as reads
-use Rattle.soundness.proofs.read_count.Lts as lts
-use Rattle.soundness.proofs.wide.Reads as wide-reads
 
--- src/lib.rt:432:17
 wide-requires : tie.Need-wide-requires
 wide-requires c κs = tt
 
--- src/lib.rt:428:1
 returns : tie.Need-returns
 returns c =
     let l = c .before .before .args .l in
     let h : length (l .reads) ≡ 16 = simp length-map at (c .before .before .good .0 .1 .1 .1 .1 .1 .1 .1 .0 .1 .0 .1) in
     (omega (arith, reads-count l h), omega arith)
 
--- src/lib.rt:428:1
 returns-2 : tie.Need-returns-2
 returns-2 c =
     let l = c .before .args .l in

@@ -1,35 +1,15 @@
-use Prim.Native.Nat.{ℕ, zero, suc, _+_, _-_, _≤_, _<_, min}
-use mathlib.Core.Path.{_≡_, refl, sym, ap, ap₂, subst, _∙_}
-use mathlib.Core.Logic.{⊎-elim, inl, inr}
-use mathlib.Core.Bool.{Bool, true, false, not}
-use mathlib.Core.List.{List, [], _∷_, _++_, map, append-nil}
+use Prim.Native.Nat.{ℕ, _+_, _-_, _≤_}
+use mathlib.Core.Path.{_≡_, refl, sym, ap, _∙_}
+use mathlib.Core.List.{[], _++_, append-nil}
 use native.Mathlib.Omega.{arith}
-use native.Mathlib.Numerals.{add-one}
-use lib.Dec.{eqb, ltb, leb}
-use lib.ListN.{length, take, drop, getD, set, replicate, length-map, length-take, length-set, length-append}
-use Rattle.model.specs.declared.Phase.{Phase}
-use lib.Seq.{take-nil, take-all, drop-drop, getD-take}
+use lib.ListN.{length, take, getD, set, length-map, length-set}
 use borrow.Author.Needs.{needs}
-use borrow.Author.Tests.{eq-eqb, ne-eqb, le-leb, lt-leb, lt-ltb, le-ltb, not-true, not-false, ltb-true, leb-true}
-use Rattle.model.specs.declared.Live.{Live}
-use Rattle.model.specs.declared.Entry.{Entry}
-use Rattle.model.specs.declared.Read.{Read}
-use Rattle.model.specs.declared.Write.{Write}
-use Rattle.model.specs.declared.Phase.the-variants.{Unused, Open, Closing}
-use Rattle.model.specs.Lists.{_and_, _or_, all, any, first, member, distinct}
-use Rattle.model.specs.Ids.{sameId, noId}
-use Rattle.model.specs.Stations.{writeKey, readKey, keysOf, readsOf, writesOf, wrote, slotMark, liveTxns, heldTxns, closingSlots}
-use Rattle.model.specs.Records.{entryRules}
-use Rattle.model.specs.Sound.{isNoWrite, isNoRead, isNoLive, isNoEntry, entryRight, sound}
-use Rattle.model.proofs.Tests.{and-left, and-right}
-use Rattle.soundness.specs.Parts.{fits, setRight, keysRight, writesRight, readsRight, noWrites, noReads, listsRight, countsRight, shapeRight, shape, txnColumn, liveColumn, heldColumn, markColumn, parts, slotIn, isNamed, namedBy, allNamed, slotFree}
-use Rattle.soundness.proofs.Loops.{all-more, all-stop, all-end, all-split, any-more, any-stop, any-end, seen-yes, seen-no, seen-end, first-more, first-stop, first-end, distinct-zero, distinct-new, distinct-old, distinct-end, key-more, key-stop, zero-more, zero-stop, set-start, set-end, fits-low, column-more, column-end, leb-less}
-use Rattle.soundness.proofs.PartLaws.{writes-is, writes-long, reads-is, reads-long, free-none, free-high, free-is, key-at, keys-longer, keys-shorter, reads-count, read-at, unnamed, named-is, mark-at, live-at, held-txn-at, txn-column-end, marks-count, txns-count, entry-none, entry-some}
-use Rattle.soundness.proofs.Whole.{sound-is}
+use Rattle.model.specs.Ids.{noId}
+use Rattle.soundness.specs.Parts.{liveColumn, heldColumn}
+use Rattle.soundness.proofs.Loops.{column-more}
+use Rattle.soundness.proofs.PartLaws.{live-at, held-txn-at, txn-column-end}
 use Rattle.soundness.proofs.txns_of.Statement.{statement}
 use Rattle.soundness.proofs.txns_of.Tie as tie
-use Rattle.soundness.proofs.txns_of.Reads as reads
-use Rattle.soundness.proofs.txns_of.Lts as lts
 
 abbrev Inv-loop : tie.InvT-loop
 Inv-loop live entries txns₀ i₀ txns i = (i ≤ 8) × (length txns ≡ 72) × (take i txns ≡ take i (liveColumn live))
@@ -43,35 +23,27 @@ Inv-loop2 entries txns₀ i d₀ txns d = (d ≤ 64) × (length txns ≡ 72) × 
 abbrev μ-loop2 : tie.MeasureT-loop2
 μ-loop2 entries txns₀ i d₀ txns d = 64 - d
 
--- src/lib.rt:290:5
 loop-holds : tie.Need-loop-holds Inv-loop μ-loop Inv-loop2 μ-loop2
 loop-holds c = (omega arith, refl, refl)
 
--- src/lib.rt:291:17
 mul-l : tie.Need-mul-l Inv-loop μ-loop Inv-loop2 μ-loop2
 mul-l c = search needs
 
--- src/lib.rt:291:17
 array-copy-out-l : tie.Need-array-copy-out-l Inv-loop μ-loop Inv-loop2 μ-loop2
 array-copy-out-l c = search needs
 
--- src/lib.rt:292:9
 mul-txns : tie.Need-mul-txns Inv-loop μ-loop Inv-loop2 μ-loop2
 mul-txns c = search needs
 
--- src/lib.rt:292:9
 array-write-txns : tie.Need-array-write-txns Inv-loop μ-loop Inv-loop2 μ-loop2
 array-write-txns c = search needs
 
--- src/lib.rt:293:9
 add-i : tie.Need-add-i Inv-loop μ-loop Inv-loop2 μ-loop2
 add-i c = search needs
 
--- src/lib.rt:290:5
 loop-less : tie.Need-loop-less Inv-loop μ-loop Inv-loop2 μ-loop2
 loop-less c = search needs
 
--- src/lib.rt:290:5
 loop-again : tie.Need-loop-again Inv-loop μ-loop Inv-loop2 μ-loop2
 loop-again c =
     let l = c .before .before in
@@ -79,53 +51,42 @@ loop-again c =
     let h : length (liveColumn ls) ≡ 8 = length-map ls _ ∙ l .before .good .0 .1 .0 .1 in
     (omega arith, simp length-set (l .loop .inv .1), column-more [] (l .loop .txns) (liveColumn ls) (l .loop .i) (l .loop .i) _ (omega arith) (omega arith) (sym (live-at ls (l .loop .i))) (l .loop .inv .2))
 
--- src/lib.rt:296:5
 loop2-holds : tie.Need-loop2-holds Inv-loop μ-loop Inv-loop2 μ-loop2
 loop2-holds c = (omega arith, c .before .loop .inv .1, sym (append-nil _))
 
--- src/lib.rt:297:17
 mul-e : tie.Need-mul-e Inv-loop μ-loop Inv-loop2 μ-loop2
 mul-e c = search needs
 
--- src/lib.rt:297:17
 array-copy-out-e : tie.Need-array-copy-out-e Inv-loop μ-loop Inv-loop2 μ-loop2
 array-copy-out-e c = search needs
 
--- src/lib.rt:299:14
 add-txns : tie.Need-add-txns Inv-loop μ-loop Inv-loop2 μ-loop2
 add-txns c = search needs
 
--- src/lib.rt:299:9
 mul-txns-2 : tie.Need-mul-txns-2 Inv-loop μ-loop Inv-loop2 μ-loop2
 mul-txns-2 c = search needs
 
--- src/lib.rt:299:9
 array-write-txns-2 : tie.Need-array-write-txns-2 Inv-loop μ-loop Inv-loop2 μ-loop2
 array-write-txns-2 c = search needs
 
--- src/lib.rt:300:9
 add-d : tie.Need-add-d Inv-loop μ-loop Inv-loop2 μ-loop2
 add-d c = search needs
 
--- src/lib.rt:296:5
 loop2-less : tie.Need-loop2-less Inv-loop μ-loop Inv-loop2 μ-loop2
 loop2-less c = search needs
 
--- src/lib.rt:296:5
 loop2-again : tie.Need-loop2-again Inv-loop μ-loop Inv-loop2 μ-loop2
 loop2-again c =
     let l = c .before .before .before in
     let es = l .before .before .before .args .t2 in
     let d = l .loop2 .d in
     let h : length (heldColumn es) ≡ 64 = length-map es _ ∙ l .before .before .before .good .1 .0 .1 .0 .1 in
-    let x : 8 + (d + 1) ≡ 8 + d + 1 = omega arith in
-    (
+    let x : 8 + (d + 1) ≡ 8 + d + 1 = omega arith in (
       omega arith,
       simp length-set (l .loop2 .inv .1),
       ap (λ (k : ℕ). take k (set (l .loop2 .txns) (8 + d) (getD es d (record { id = noId; count = 0; keys = [] }) .id .txn))) x ∙ column-more (take 8 (l .before .before .loop .txns)) (l .loop2 .txns) (heldColumn es) (8 + d) d _ (omega arith) (omega arith) (sym (held-txn-at es d)) (l .loop2 .inv .2),
     )
 
--- src/lib.rt:285:1
 returns : tie.Need-returns Inv-loop μ-loop Inv-loop2 μ-loop2
 returns c =
     let m = c .before in

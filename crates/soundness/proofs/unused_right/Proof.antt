@@ -1,67 +1,32 @@
-use Prim.Native.Nat.{ℕ, zero, suc, _+_, _-_, _≤_, _<_, min}
-use mathlib.Core.Path.{_≡_, refl, sym, ap, ap₂, subst, _∙_}
-use mathlib.Core.Logic.{⊎-elim, inl, inr}
-use mathlib.Core.Bool.{Bool, true, false, not}
-use mathlib.Core.List.{List, [], _∷_, _++_, map, append-nil}
-use native.Mathlib.Omega.{arith}
-use native.Mathlib.Numerals.{add-one}
-use lib.Dec.{eqb, ltb, leb}
-use lib.ListN.{length, take, drop, getD, set, replicate, length-map, length-take, length-set, length-append}
-use Rattle.model.specs.declared.Phase.{Phase}
-use lib.Seq.{take-nil, take-all, drop-drop, getD-take}
-use borrow.Author.Needs.{needs}
-use borrow.Author.Tests.{eq-eqb, ne-eqb, le-leb, lt-leb, lt-ltb, le-ltb, not-true, not-false, ltb-true, leb-true}
-use Rattle.model.specs.declared.Live.{Live}
-use Rattle.model.specs.declared.Entry.{Entry}
-use Rattle.model.specs.declared.Read.{Read}
-use Rattle.model.specs.declared.Write.{Write}
-use Rattle.model.specs.declared.Phase.the-variants.{Unused, Open, Closing}
-use Rattle.model.specs.Lists.{_and_, _or_, all, any, first, member, distinct}
-use Rattle.model.specs.Ids.{sameId, noId}
-use Rattle.model.specs.Stations.{writeKey, readKey, keysOf, readsOf, writesOf, wrote, slotMark, liveTxns, heldTxns, closingSlots}
-use Rattle.model.specs.Records.{entryRules}
-use Rattle.model.specs.Sound.{isNoWrite, isNoRead, isNoLive, isNoEntry, entryRight, sound}
-use Rattle.model.proofs.Tests.{and-left, and-right}
-use Rattle.soundness.specs.Parts.{fits, setRight, keysRight, writesRight, readsRight, noWrites, noReads, listsRight, countsRight, shapeRight, shape, txnColumn, liveColumn, heldColumn, markColumn, parts, slotIn, isNamed, namedBy, allNamed, slotFree}
-use Rattle.soundness.proofs.Loops.{all-more, all-stop, all-end, all-split, any-more, any-stop, any-end, seen-yes, seen-no, seen-end, first-more, first-stop, first-end, distinct-zero, distinct-new, distinct-old, distinct-end, key-more, key-stop, zero-more, zero-stop, set-start, set-end, fits-low, column-more, column-end, leb-less}
-use Rattle.soundness.proofs.PartLaws.{writes-is, writes-long, reads-is, reads-long, free-none, free-high, free-is, key-at, keys-longer, keys-shorter, reads-count, read-at, unnamed, named-is, mark-at, live-at, held-txn-at, txn-column-end, marks-count, txns-count, entry-none, entry-some}
-use Rattle.soundness.proofs.Whole.{sound-is}
+use mathlib.Core.Path.{sym, _∙_}
+use borrow.Author.Tests.{eq-eqb, ne-eqb, not-true, not-false}
+use Rattle.model.specs.Lists.{_and_}
+use Rattle.model.specs.Sound.{isNoLive}
 use Rattle.soundness.proofs.unused_right.Statement.{statement}
 use Rattle.soundness.proofs.unused_right.Tie as tie
-use Rattle.soundness.proofs.unused_right.Reads as reads
-use Rattle.soundness.proofs.unused_right.Lts as lts
-use Rattle.soundness.proofs.no_reads.Reads as no-reads-reads
-use Rattle.soundness.proofs.no_writes.Reads as no-writes-reads
 
--- src/lib.rt:213:9
 returns : tie.Need-returns
 unfolding isNoLive _and_
 returns c = rw (ne-eqb _ 0 (c .if1 .taken))
 
--- src/lib.rt:216:9
 returns-2 : tie.Need-returns-2
 unfolding isNoLive _and_
 returns-2 c = rw (eq-eqb _ 0 (c .before .before .if1 .left), ne-eqb _ 0 (c .if2 .taken))
 
--- src/lib.rt:219:9
 returns-3 : tie.Need-returns-3
 unfolding isNoLive _and_
 returns-3 c = rw (eq-eqb _ 0 (c .before .before .before .before .if1 .left), eq-eqb _ 0 (c .before .before .if2 .left), ne-eqb _ 0 (c .if3 .taken))
 
--- src/lib.rt:221:9
 no-writes-requires : tie.Need-no-writes-requires
 no-writes-requires c κs = tt
 
--- src/lib.rt:222:9
 returns-4 : tie.Need-returns-4
 unfolding isNoLive _and_
 returns-4 c = rw (eq-eqb _ 0 (c .before .before .before .before .before .before .if1 .left), eq-eqb _ 0 (c .before .before .before .before .if2 .left), eq-eqb _ 0 (c .before .before .if3 .left), sym (c .before .no-writes .ensures) ∙ not-true _ (c .if4 .taken))
 
--- src/lib.rt:224:5
 no-reads-requires : tie.Need-no-reads-requires
 no-reads-requires c κs = tt
 
--- src/lib.rt:209:1
 returns-5 : tie.Need-returns-5
 unfolding isNoLive _and_
 returns-5 c = rw (eq-eqb _ 0 (c .before .before .before .before .before .before .before .if1 .left), eq-eqb _ 0 (c .before .before .before .before .before .if2 .left), eq-eqb _ 0 (c .before .before .before .if3 .left), sym (c .before .before .no-writes .ensures) ∙ not-false _ (c .before .if4 .left)) (c .no-reads .ensures)

@@ -1,38 +1,17 @@
-use Prim.Native.Nat.{ℕ, zero, suc, _+_, _-_, _≤_, _<_, min}
-use mathlib.Core.Path.{_≡_, refl, sym, ap, ap₂, subst, _∙_}
-use mathlib.Core.Logic.{⊎-elim, inl, inr}
-use mathlib.Core.Bool.{Bool, true, false, not}
-use mathlib.Core.List.{List, [], _∷_, _++_, map, append-nil}
+use Prim.Native.Nat.{ℕ, _+_, _-_, _≤_}
+use mathlib.Core.Path.{_≡_, sym, ap, _∙_}
+use mathlib.Core.Logic.{⊎-elim}
 use native.Mathlib.Omega.{arith}
-use native.Mathlib.Numerals.{add-one}
-use lib.Dec.{eqb, ltb, leb}
-use lib.ListN.{length, take, drop, getD, set, replicate, length-map, length-take, length-set, length-append}
-use Rattle.model.specs.declared.Phase.{Phase}
-use lib.Seq.{take-nil, take-all, drop-drop, getD-take}
+use lib.ListN.{length, drop, length-map}
 use borrow.Author.Needs.{needs}
-use borrow.Author.Tests.{eq-eqb, ne-eqb, le-leb, lt-leb, lt-ltb, le-ltb, not-true, not-false, ltb-true, leb-true}
-use Rattle.model.specs.declared.Live.{Live}
-use Rattle.model.specs.declared.Entry.{Entry}
-use Rattle.model.specs.declared.Read.{Read}
-use Rattle.model.specs.declared.Write.{Write}
-use Rattle.model.specs.declared.Phase.the-variants.{Unused, Open, Closing}
-use Rattle.model.specs.Lists.{_and_, _or_, all, any, first, member, distinct}
-use Rattle.model.specs.Ids.{sameId, noId}
-use Rattle.model.specs.Stations.{writeKey, readKey, keysOf, readsOf, writesOf, wrote, slotMark, liveTxns, heldTxns, closingSlots}
-use Rattle.model.specs.Records.{entryRules}
-use Rattle.model.specs.Sound.{isNoWrite, isNoRead, isNoLive, isNoEntry, entryRight, sound}
-use Rattle.model.proofs.Tests.{and-left, and-right}
-use Rattle.soundness.specs.Parts.{fits, setRight, keysRight, writesRight, readsRight, noWrites, noReads, listsRight, countsRight, shapeRight, shape, txnColumn, liveColumn, heldColumn, markColumn, parts, slotIn, isNamed, namedBy, allNamed, slotFree}
-use Rattle.soundness.proofs.Loops.{all-more, all-stop, all-end, all-split, any-more, any-stop, any-end, seen-yes, seen-no, seen-end, first-more, first-stop, first-end, distinct-zero, distinct-new, distinct-old, distinct-end, key-more, key-stop, zero-more, zero-stop, set-start, set-end, fits-low, column-more, column-end, leb-less}
-use Rattle.soundness.proofs.PartLaws.{writes-is, writes-long, reads-is, reads-long, free-none, free-high, free-is, key-at, keys-longer, keys-shorter, reads-count, read-at, unnamed, named-is, mark-at, live-at, held-txn-at, txn-column-end, marks-count, txns-count, entry-none, entry-some}
-use Rattle.soundness.proofs.Whole.{sound-is}
+use borrow.Author.Tests.{not-true, not-false}
+use Rattle.model.specs.Stations.{writeKey}
+use Rattle.model.specs.Sound.{isNoWrite}
+use Rattle.soundness.specs.Parts.{setRight}
+use Rattle.soundness.proofs.Loops.{key-more, key-stop, zero-more, zero-stop, set-start, set-end, fits-low}
+use Rattle.soundness.proofs.PartLaws.{writes-is, writes-long}
 use Rattle.soundness.proofs.writes_right.Statement.{statement}
 use Rattle.soundness.proofs.writes_right.Tie as tie
-use Rattle.soundness.proofs.writes_right.Reads as reads
-use Rattle.soundness.proofs.writes_right.Lts as lts
-use Rattle.soundness.proofs.key_fits.Reads as key-fits-reads
-use Rattle.soundness.proofs.no_write.Reads as no-write-reads
-use Rattle.soundness.proofs.wide.Reads as wide-reads
 
 abbrev Inv-loop : tie.InvT-loop
 Inv-loop l n low₀ j₀ low j = (j ≤ 8) × (setRight writeKey isNoWrite 0 n (l .writes) ≡ setRight writeKey isNoWrite low (n - j) (drop j (l .writes)))
@@ -40,31 +19,24 @@ Inv-loop l n low₀ j₀ low j = (j ≤ 8) × (setRight writeKey isNoWrite 0 n (
 abbrev μ-loop : tie.MeasureT-loop
 μ-loop l n low₀ j₀ low j = 8 - j
 
--- src/lib.rt:132:9
 wide-requires : tie.Need-wide-requires Inv-loop μ-loop
 wide-requires c κs = tt
 
--- src/lib.rt:134:9
 returns : tie.Need-returns Inv-loop μ-loop
 returns c = sym (writes-long (c .before .before .args .t1) (c .before .wide .result) (c .before .wide .ensures) (c .if1 .taken))
 
--- src/lib.rt:138:5
 loop-holds : tie.Need-loop-holds Inv-loop μ-loop
 loop-holds c = (omega arith, set-start writeKey isNoWrite 0 _ _ 0)
 
--- src/lib.rt:139:17
 mul-w : tie.Need-mul-w Inv-loop μ-loop
 mul-w c = search needs
 
--- src/lib.rt:139:17
 element-copy-out-w : tie.Need-element-copy-out-w Inv-loop μ-loop
 element-copy-out-w c = search needs
 
--- src/lib.rt:141:17
 key-fits-requires : tie.Need-key-fits-requires Inv-loop μ-loop
 key-fits-requires c κs = tt
 
--- src/lib.rt:142:17
 returns-2 : tie.Need-returns-2 Inv-loop μ-loop
 returns-2 c =
     let l = c .before .before .before .before .before in
@@ -76,15 +48,12 @@ returns-2 c =
     let w = writes-is (s .args .t1) n (l .before .before .wide .ensures) (l .before .if1 .left) in
     sym (w ∙ l .loop .inv .1 ∙ key-stop writeKey isNoWrite (l .loop .low) n xs j _ (omega arith) (c .before .before .if2 .taken) (sym (c .before .key-fits .ensures) ∙ not-true _ (c .if3 .taken)))
 
--- src/lib.rt:144:19
 add-low : tie.Need-add-low Inv-loop μ-loop
 add-low c = omega (arith, fits-low _ _ (sym (c .before .before .key-fits .ensures) ∙ not-false _ (c .before .if3 .left)))
 
--- src/lib.rt:146:17
 no-write-requires : tie.Need-no-write-requires Inv-loop μ-loop
 no-write-requires c κs = tt
 
--- src/lib.rt:147:17
 returns-3 : tie.Need-returns-3 Inv-loop μ-loop
 returns-3 c =
     let l = c .before .before .before .before .before in
@@ -96,15 +65,12 @@ returns-3 c =
     let w = writes-is (s .args .t1) n (l .before .before .wide .ensures) (l .before .if1 .left) in
     sym (w ∙ l .loop .inv .1 ∙ zero-stop writeKey isNoWrite (l .loop .low) n xs j _ (omega arith) (c .before .before .if2 .left) (sym (c .before .no-write .ensures) ∙ not-true _ (c .if4 .taken)))
 
--- src/lib.rt:150:9
 add-j : tie.Need-add-j Inv-loop μ-loop
 add-j c = search needs
 
--- src/lib.rt:138:5
 loop-less : tie.Need-loop-less Inv-loop μ-loop
 loop-less c = search needs
 
--- src/lib.rt:138:5
 loop-again : tie.Need-loop-again Inv-loop μ-loop
 loop-again c =
     let l = c .before .before .before in
@@ -113,13 +79,14 @@ loop-again c =
     let xs = s .args .t1 .writes in
     let j = l .loop .j in
     let h : length xs ≡ 8 = simp length-map at (s .good .0 .1 .1 .1 .1 .1 .0 .1 .0 .1) in
-    let w = writes-is (s .args .t1) n (l .before .before .wide .ensures) (l .before .if1 .left) in
-    (omega arith, l .loop .inv .1 ∙ ⊎-elim
-    (λ z. key-more writeKey isNoWrite (l .loop .low) n xs j _ (omega arith) (z .0 .taken) (sym (z .1 .ensures) ∙ not-false _ (z .2 .left)) ∙ ap (λ (k : ℕ). setRight writeKey isNoWrite k (n - (j + 1)) (drop (j + 1) xs)) (sym (z .4)))
-    (λ z. zero-more writeKey isNoWrite (l .loop .low) n xs j _ (omega arith) (z .0 .left) (sym (z .1 .ensures) ∙ not-false _ (z .2 .left)) ∙ ap (λ (k : ℕ). setRight writeKey isNoWrite k (n - (j + 1)) (drop (j + 1) xs)) (sym (z .3)))
-    (c .if2 .came))
+    let w = writes-is (s .args .t1) n (l .before .before .wide .ensures) (l .before .if1 .left) in (
+      omega arith,
+      l .loop .inv .1 ∙ ⊎-elim
+          (λ z. key-more writeKey isNoWrite (l .loop .low) n xs j _ (omega arith) (z .0 .taken) (sym (z .1 .ensures) ∙ not-false _ (z .2 .left)) ∙ ap (λ (k : ℕ). setRight writeKey isNoWrite k (n - (j + 1)) (drop (j + 1) xs)) (sym (z .4)))
+          (λ z. zero-more writeKey isNoWrite (l .loop .low) n xs j _ (omega arith) (z .0 .left) (sym (z .1 .ensures) ∙ not-false _ (z .2 .left)) ∙ ap (λ (k : ℕ). setRight writeKey isNoWrite k (n - (j + 1)) (drop (j + 1) xs)) (sym (z .3)))
+          (c .if2 .came),
+    )
 
--- src/lib.rt:129:1
 returns-4 : tie.Need-returns-4 Inv-loop μ-loop
 returns-4 c =
     let l = c .before in
