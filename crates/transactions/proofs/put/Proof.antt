@@ -1,0 +1,28 @@
+-- `transactions::put` meets its contract. Assumes nothing.
+use mathlib.Core.Path.{sym, ap, _∙_}
+use borrow.Author.Needs.{needs}
+use borrow.Author.Tests.{not-true, not-false}
+use Rattle.model.specs.Effects.{outcomeOf}
+use Rattle.transactions.proofs.Rows.{put-2}
+use Rattle.transactions.proofs.put.Statement.{statement}
+use Rattle.transactions.proofs.put.Tie as tie
+
+is-sound-requires : tie.Need-is-sound-requires
+is-sound-requires c κs = search needs
+
+refused-requires : tie.Need-refused-requires
+refused-requires c κs = search needs
+
+returns : tie.Need-returns
+returns c =
+    c .refused .ensures ∙ sym (ap outcomeOf (put-2 _ (sym (c .before .before .is-sound .ensures) ∙ not-true _ (c .before .if1 .taken)) _ _ _))
+
+put-sound-requires : tie.Need-put-sound-requires
+put-sound-requires c κs = sym (c .before .is-sound .ensures) ∙ not-false _ (c .if1 .left)
+
+returns-2 : tie.Need-returns-2
+returns-2 c = search needs
+
+pub put-spec : {M : Type 1} → statement M
+put-spec =
+    tie.close (tie.spec is-sound-requires refused-requires returns put-sound-requires returns-2)
