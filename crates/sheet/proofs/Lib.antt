@@ -1,0 +1,8 @@
+pub mod Example
+pub mod FieldLaws
+pub mod ReadLaws
+pub mod DigitLaws
+pub mod RoundTrip
+pub mod WrittenLaws
+pub mod LineLaws
+pub mod PrintLaws

@@ -1,0 +1,121 @@
+-- A decimal that is read is its number's digits, and a number's digits are read as the number.
+use Prim.Native.Nat.{ℕ, zero, suc, _+_, _*_, _-_, _/_, _%_, _<_, _≤_}
+use mathlib.Core.Path.{_≡_, refl, sym, ap, ap₂, _∙_}
+use mathlib.Core.Logic.{_≢_, ⊎-elim}
+use mathlib.Core.Bool.{true, not}
+use mathlib.Core.List.{List, [], _∷_, _++_, append-nil, append-assoc}
+use lib.Dec.{eqb}
+use lib.ListN.{length}
+use native.Mathlib.Nat.{not-suc-le-zero, suc-ne-zero, le-refl}
+use native.Mathlib.Decide.{decLt}
+use native.Mathlib.Omega.{arith}
+use borrow.Author.Tests.{leb-true, eqb-true, eqb-false, not-true, lt-ltb, le-ltb}
+use Rattle.model.specs.Lists.{_or_, all}
+use Rattle.model.proofs.Tests.{and-left, and-right, or-cases}
+use Rattle.model.proofs.ListLaws.{all-head, all-tail}
+use Rattle.sheet.specs.Decimal.{digitsOf, digits, isDigit, numberFrom, isDecimal}
+
+digits-small : (m n : ℕ) → n < 10 → digitsOf (suc m) n ≡ (48 + n) ∷ []
+unfolding digitsOf
+digits-small m n h = rw (lt-ltb n 10 h)
+
+digits-large : (m n : ℕ) → 10 ≤ n → digitsOf (suc m) n ≡ digitsOf m (n / 10) ++ ((48 + n % 10) ∷ [])
+unfolding digitsOf
+digits-large m n h = rw (le-ltb n 10 h)
+
+-- ── printed, then read ──
+number-last : (n b : ℕ) (bs : List ℕ) → numberFrom n (bs ++ (b ∷ [])) ≡ numberFrom n bs * 10 + (b - 48)
+unfolding numberFrom
+number-last n b [] = refl
+number-last n b (x ∷ bs) = number-last (n * 10 + (x - 48)) b bs
+
+number-of : (m n : ℕ) → n < m → numberFrom 0 (digitsOf m n) ≡ n
+unfolding numberFrom
+number-of zero n o = absurd (not-suc-le-zero o)
+number-of (suc m) n o = go (decLt n 10) (number-of m (n / 10))
+  where
+    go : Dec (n < 10) → (n / 10 < m → numberFrom 0 (digitsOf m (n / 10)) ≡ n / 10) → numberFrom 0 (digitsOf (suc m) n) ≡ n
+    go (yes h) ih = ap (numberFrom 0) (digits-small m n h) ∙ omega arith
+    go (no h) ih =
+        ap (numberFrom 0) (digits-large m n (omega arith))
+        ∙ number-last 0 (48 + n % 10) (digitsOf m (n / 10))
+        ∙ ap (λ (x : ℕ). x * 10 + (48 + n % 10 - 48)) (ih (omega arith))
+        ∙ omega arith
+
+pub number-digits : (n : ℕ) → numberFrom 0 (digits n) ≡ n
+unfolding digits
+number-digits n = number-of (suc n) n (le-refl _)
+
+-- ── read, then printed ──
+-- more steps than a number has digits make no difference
+enough : (m k n : ℕ) → n < m → n < k → digitsOf m n ≡ digitsOf k n
+enough zero k n o p = absurd (not-suc-le-zero o)
+enough (suc m) zero n o p = absurd (not-suc-le-zero p)
+enough (suc m) (suc k) n o p = go (decLt n 10) (enough m k (n / 10))
+  where
+    go : Dec (n < 10) → (n / 10 < m → n / 10 < k → digitsOf m (n / 10) ≡ digitsOf k (n / 10)) → digitsOf (suc m) n ≡ digitsOf (suc k) n
+    go (yes h) ih = digits-small m n h ∙ sym (digits-small k n h)
+    go (no h) ih =
+        digits-large m n (omega arith)
+        ∙ ap (λ (ds : List ℕ). ds ++ ((48 + n % 10) ∷ [])) (ih (omega arith) (omega arith))
+        ∙ sym (digits-large k n (omega arith))
+
+-- one digit more
+digits-next : (n b : ℕ) → 0 < n → isDigit b ≡ true → digits (n * 10 + (b - 48)) ≡ digits n ++ (b ∷ [])
+unfolding digits isDigit
+digits-next n b o h =
+    let lo : 48 ≤ b = leb-true 48 b (and-left _ _ h) in
+    let hi : b ≤ 57 = leb-true b 57 (and-right _ _ h) in
+    let q : (n * 10 + (b - 48)) / 10 ≡ n = omega arith in
+    let r : 48 + (n * 10 + (b - 48)) % 10 ≡ b = omega arith in
+    digits-large (n * 10 + (b - 48)) (n * 10 + (b - 48)) (omega arith)
+    ∙ ap₂ (λ (y d : ℕ). digitsOf (n * 10 + (b - 48)) y ++ (d ∷ [])) q r
+    ∙ ap (λ (ds : List ℕ). ds ++ (b ∷ [])) (enough (n * 10 + (b - 48)) (suc n) n (omega arith) (le-refl _))
+
+digits-after : (n : ℕ) (bs : List ℕ) → 0 < n → all isDigit bs ≡ true → digits (numberFrom n bs) ≡ digits n ++ bs
+unfolding numberFrom
+digits-after n [] o h = sym (append-nil _)
+digits-after n (b ∷ bs) o h =
+    digits-after (n * 10 + (b - 48)) bs (omega arith) (all-tail isDigit b bs h)
+    ∙ ap (λ (ds : List ℕ). ds ++ bs) (digits-next n b o (all-head isDigit b bs h))
+    ∙ append-assoc (digits n) (b ∷ []) bs
+
+digit-low : (b : ℕ) → isDigit b ≡ true → 48 ≤ b
+unfolding isDigit
+digit-low b h = leb-true 48 b (and-left _ _ h)
+
+-- one digit alone
+digits-one : (b : ℕ) → isDigit b ≡ true → digits (b - 48) ≡ b ∷ []
+unfolding digits isDigit
+digits-one b h =
+    let lo : 48 ≤ b = leb-true 48 b (and-left _ _ h) in
+    let hi : b ≤ 57 = leb-true b 57 (and-right _ _ h) in
+    let e : 48 + (b - 48) ≡ b = omega arith in
+    digits-small (b - 48) (b - 48) (omega arith) ∙ ap (λ (x : ℕ). x ∷ []) e
+
+number-first : (b : ℕ) (bs : List ℕ) → numberFrom 0 (b ∷ bs) ≡ numberFrom (b - 48) bs
+unfolding numberFrom
+number-first b bs =
+    let z : 0 + (b - 48) ≡ b - 48 = omega arith in
+    ap (λ (n : ℕ). numberFrom n bs) z
+
+pub digits-number : (bs : List ℕ) → isDecimal bs ≡ true → digits (numberFrom 0 bs) ≡ bs
+unfolding isDecimal numberFrom
+digits-number [] h = absurd (not-suc-le-zero (leb-true 1 0 (and-left _ _ (and-left _ _ h))))
+digits-number (b ∷ []) h = ap digits (number-first b []) ∙ digits-one b (all-head isDigit b [] (and-right _ _ (and-left _ _ h)))
+digits-number (b ∷ x ∷ bs) h =
+    let ds : all isDigit (b ∷ x ∷ bs) ≡ true = and-right _ _ (and-left _ _ h) in
+    let d : isDigit b ≡ true = all-head isDigit b (x ∷ bs) ds in
+    ap digits (number-first b (x ∷ bs)) ∙ digits-after (b - 48) (x ∷ bs) (large d) (all-tail isDigit b (x ∷ bs) ds) ∙ ap (λ (l : List ℕ). l ++ (x ∷ bs)) (digits-one b d)
+  where
+    opening : (eqb (length (b ∷ x ∷ bs)) 1 or not (eqb b 48)) ≡ true
+    opening = and-right _ _ h
+
+    nonzero : b ≢ 48
+    nonzero e = ⊎-elim (λ l. suc-ne-zero (length bs) (le-zero (eqb-true (length (b ∷ x ∷ bs)) 1 l))) (λ z. eqb-false b 48 (not-true _ z) e) (or-cases _ _ opening)
+      where
+        le-zero : length (b ∷ x ∷ bs) ≡ 1 → suc (length bs) ≡ 0
+        le-zero q = omega arith
+
+    large : isDigit b ≡ true → 0 < b - 48
+    large d = omega (arith, digit-low b d, nonzero)

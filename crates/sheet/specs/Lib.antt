@@ -1,0 +1,6 @@
+pub mod Decimal
+pub mod Words
+pub mod Lines
+pub mod Commands
+pub mod Sheets
+pub mod Parts

@@ -1,0 +1,71 @@
+-- A collect, test by test.
+use Prim.Native.Nat.{ℕ, _<_, _≤_}
+use mathlib.Core.Path.{_≡_, _∙_}
+use mathlib.Core.Logic.{_≢_}
+use mathlib.Core.Bool.{true, false, not}
+use mathlib.Core.List.{List}
+use lib.Dec.{leb}
+use lib.ListN.{length}
+use borrow.Author.Tests.{le-leb, lt-leb, eq-eqb, ne-eqb}
+use Rattle.model.specs.declared.Station.{Station}
+use Rattle.model.specs.declared.Answer.the-variants as A
+use Rattle.model.specs.Collect.{collect}
+use Rattle.model.specs.Effects.{says, saysStoring, wrongLength, unsound}
+use Rattle.model.specs.Limits.{slots, storeSize}
+use Rattle.model.specs.Lists.{_or_}
+use Rattle.model.specs.Records.{zeroRecord, carriesEntry, recordAt}
+use Rattle.model.specs.Sound.{sound}
+use Rattle.model.specs.Stations.{noEntry, entryAt, setEntry, holds}
+use Rattle.model.specs.Supersedence.{superseded, isRead}
+use Rattle.model.proofs.RefusalLaws.{refusals-none, skipped, hit}
+use Rattle.model.proofs.Tests.{or-none, or-intro-left, or-intro-right, not-of-false, not-of-true}
+use Rattle.storing.specs.Parts.{entryFreed}
+use Rattle.storing.proofs.Parts.{length-right, sound-right}
+
+-- the part of a collect once its entry may go
+module _ (st : Station) (s : List ℕ) (d : ℕ) where
+  pub freed-17 : carriesEntry (recordAt s d 0) (entryAt st d) ≡ false → entryFreed st s d ≡ says (A.Refused 17 0) st
+  unfolding entryFreed
+  freed-17 h = hit 17 _ _ st _ (not-of-false _ h)
+
+  pub freed-on : carriesEntry (recordAt s d 0) (entryAt st d) ≡ true → entryFreed st s d ≡ saysStoring (A.Collected (entryAt st d .id)) (setEntry st d noEntry) d 0 zeroRecord
+  unfolding entryFreed
+  freed-on h = skipped 17 _ _ st _ (not-of-true _ h) ∙ refusals-none st _
+
+-- ── the tests of a collect, in their order ──
+module _ (st : Station) (s : List ℕ) (d : ℕ) where
+  pub collect-1 : length s ≢ storeSize → collect st s d ≡ says (A.Refused 1 0) st
+  unfolding collect wrongLength
+  collect-1 h = hit 1 _ _ st _ (not-of-false _ (ne-eqb _ _ h))
+
+  module _ (z : length s ≡ storeSize) where
+    pub collect-2 : sound st ≡ false → collect st s d ≡ says (A.Refused 2 0) st
+    unfolding collect unsound
+    collect-2 h = skipped 1 _ _ st _ (length-right s z) ∙ hit 2 _ _ st _ (not-of-false _ h)
+
+    module _ (g : sound st ≡ true) where
+      pub collect-out : slots ≤ d → collect st s d ≡ says (A.Refused 14 0) st
+      unfolding collect
+      collect-out h = skipped 1 _ _ st _ (length-right s z) ∙ (skipped 2 _ _ st _ (sound-right st g) ∙ hit 14 _ _ st _ (or-intro-left _ _ (le-leb slots d h)))
+
+      pub collect-unheld : entryAt st d .id .txn ≡ 0 → collect st s d ≡ says (A.Refused 14 0) st
+      unfolding collect holds
+      collect-unheld h = skipped 1 _ _ st _ (length-right s z) ∙ (skipped 2 _ _ st _ (sound-right st g) ∙ hit 14 _ _ st _ (or-intro-right _ _ (not-of-false _ (not-of-true _ (eq-eqb _ 0 h)))))
+
+      module _ (o : d < slots) (n : entryAt st d .id .txn ≢ 0) where
+        held : (leb slots d or not (holds st d)) ≡ false
+        unfolding holds
+        held = or-none _ _ (lt-leb slots d o) (not-of-true _ (not-of-false _ (ne-eqb _ 0 n)))
+
+        pub collect-15 : superseded (st .entries) (entryAt st d) ≡ false → collect st s d ≡ says (A.Refused 15 0) st
+        unfolding collect
+        collect-15 h = skipped 1 _ _ st _ (length-right s z) ∙ (skipped 2 _ _ st _ (sound-right st g) ∙ (skipped 14 _ _ st _ held ∙ hit 15 _ _ st _ (not-of-false _ h)))
+
+        module _ (p : superseded (st .entries) (entryAt st d) ≡ true) where
+          pub collect-16 : isRead st (entryAt st d) ≡ true → collect st s d ≡ says (A.Refused 16 0) st
+          unfolding collect
+          collect-16 h = skipped 1 _ _ st _ (length-right s z) ∙ (skipped 2 _ _ st _ (sound-right st g) ∙ (skipped 14 _ _ st _ held ∙ (skipped 15 _ _ st _ (not-of-true _ p) ∙ hit 16 _ _ st _ h)))
+
+          pub collect-on : isRead st (entryAt st d) ≡ false → collect st s d ≡ entryFreed st s d
+          unfolding collect entryFreed
+          collect-on h = skipped 1 _ _ st _ (length-right s z) ∙ (skipped 2 _ _ st _ (sound-right st g) ∙ (skipped 14 _ _ st _ held ∙ (skipped 15 _ _ st _ (not-of-true _ p) ∙ skipped 16 _ _ st _ h)))

@@ -1,0 +1,157 @@
+-- A get, test by test.
+use Prim.Native.Nat.{ℕ, _+_, _*_, _-_, _<_, _≤_}
+use mathlib.Core.Path.{_≡_, refl, sym, ap, ap₂, subst, _∙_}
+use mathlib.Core.Logic.{_≢_}
+use mathlib.Core.Bool.{Bool, true, false}
+use mathlib.Core.List.{List, [], _∷_}
+use mathlib.Core.Option.{Option, some, none}
+use lib.ListN.{length, take, drop, set}
+use native.Mathlib.Omega.{arith}
+use borrow.Author.Tests.{le-leb, lt-leb, eq-eqb, ne-eqb}
+use Rattle.model.specs.declared.Read.{Read}
+use Rattle.model.specs.declared.Live.{Live}
+use Rattle.model.specs.declared.Entry.{Entry}
+use Rattle.model.specs.declared.Station.{Station}
+use Rattle.model.specs.declared.Answer.the-variants as A
+use Rattle.model.specs.Effects.{Effect, outcomeOf, says, _when_, refusals, wrongLength, unsound}
+use Rattle.model.specs.Get.{choiceOf, withRead, versionAt, noRoom, notCarried, answered, get}
+use Rattle.model.specs.Limits.{keys, recordSize, slotSize, storeSize}
+use Rattle.model.specs.Lists.{any}
+use Rattle.model.specs.Reading.{passes, newest, Choice, own, absent, nofit, version, chosen, choose}
+use Rattle.model.specs.Records.{valueIn, carriesVersion, recordAt, recordOf}
+use Rattle.model.specs.Sound.{sound}
+use Rattle.model.specs.Stations.{writesOf, readsOf, wrote, hasWritten, valueUnder, isClosing, liveAt, entryAt, setLive, isLive, placeOf}
+use Rattle.model.proofs.RefusalLaws.{refusals-none, skipped, hit}
+use Rattle.model.proofs.StationLaws.{place-hit}
+use Rattle.model.proofs.Tests.{not-of-false, not-of-true}
+use Rattle.reading.specs.declared.Chosen.the-variants.{Version, Nofit, None}
+use Rattle.reading.specs.Choosing.{chosenAs}
+use Rattle.storing.specs.Parts.{versionRead}
+use Rattle.storing.proofs.Parts.{record-part, length-right, sound-right}
+
+-- the part of a get from its choice on
+module _ (st : Station) (s : List ℕ) (i k d : ℕ) where
+  pub read-12 : noRoom (liveAt st i) k (version d) ≡ true → versionRead st s i k d ≡ says (A.Refused 12 0) st
+  unfolding versionRead
+  read-12 h = hit 12 _ _ st _ h
+
+  module _ (r : noRoom (liveAt st i) k (version d) ≡ false) where
+    pub read-17 : carriesVersion (versionAt st s k d) k (entryAt st d .id) ≡ false → versionRead st s i k d ≡ says (A.Refused 17 0) st
+    unfolding versionRead notCarried
+    read-17 h = skipped 12 _ _ st _ r ∙ hit 17 _ _ st _ (not-of-false _ h)
+
+    pub read-on : carriesVersion (versionAt st s k d) k (entryAt st d .id) ≡ true
+        → versionRead st s i k d ≡ says (A.Version (valueIn (versionAt st s k d)) (entryAt st d .id)) (setLive st i (withRead k (entryAt st d .id) (liveAt st i)))
+    unfolding versionRead notCarried answered
+    read-on h = skipped 12 _ _ st _ r ∙ (skipped 17 _ _ st _ (not-of-true _ h) ∙ refusals-none st _)
+
+    pub read-answer : (v : ℕ) (m : Live) → carriesVersion (versionAt st s k d) k (entryAt st d .id) ≡ true → v ≡ valueIn (versionAt st s k d) → m ≡ withRead k (entryAt st d .id) (liveAt st i)
+        → record { answer = A.Version v (entryAt st d .id); station = record { live = set (st .live) i m; entries = st .entries } } ≡ outcomeOf (versionRead st s i k d)
+    unfolding outcomeOf says setLive
+    read-answer v m h ev em =
+        ap₂ {B = Live} (λ (x : ℕ) (y : Live). outcomeOf (says (A.Version x (entryAt st d .id)) (setLive st i y))) ev em ∙ sym (ap outcomeOf (read-on h))
+
+  -- the version record as a part of the store
+  pub version-part : (n : ℕ) → n ≡ recordOf (entryAt st d) k
+      → take (slotSize * d + recordSize * n + recordSize - (slotSize * d + recordSize * n)) (drop (slotSize * d + recordSize * n) s) ≡ versionAt st s k d
+  unfolding versionAt
+  version-part n e = record-part s d n (slotSize * d + recordSize * n) refl ∙ ap (recordAt s d) e
+
+-- ── what Algorithm 1 chose, from the code's answer ──
+pub chosen-version : (x : Choice) (d : ℕ) → chosenAs x ≡ Version d → x ≡ version d
+unfolding chosenAs
+chosen-version (own v) d h = let y : _≡_ {A = ℕ} 0 1 = cc in absurd (omega arith)
+chosen-version absent d h = let y : _≡_ {A = ℕ} 0 1 = cc in absurd (omega arith)
+chosen-version nofit d h = let y : _≡_ {A = ℕ} 0 1 = cc in absurd (omega arith)
+chosen-version (version x) d h = cc
+
+pub chosen-nofit : (x : Choice) → chosenAs x ≡ Nofit → x ≡ nofit
+unfolding chosenAs
+chosen-nofit (own v) h = let y : _≡_ {A = ℕ} 0 1 = cc in absurd (omega arith)
+chosen-nofit absent h = let y : _≡_ {A = ℕ} 0 1 = cc in absurd (omega arith)
+chosen-nofit nofit h = refl
+chosen-nofit (version x) h = let y : _≡_ {A = ℕ} 0 1 = cc in absurd (omega arith)
+
+pub chosen-none : (es : List Entry) (rs : List Read) (k : ℕ) → chosenAs (choose es rs k) ≡ None → choose es rs k ≡ absent
+unfolding choose chosen chosenAs
+chosen-none es rs k h = go (any (λ e. wrote e k) es) (newest (passes es rs k) es) h
+  where
+    go : (b : Bool) (o : Option ℕ) → chosenAs (chosen b o) ≡ None → chosen b o ≡ absent
+    go b (some d) e = let y : _≡_ {A = ℕ} 0 1 = cc in absurd (omega arith)
+    go true none e = let y : _≡_ {A = ℕ} 0 1 = cc in absurd (omega arith)
+    go false none e = refl
+
+pub choice-own : (st : Station) (l : Live) (k : ℕ) → hasWritten k l ≡ true → choiceOf st l k ≡ own (valueUnder k (writesOf l))
+unfolding choiceOf
+choice-own st l k h = rw h
+
+pub choice-read : (st : Station) (l : Live) (k : ℕ) → hasWritten k l ≡ false → choiceOf st l k ≡ choose (st .entries) (readsOf l) k
+unfolding choiceOf
+choice-read st l k h = rw h
+
+-- ── the tests of a get, in their order ──
+module _ (st : Station) (s : List ℕ) (t k : ℕ) where
+  pub get-1 : length s ≢ storeSize → get st s t k ≡ says (A.Refused 1 0) st
+  unfolding get wrongLength
+  get-1 h = hit 1 _ _ st _ (not-of-false _ (ne-eqb _ _ h))
+
+  module _ (z : length s ≡ storeSize) where
+    pub get-2 : sound st ≡ false → get st s t k ≡ says (A.Refused 2 0) st
+    unfolding get unsound
+    get-2 h = skipped 1 _ _ st _ (length-right s z) ∙ hit 2 _ _ st _ (not-of-false _ h)
+
+    module _ (g : sound st ≡ true) where
+      pub get-3 : t ≡ 0 → get st s t k ≡ says (A.Refused 3 0) st
+      unfolding get
+      get-3 h = skipped 1 _ _ st _ (length-right s z) ∙ (skipped 2 _ _ st _ (sound-right st g) ∙ hit 3 _ _ st _ (eq-eqb t 0 h))
+
+      module _ (n : t ≢ 0) where
+        pub get-4 : keys ≤ k → get st s t k ≡ says (A.Refused 4 0) st
+        unfolding get
+        get-4 h = skipped 1 _ _ st _ (length-right s z) ∙ (skipped 2 _ _ st _ (sound-right st g) ∙ (skipped 3 _ _ st _ (ne-eqb t 0 n) ∙ hit 4 _ _ st _ (le-leb keys k h)))
+
+        module _ (o : k < keys) where
+          pub get-8 : isLive t st ≡ false → get st s t k ≡ says (A.Refused 8 0) st
+          unfolding get
+          get-8 h = skipped 1 _ _ st _ (length-right s z) ∙ (skipped 2 _ _ st _ (sound-right st g) ∙ (skipped 3 _ _ st _ (ne-eqb t 0 n) ∙ (skipped 4 _ _ st _ (lt-leb keys k o) ∙ hit 8 _ _ st _ (not-of-false _ h))))
+
+          module _ (l : isLive t st ≡ true) (i : ℕ) (at : i ≡ placeOf t st) where
+            -- from row 9 on, at the transaction's place
+            rows : Effect
+            rows = refusals (9 when isClosing (liveAt st i .phase) ∷ 12 when noRoom (liveAt st i) k (choiceOf st (liveAt st i) k) ∷ 17 when notCarried st s k (choiceOf st (liveAt st i) k) ∷ []) st
+                (answered st s i k (choiceOf st (liveAt st i) k))
+
+            get-rows : get st s t k ≡ rows
+            unfolding get rows
+            get-rows = skipped 1 _ _ st _ (length-right s z) ∙ (skipped 2 _ _ st _ (sound-right st g) ∙ (skipped 3 _ _ st _ (ne-eqb t 0 n) ∙ (skipped 4 _ _ st _ (lt-leb keys k o) ∙ (skipped 8 _ _ st _ (not-of-true _ l)
+                ∙ ap (λ (j : ℕ). refusals (9 when isClosing (liveAt st j .phase) ∷ 12 when noRoom (liveAt st j) k (choiceOf st (liveAt st j) k) ∷ 17 when notCarried st s k (choiceOf st (liveAt st j) k) ∷ []) st
+                (answered st s j k (choiceOf st (liveAt st j) k))) (sym at)))))
+
+            pub get-9 : isClosing (liveAt st i .phase) ≡ true → get st s t k ≡ says (A.Refused 9 0) st
+            unfolding rows
+            get-9 h = get-rows ∙ hit 9 _ _ st _ h
+
+            module _ (p : isClosing (liveAt st i .phase) ≡ false) where
+              chosen-rows : (ch : Choice) → choiceOf st (liveAt st i) k ≡ ch → get st s t k ≡ refusals (12 when noRoom (liveAt st i) k ch ∷ 17 when notCarried st s k ch ∷ []) st (answered st s i k ch)
+              unfolding rows
+              chosen-rows ch h = get-rows ∙ (skipped 9 _ _ st _ p ∙ ap (λ (x : Choice). refusals (12 when noRoom (liveAt st i) k x ∷ 17 when notCarried st s k x ∷ []) st (answered st s i k x)) h)
+
+              pub get-own : (v : ℕ) → choiceOf st (liveAt st i) k ≡ own v → get st s t k ≡ says (A.Own v) st
+              unfolding noRoom notCarried answered refusals
+              get-own v h = chosen-rows (own v) h
+
+              pub get-none : choiceOf st (liveAt st i) k ≡ absent → get st s t k ≡ says A.None st
+              unfolding noRoom notCarried answered refusals
+              get-none h = chosen-rows absent h
+
+              pub get-nofit : choiceOf st (liveAt st i) k ≡ nofit → get st s t k ≡ says A.Nofit st
+              unfolding noRoom notCarried answered refusals
+              get-nofit h = chosen-rows nofit h
+
+              pub get-read : (d : ℕ) → choiceOf st (liveAt st i) k ≡ version d → get st s t k ≡ versionRead st s i k d
+              unfolding versionRead
+              get-read d h = chosen-rows (version d) h
+
+            -- the place of the transaction has its number
+            pub place-numbered : liveAt st i .txn ≢ 0
+            place-numbered = subst (λ (j : ℕ). liveAt st j .txn ≢ 0) (sym at) (λ e. n (sym (place-hit st t l .1) ∙ e))

@@ -1,0 +1,4 @@
+pub mod Parts
+pub mod StepRows
+pub mod GetRows
+pub mod CollectRows

@@ -1,0 +1,57 @@
+-- `storing::store_version` meets its contract.
+use Prim.Native.Nat.{_+_, _*_}
+use mathlib.Core.Path.{refl}
+use borrow.Author.Needs.{needs}
+use Rattle.model.specs.Limits.{recordSize, slotSize}
+use Rattle.model.specs.Records.{versionRecord}
+use Rattle.storing.proofs.Parts.{record-written}
+use Rattle.storing.proofs.store_version.Statement.{statement}
+use Rattle.storing.proofs.store_version.Tie as tie
+
+mul-at : tie.Need-mul-at
+mul-at c = search needs
+
+mul-at-2 : tie.Need-mul-at-2
+mul-at-2 c = search needs
+
+add-at : tie.Need-add-at
+add-at c = search needs
+
+add-write-version : tie.Need-add-write-version
+add-write-version c = search needs
+
+sub-write-version : tie.Need-sub-write-version
+sub-write-version c = search needs
+
+part-write-version-start : tie.Need-part-write-version-start
+part-write-version-start c = search needs
+
+part-write-version-end : tie.Need-part-write-version-end
+part-write-version-end c = search needs
+
+write-version-requires : tie.Need-write-version-requires
+write-version-requires c κs = search needs
+
+same-length : tie.Need-same-length
+same-length c = search needs
+
+returns : tie.Need-returns
+returns c =
+    let a = c .before .before .before .before .before .args in
+    let w = c .before .before .write-version in
+    record-written (a .store .now) (w .last .0) (versionRecord (a .key) (a .id) (a .value)) (a .slot) (a .n) (slotSize * a .slot + recordSize * a .n) refl (w .ensures)
+
+pub store-version-spec : {M : Type 1} → statement M
+store-version-spec =
+    tie.close
+    (tie.spec
+    mul-at
+    mul-at-2
+    add-at
+    add-write-version
+    sub-write-version
+    part-write-version-start
+    part-write-version-end
+    write-version-requires
+    same-length
+    returns)
