@@ -1,0 +1,205 @@
+//! Each call whole, with its soundness test, for the proved store and for the plain Rust version, in one run: alternating rounds, the
+//! least time of each. The two do the same work over the same station and must come to the same sum.
+
+#[path = "../tests/model.rs"]
+#[allow(dead_code)]
+mod model;
+
+use model::*;
+use std::hint::black_box;
+use std::time::Instant;
+
+extern "C" {
+    fn bench_put(rounds: u64, entries: u8, lives: u8, reads: u8, base: u8) -> u64;
+    fn bench_start(rounds: u64, entries: u8, lives: u8, reads: u8, base: u8) -> u64;
+    fn bench_retry(rounds: u64, entries: u8, lives: u8, reads: u8, base: u8) -> u64;
+    fn bench_get(store: *const u8, len: usize, rounds: u64, entries: u8, lives: u8, reads: u8, base: u8, key: u8) -> u64;
+    fn bench_transaction(store: *mut u8, len: usize, rounds: u64, entries: u8, lives: u8, reads: u8, base: u8) -> u64;
+    fn bench_scan(store: *const u8, len: usize, rounds: u64) -> u64;
+}
+
+/// As the proved side makes it: even slots wrote keys 0 to 7, odd ones 8 to 15.
+fn entry(slot: u8) -> Entry {
+    let low = slot % 2 * 8;
+    Entry { id: Id { clock: u64::from(slot) + 1, txn: u32::from(slot) + 1 }, count: 8, keys: std::array::from_fn(|i| low + i as u8) }
+}
+
+#[derive(Clone, Copy)]
+struct Size {
+    entries: u8,
+    lives: u8,
+    reads: u8,
+    base: u8,
+}
+
+fn station(z: Size) -> Station {
+    let mut s = Station::empty();
+    for d in 0..z.entries {
+        s.entries[usize::from(d)] = entry(d);
+    }
+    for i in 0..z.lives {
+        let l = &mut s.live[usize::from(i)];
+        l.txn = 1000 + u32::from(i);
+        l.phase = Phase::Open;
+        l.read_count = z.reads;
+        for k in 0..z.reads {
+            let d = z.base + u8::from(k >= 8);
+            l.reads[usize::from(k)] = Read { key: k, id: entry(d).id };
+        }
+    }
+    assert!(s.sound());
+    s
+}
+
+fn store(z: Size) -> Vec<u8> {
+    let mut s = vec![0; STORE];
+    for d in 0..z.entries {
+        let e = entry(d);
+        let at = usize::from(d) * SLOT;
+        s[at..at + RECORD].copy_from_slice(&commit_record(&e));
+        for (n, k) in e.keys.iter().enumerate() {
+            let at = at + RECORD * (n + 1);
+            s[at..at + RECORD].copy_from_slice(&version_record(*k, e.id, u64::from(*k) + 7));
+        }
+    }
+    s
+}
+
+fn code(a: Answer) -> u64 {
+    match a {
+        Answer::Started => 1,
+        Answer::Kept => 2,
+        Answer::Own(v) => v % 65536 + 16,
+        Answer::Version(v, _) => v % 65536 + 17,
+        Answer::None => 3,
+        Answer::Nofit => 4,
+        Answer::Closing(d) => u64::from(d) + 18,
+        Answer::Empty => 5,
+        Answer::Done(_) => 6,
+        Answer::Stored(k) => u64::from(k) + 19,
+        Answer::Slipped(d) => u64::from(d) + 20,
+        Answer::Dropped => 7,
+        Answer::Collected(_) => 8,
+        Answer::Found(n) => u64::from(n) + 21,
+        Answer::Refused(n, _) => u64::from(n) + 100000,
+    }
+}
+
+fn rust_put(n: u64, z: Size) -> u64 {
+    let mut s = station(z);
+    let mut last = 0;
+    for i in 0..n {
+        last = code(black_box(&mut s).put(1000, (i % 8) as u8, i));
+    }
+    last
+}
+
+fn rust_start(n: u64, z: Size) -> u64 {
+    let mut s = station(z);
+    let mut last = 0;
+    for _ in 0..n {
+        last = code(black_box(&mut s).start(77)) + code(black_box(&mut s).abort(77));
+    }
+    last
+}
+
+fn rust_retry(n: u64, z: Size) -> u64 {
+    let mut s = station(z);
+    let mut last = 0;
+    for _ in 0..n {
+        last = code(black_box(&mut s).commit(1, 5));
+    }
+    last
+}
+
+fn rust_get(bytes: &[u8], n: u64, z: Size, key: u8) -> u64 {
+    let mut s = station(z);
+    let mut last = 0;
+    for _ in 0..n {
+        last = code(black_box(&mut s).get(bytes, 1000, key));
+    }
+    last
+}
+
+/// Start, two puts, commit, four steps, and a collect of the transaction before it.
+fn rust_transaction(bytes: &mut [u8], n: u64, z: Size) -> u64 {
+    let mut s = station(z);
+    let mut sum = 0;
+    let mut before = 64;
+    for i in 0..n {
+        let txn = 5000 + (i % 2) as u32;
+        s.start(txn);
+        s.put(txn, 40, i);
+        s.put(txn, 41, i);
+        let closing = s.commit(txn, 1000 + i % 1000000);
+        for _ in 0..4 {
+            sum = code(black_box(&mut s).step(bytes, txn));
+        }
+        sum += code(s.collect(bytes, before));
+        if let Answer::Closing(d) = closing {
+            before = d;
+        }
+    }
+    sum
+}
+
+fn rust_scan(bytes: &[u8], n: u64) -> u64 {
+    let mut last = 0;
+    for _ in 0..n {
+        last = code(Station::scan(black_box(bytes)).1);
+    }
+    last
+}
+
+/// Microseconds for one of n, the least of several alternating rounds.
+fn compare(name: &str, n: u64, mut proved: impl FnMut(u64) -> u64, mut plain: impl FnMut(u64) -> u64) {
+    let (mut a, mut b) = (f64::MAX, f64::MAX);
+    for _ in 0..7 {
+        let t = Instant::now();
+        let x = black_box(proved(n));
+        a = a.min(t.elapsed().as_secs_f64());
+        let t = Instant::now();
+        let y = black_box(plain(n));
+        b = b.min(t.elapsed().as_secs_f64());
+        assert_eq!(x, y, "{name}: the two versions differ");
+    }
+    let each = 1e6 / n as f64;
+    println!("| {name} | {:.2} | {:.2} | {:.2} |", a * each, b * each, a / b);
+}
+
+fn main() {
+    let typical = Size { entries: 16, lives: 2, reads: 4, base: 14 };
+    let worst = Size { entries: 62, lives: 8, reads: 16, base: 0 };
+    println!("| call | proved, µs | Rust, µs | ratio |");
+    println!("|---|---|---|---|");
+    for (size, z) in [("typical", typical), ("worst", worst)] {
+        let lives = if z.lives == 8 { Size { lives: 7, ..z } } else { z };
+        unsafe {
+            compare(&format!("start and abort, {size}"), 4000, |n| bench_start(n, z.entries, lives.lives, z.reads, z.base), |n| rust_start(n, lives));
+            compare(&format!("put, {size}"), 4000, |n| bench_put(n, z.entries, z.lives, z.reads, z.base), |n| rust_put(n, z));
+            compare(&format!("commit again, {size}"), 4000, |n| bench_retry(n, z.entries, z.lives, z.reads, z.base), |n| rust_retry(n, z));
+            let bytes = store(z);
+            compare(
+                &format!("get, {size}"),
+                4000,
+                |n| bench_get(bytes.as_ptr(), bytes.len(), n, z.entries, z.lives, z.reads, z.base, 0),
+                |n| rust_get(&bytes, n, z, 0),
+            );
+            let (mut x, mut y) = (store(z), store(z));
+            compare(
+                &format!("a transaction of nine calls, {size}"),
+                500,
+                |n| {
+                    x.copy_from_slice(&store(z));
+                    bench_transaction(x.as_mut_ptr(), x.len(), n, z.entries, lives.lives, z.reads, z.base)
+                },
+                |n| {
+                    y.copy_from_slice(&store(z));
+                    rust_transaction(&mut y, n, lives)
+                },
+            );
+            assert_eq!(x, y, "the two stores differ");
+            compare(&format!("scan, {size}"), 2000, |n| bench_scan(bytes.as_ptr(), bytes.len(), n), |n| rust_scan(&bytes, n));
+        }
+    }
+}
