@@ -20,7 +20,7 @@ use Rattle.model.specs.Stations.{writesOf, readsOf, isClosing, liveAt, setLive,
 use Rattle.model.specs.Slots.{free, seen}
 use Rattle.model.specs.Sound.{sound}
 use Rattle.model.specs.Reading.{Atomic}
-use Rattle.model.specs.Commit.{withPhase, highestFree, clockFor, commit}
+use Rattle.model.specs.Commit.{withPhase, highestFree, commit}
 use Rattle.model.specs.Calls.{Commit, txnOf, numberOf}
 use Rattle.model.proofs.Tests.{and-left, and-right, and-intro, and-second, not-of-false, bool-cases}
 use Rattle.model.proofs.ListLaws.{greatest-below}
@@ -103,7 +103,7 @@ retried st s b t inv h hh = record {
 }
 
 pub commit-keeps : (st : Station) (s : List ℕ) (b : Ledger) (t c : ℕ) → Inv st s b → sound st ≡ true → c < numberRange → Good s b (Commit t c) (commit st t c)
-unfolding commit feed txnOf numberOf clockFor highestFree
+unfolding commit feed txnOf numberOf highestFree
 commit-keeps st s b t c inv h oc =
     row s b (Commit t c) st _ 2 _ _ inv λ h2.
     row s b (Commit t c) st _ 3 _ _ inv λ h3.

@@ -30,7 +30,7 @@ use Rattle.model.specs.Effects.{Effect, says, saysStoring, Row, _when_, 
 use Rattle.model.specs.Start.{opened, start}
 use Rattle.model.specs.Put.{withWrites, withWrite, put}
 use Rattle.model.specs.Get.{choiceOf, withReads, withRead, noRoom, answered, get}
-use Rattle.model.specs.Commit.{withPhase, highestFree, clockFor, commit}
+use Rattle.model.specs.Commit.{withPhase, highestFree, commit}
 use Rattle.model.specs.Step.{entryFor, oneMore, stepped, step}
 use Rattle.model.specs.Abort.{abort}
 use Rattle.model.specs.Collect.{collect}
@@ -179,7 +179,7 @@ unfolding withPhase setsRight zeroPastCounts writesOf readsOf
 used-withPhase es p l u = record { numbered = u .numbered; sets = u .sets; named = u .named; zeros = u .zeros }
 
 commit-sound : (st : Station) (t c : ℕ) → Live-at st t → c ≢ 0 → 1 ≤ (liveAt st (placeOf t st)) .«write_count» → anyBelow (isFree st) slots ≡ true
-    → Sound (setLive st (placeOf t st) (withPhase (Closing (highestFree st) (clockFor st c) 0) (liveAt st (placeOf t st))))
+    → Sound (setLive st (placeOf t st) (withPhase (Closing (highestFree st) c 0) (liveAt st (placeOf t st))))
 unfolding withPhase slotMark
 commit-sound st t c a n o f = sound-setLive st i m s (a .inside-live)
     (place-closing st m _ (unfold isClosing in refl) (used-withPhase (st .entries) _ l (a .used)) shut)
@@ -197,7 +197,7 @@ commit-sound st t c a n o f = sound-setLive st i m s (a .inside-live)
     s = a .whole
 
     m : Live
-    m = withPhase (Closing (highestFree st) (clockFor st c) 0) (liveAt st (placeOf t st))
+    m = withPhase (Closing (highestFree st) c 0) (liveAt st (placeOf t st))
 
     r : (highestFree st < slots) × (isFree st (highestFree st) ≡ true)
     r = unfold highestFree in (let g = greatest-below (isFree st) slots f in (g .0, g .1))
@@ -205,7 +205,7 @@ commit-sound st t c a n o f = sound-setLive st i m s (a .inside-live)
     shut : Shut st m
     shut = record {
       keyed = o;
-      clocked = unfold closingClock clockFor in omega (arith, n);
+      clocked = unfold closingClock in omega (arith, n);
       within = unfold recordsStored in omega arith;
       low = unfold closingSlot in r .0;
       unheld = unfold closingSlot in not-true _ (unfold isFree in and-left _ _ (r .1));

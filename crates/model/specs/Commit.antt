@@ -20,10 +20,6 @@ withPhase p l = record { txn = l .txn; phase = p; «write_count» = l .«write_c
 unfoldable pub highestFree : Station → ℕ
 highestFree st = greatestBelow (isFree st) slots
 
--- the clock that a commit gets: the one given
-unfoldable pub clockFor : Station → ℕ → ℕ
-clockFor st c = c
-
 unfoldable pub commit : Station → ℕ → ℕ → Effect
 commit st t c =
     let i : ℕ = placeOf t st in let l : Live = liveAt st i in let d : ℕ = highestFree st in
@@ -41,4 +37,4 @@ commit st t c =
     -- "Open with an empty write list: empty, nothing stored, the ticket is forgotten."
     (cond (eqb (l .«write_count») 0) (says A.Empty (setLive st i noLive))
     -- "Else it becomes closing and takes the highest-numbered free drawer; nothing is stored yet."
-    (says (A.Closing d) (setLive st i (withPhase (Closing d (clockFor st c) 0) l)))))
+    (says (A.Closing d) (setLive st i (withPhase (Closing d c 0) l)))))

@@ -72,8 +72,8 @@ pub enum Answer {
 
 // What a call hands back beside the store: its answer, and the station.
 pub struct Outcome {
-    pub answer: Answer,
     pub station: Station,
+    pub answer: Answer,
 }
 
 impl Station {

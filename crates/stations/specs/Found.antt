@@ -1,11 +1,12 @@
 -- Names for what the contracts of this crate say of lists.
 use Prim.Native.Nat.{ℕ}
-use mathlib.Core.Bool.{Bool}
+use mathlib.Core.Bool.{Bool, cond}
 use mathlib.Core.List.{List, _∷_, _++_}
-use lib.Dec.{leb}
+use lib.Dec.{eqb, leb}
 use lib.ListN.{take, drop}
 use Rattle.model.specs.declared.Live.{Live}
 use Rattle.model.specs.declared.Entry.{Entry}
+use Rattle.model.specs.Limits.{keys, livePlaces}
 use Rattle.model.specs.Stations.{slotMark}
 
 -- the transaction at a place, and of an entry
@@ -27,3 +28,7 @@ module _ {A : Type 0} where
   -- a list with one element more, at a position
   unfoldable pub joined : ℕ → A → List A → List A
   joined i x xs = take i xs ++ (x ∷ drop i xs)
+
+-- the first of rows 3, 4 and 8 that applies to a transaction's number, a key and the place found; 0 where none does
+unfoldable pub namedRow : ℕ → ℕ → ℕ → ℕ
+namedRow t k i = cond (eqb t 0) 3 (cond (leb keys k) 4 (cond (leb livePlaces i) 8 0))

@@ -16,7 +16,7 @@ ghost use Rattle.model.specs.Get.{withRead};
 ghost use Rattle.model.specs.Commit.{withPhase, highestFree};
 ghost use Rattle.model.specs.Step.{entryFor};
 ghost use Rattle.model.specs.Effects.{outcomeOf, says};
-ghost use Rattle.stations.specs.Found.{liveTxn, entryTxn, phaseMark, atLeast, joined};
+ghost use Rattle.stations.specs.Found.{liveTxn, entryTxn, phaseMark, atLeast, joined, namedRow};
 use model::Answer;
 use model::Entry;
 use model::Id;
@@ -26,6 +26,9 @@ use model::Phase;
 use model::Read;
 use model::Station;
 use model::Write;
+
+// Keys are below this.
+const KEYS: u8 = 64;
 
 fn wide(x: u8) -> usize
     ensures { λ r. ⌜ r ≡ x ⌝ }
@@ -445,6 +448,22 @@ pub fn is_closing(p: Phase) -> bool
         Phase::Open => false,
         Phase::Closing(_, _, _) => true,
     }
+}
+
+// The first of rows 3, 4 and 8 that applies; 0 where none does. A call without a key gives 0.
+pub fn named_row(txn: u32, key: u8, place: usize) -> u8
+    ensures { λ r. ⌜ r ≡ namedRow txn key place ⌝ }
+{
+    if txn == 0 {
+        return 3;
+    }
+    if key >= KEYS {
+        return 4;
+    }
+    if place >= Station::LIVE {
+        return 8;
+    }
+    0
 }
 
 // A refusal hands the station back as given.

@@ -16,7 +16,7 @@ use Rattle.model.specs.declared.Phase.the-variants.{Unused, Closing}
 use Rattle.model.specs.declared.Answer.{Answer}
 use Rattle.model.specs.declared.Answer.the-variants as A
 use Rattle.model.specs.Abort.{abort}
-use Rattle.model.specs.Commit.{withPhase, highestFree, clockFor, commit}
+use Rattle.model.specs.Commit.{withPhase, highestFree, commit}
 use Rattle.model.specs.Effects.{Effect, outcomeOf, says, unsound}
 use Rattle.model.specs.Limits.{keys, slots, writeLimit}
 use Rattle.model.specs.Lists.{_and_, first, anyBelow}
@@ -292,7 +292,7 @@ module _ (st : Station) (t i : ℕ) (y : Here st t i) (d : Live) where
 
         pub commit-closing : (r : ℕ) → anyBelow (isFree st) slots ≡ true → r ≡ highestFree st
             → commit st t x ≡ says (A.Closing r) (setLive st i (withPhase (Closing r x 0) (getD (st .live) i d)))
-        unfolding commit clockFor
+        unfolding commit
         commit-closing r f e =
             skipped 2 _ _ st _ (not-unsound st (y .isSound))
             ∙ (skipped 3 _ _ st _ (ne-eqb t 0 (y .numbered))
