@@ -59,13 +59,13 @@ abbrev pub IsO : Outcome → Type 0
 IsO z = Is O.the-row z (machO z ∷ [])
 
 pub is-answer : (r : Outcome) (w : Val) → Is O.the-row r (w ∷ []) → IsN (r .answer)
-is-answer r w is = LL.owed O.the-type O′.the-laws r _ is .0
+is-answer r w is = LL.owed O.the-type O′.the-laws r _ is .1 .0
 
 pub is-station : (r : Outcome) (w : Val) → Is O.the-row r (w ∷ []) → IsS (r .station)
-is-station r w is = LL.owed O.the-type O′.the-laws r _ is .1 .0
+is-station r w is = LL.owed O.the-type O′.the-laws r _ is .0
 
 pub is-outcome : (r : Outcome) → IsN (r .answer) → IsS (r .station) → IsO r
-is-outcome r n s = LL.owes O.the-type O′.the-laws r (n, (s, tt))
+is-outcome r n s = LL.owes O.the-type O′.the-laws r (s, (n, tt))
 
 module _ {M : Type 1} (𝓤 : URA M) (H : Heap 𝓤) (A : Atoms 𝓤) (W : Given 𝓤 H A) where
   pub typedS : (z : Station) → IsS z → Holds (hasTy S′.mir (machS z)) × WT (machS z)

@@ -54,7 +54,7 @@ pub fn act_once(station: Station, store: &mut [u8], request: Request) -> Outcome
     let mut s = station;
     let a = act_on(&mut s, store, request);
     Outcome {
-        answer: a,
         station: s,
+        answer: a,
     }
 }

@@ -143,8 +143,8 @@ module _ {M : Type 1} (𝓤 : URA M) (H : Heap 𝓤) (A : Atoms 𝓤) (W : Given
         move ! (2 ∷ []) $ split ! $ move ! (1 ∷ []) $ peeks ! O.the-row (Is O.the-row) (shows 𝓤 H A O.the-row) r (w ∷ []) (λ is.
         land ! (from ! (stop !)) (init ! 16 refl (LL.lawful O.the-type O′.the-laws 𝓤 H A W .typed r _ is .0)) $ rewrite ! 16 (λ (u : Val). ‵ (fat fullShare O′.mir l₄ 0 u)) (ap only (LL.tells O.the-type O′.the-laws r _ is)) refl $
         -- [the outcome; the token; the last list; …; the numbers; the station's cell; what it owned; the open borrow; obs; auth; _7; …; _0; …]
-        assigns ! (of-opd ! (load ! (from ! (fld ! refl (stop !))) (look-in ! 16 (sub ! 1 refl (whole !))))) (from ! (hop ! (look ! 22 refl) (stop !))) (store-raw ! 5 refl (typedS 𝓤 H A W (r .station) (is-station r w is))) $
-        assigns ! (of-opd ! (load ! (from ! (fld ! refl (stop !))) (look-in ! 16 (sub ! 0 refl (whole !))))) (from ! (stop !)) (init ! 24 refl (typedN 𝓤 H A W (r .answer) (is-answer r w is))) $
+        assigns ! (of-opd ! (load ! (from ! (fld ! refl (stop !))) (look-in ! 16 (sub ! 0 refl (whole !))))) (from ! (hop ! (look ! 22 refl) (stop !))) (store-raw ! 5 refl (typedS 𝓤 H A W (r .station) (is-station r w is))) $
+        assigns ! (of-opd ! (load ! (from ! (fld ! refl (stop !))) (look-in ! 16 (sub ! 1 refl (whole !))))) (from ! (stop !)) (init ! 24 refl (typedN 𝓤 H A W (r .answer) (is-answer r w is))) $
         -- the station's borrow is closed at the new station
         owned ! S.the-row (Is S.the-row) (LL.makes S.the-type S′.the-plain 𝓤 H A) (r .station) _ (is-station r w is) $ move ! (6 ∷ 0 ∷ 8 ∷ 9 ∷ 10 ∷ []) $ closes ! tt S.the-row (r .station) (machS (r .station) ∷ []) b o $
         returns ! (look ! 23 refl) $ forget ! 9 refl $ forget ! 11 refl $ forget ! 13 refl $ forget ! 15 refl $ forget ! 17 refl $ forget ! 19 refl $ forget ! 21 refl $ forget ! 23 refl $
