@@ -1,0 +1,240 @@
+//! What the program `cases` must write, worked out by the model: `cases INPUT` reads the program's input and prints its output.
+//! Each title ends in `=> ANSWER | ..`, written by hand from the scope document: the answers of the case's last lines. The model
+//! is held to them, a refused call to handing back what it was given, and all cases together to every refusal and every answer.
+#![allow(dead_code)]
+#[path = "model.rs"]
+mod model;
+
+use model::{Answer, Id, Live, Phase, Station, SLOT, STORE};
+use std::collections::BTreeSet;
+
+/// A call as the run sheet writes it.
+enum Call {
+    Start(u32),
+    Put(u32, u8, u64),
+    Get(u32, u8),
+    Commit(u32, u64),
+    Step(u32),
+    Abort(u32),
+    Collect(u8),
+    Cut,
+}
+
+/// Decimal without needless leading zeros.
+fn decimal(field: &str) -> Option<u64> {
+    let digits = !field.is_empty() && field.bytes().all(|b| b.is_ascii_digit());
+    if !digits || (field.len() > 1 && field.starts_with('0')) {
+        return None;
+    }
+    field.parse().ok()
+}
+
+fn parse(line: &str) -> Option<Call> {
+    let fields: Vec<&str> = line.split(',').collect();
+    let [verb, txn, key, number] = fields[..] else { return None };
+    if line.len() > 64 {
+        return None;
+    }
+    let txn = u32::try_from(decimal(txn)?).ok()?;
+    let key = u8::try_from(decimal(key)?).ok()?;
+    let number = decimal(number)?;
+    match (verb, txn, key, number) {
+        ("start", t, 0, 0) => Some(Call::Start(t)),
+        ("put", t, k, v) => Some(Call::Put(t, k, v)),
+        ("get", t, k, 0) => Some(Call::Get(t, k)),
+        ("commit", t, 0, c) => Some(Call::Commit(t, c)),
+        ("step", t, 0, 0) => Some(Call::Step(t)),
+        ("abort", t, 0, 0) => Some(Call::Abort(t)),
+        ("collect", 0, d, 0) => Some(Call::Collect(d)),
+        ("cut", 0, 0, 0) => Some(Call::Cut),
+        _ => None,
+    }
+}
+
+/// A station and its store; a byte more than a store has is at hand.
+#[derive(Clone)]
+struct World {
+    station: Station,
+    bytes: Vec<u8>,
+}
+
+impl World {
+    fn new() -> World {
+        World { station: Station::empty(), bytes: vec![0; STORE + 1] }
+    }
+
+    fn act(&mut self, line: &str, size: usize) -> Answer {
+        let store = &mut self.bytes[..size];
+        match parse(line) {
+            None => Answer::Refused(19, 0),
+            Some(Call::Start(t)) => self.station.start(t),
+            Some(Call::Put(t, k, v)) => self.station.put(t, k, v),
+            Some(Call::Get(t, k)) => self.station.get(store, t, k),
+            Some(Call::Commit(t, c)) => self.station.commit(t, c),
+            Some(Call::Step(t)) => self.station.step(store, t),
+            Some(Call::Abort(t)) => self.station.abort(t),
+            Some(Call::Collect(d)) => self.station.collect(store, d),
+            Some(Call::Cut) => {
+                let (station, answer) = Station::scan(store);
+                self.station = station;
+                answer
+            }
+        }
+    }
+
+    fn whole(&mut self, txn: u32, key: u8, number: u64) -> Answer {
+        self.station.start(txn);
+        self.station.put(txn, key, number);
+        self.station.commit(txn, number);
+        let store = &mut self.bytes[..STORE];
+        self.station.step(store, txn);
+        self.station.step(store, txn);
+        self.station.step(store, txn)
+    }
+
+    /// One line, with the answer where it asks for a call.
+    fn line(&mut self, line: &str) -> Option<Answer> {
+        let (kind, rest) = line.split_at(1);
+        match kind {
+            "#" => *self = World::new(),
+            "!" => {
+                let [slot, at, byte] = numbers(rest)[..] else { panic!("{line}") };
+                self.bytes[slot as usize * SLOT + at as usize] = byte as u8;
+            }
+            "~" => {
+                let [field, place, i, x] = numbers(rest)[..] else { panic!("{line}") };
+                edit(&mut self.station, field, place as usize, i as usize, x);
+            }
+            "*" => {
+                let [txn, key, number] = numbers(rest)[..] else { panic!("{line}") };
+                return Some(self.whole(txn as u32, key as u8, number));
+            }
+            "<" => {
+                let (size, call) = rest.split_once(',').unwrap();
+                return Some(self.act(call, size.parse().unwrap()));
+            }
+            _ => return Some(self.act(line, STORE)),
+        }
+        None
+    }
+}
+
+fn numbers(fields: &str) -> Vec<u64> {
+    fields.split(',').map(|f| f.parse().unwrap()).collect()
+}
+
+/// The fields as the program's comments number them.
+fn edit(station: &mut Station, field: u64, place: usize, i: usize, x: u64) {
+    if field >= 20 {
+        let e = &mut station.entries[place];
+        match field {
+            20 => e.id.txn = x as u32,
+            21 => e.id.clock = x,
+            22 => e.count = x as u8,
+            23 => e.keys[i] = x as u8,
+            _ => panic!("field {field}"),
+        }
+        return;
+    }
+    let l: &mut Live = &mut station.live[place];
+    match field {
+        0 => l.txn = x as u32,
+        1 => l.phase = Phase::Unused,
+        2 => l.phase = Phase::Open,
+        3 => l.phase = Phase::Closing { slot: x as u8, clock: 80, stored: 0 },
+        4..=6 => {
+            let Phase::Closing { slot, clock, stored } = &mut l.phase else { panic!("place {place} is not closing") };
+            match field {
+                4 => *slot = x as u8,
+                5 => *clock = x,
+                _ => *stored = x as u8,
+            }
+        }
+        7 => l.write_count = x as u8,
+        8 => l.read_count = x as u8,
+        9 => l.writes[i].key = x as u8,
+        10 => l.writes[i].value = x,
+        11 => l.reads[i].key = x as u8,
+        12 => l.reads[i].id = Id { clock: x, ..l.reads[i].id },
+        13 => l.reads[i].id = Id { txn: x as u32, ..l.reads[i].id },
+        _ => panic!("field {field}"),
+    }
+}
+
+fn change(before: &World, after: &World) -> &'static str {
+    match (before.station == after.station, before.bytes == after.bytes) {
+        (true, true) => "as given",
+        (true, false) => "new store",
+        (false, false) => "new station and store",
+        (false, true) if after.station == Station::empty() => "empty station",
+        (false, true) => "new station",
+    }
+}
+
+fn outcome(answer: Answer, change: &str) -> String {
+    let (a, b, c) = answer.values();
+    format!("{},{a},{b},{c}; {change}", answer.word())
+}
+
+/// What every refusal keeps: station and store as given; the empty station for a scan.
+fn keeps(line: &str, answer: Answer, before: &World, after: &World) {
+    let Answer::Refused(..) = answer else { return };
+    let scans = line.ends_with("cut,0,0,0");
+    let station = if scans { Station::empty() } else { before.station.clone() };
+    assert!(after.station == station && after.bytes == before.bytes, "{line}: altered");
+}
+
+/// A title's claims are the outcomes of its case's last lines, or begin them.
+fn held(title: &str, outcomes: &[String]) {
+    let (_, claims) = title.split_once(" => ").unwrap_or_else(|| panic!("{title}: no claim"));
+    let claims: Vec<&str> = claims.split(" | ").collect();
+    assert!(claims.len() <= outcomes.len(), "{title}: {} outcomes", outcomes.len());
+    let last = &outcomes[outcomes.len() - claims.len()..];
+    for (claim, outcome) in claims.iter().zip(last) {
+        let same = outcome == claim || outcome.starts_with(&format!("{claim};"));
+        assert!(same, "{title}: {outcome}");
+    }
+}
+
+fn main() {
+    let path = std::env::args().nth(1).expect("an input");
+    let text = std::fs::read_to_string(path).unwrap();
+    let head = &text[..text.find('%').unwrap()];
+    let mut busy = World::new();
+    for line in head.lines() {
+        busy.line(line);
+    }
+    assert!(busy.station.sound());
+    let mut world = World::new();
+    let (mut title, mut outcomes) = ("", Vec::new());
+    let (mut words, mut refusals) = (BTreeSet::new(), BTreeSet::new());
+    for line in text.lines() {
+        if line.starts_with(['#', '%']) {
+            if !title.is_empty() {
+                held(title, &outcomes);
+            }
+            (title, outcomes) = (line, Vec::new());
+        }
+        if line.starts_with('%') {
+            world = busy.clone();
+            println!("{line}");
+            continue;
+        }
+        let before = world.clone();
+        let Some(answer) = world.line(line) else {
+            println!("{line}");
+            continue;
+        };
+        keeps(line, answer, &before, &world);
+        words.insert(answer.word());
+        if let Answer::Refused(n, _) = answer {
+            refusals.insert(n);
+        }
+        let outcome = outcome(answer, change(&before, &world));
+        println!("{line}: {outcome}");
+        outcomes.push(outcome);
+    }
+    held(title, &outcomes);
+    assert!(refusals.into_iter().eq(1..=19), "a refusal is missing");
+    assert!(words.len() == 15, "an answer is missing");
+}
