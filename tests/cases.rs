@@ -119,8 +119,10 @@ impl World {
     }
 }
 
+/// The digits of each field; its words are for the reader.
 fn numbers(fields: &str) -> Vec<u64> {
-    fields.split(',').map(|f| f.parse().unwrap()).collect()
+    let digits = |f: &str| f.chars().filter(char::is_ascii_digit).collect::<String>();
+    fields.split(',').map(|f| digits(f).parse().unwrap()).collect()
 }
 
 /// The fields as the program's comments number them.

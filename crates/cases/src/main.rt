@@ -5,8 +5,9 @@
 //   verb,txn,key,number                  a line of a run sheet
 //   <LENGTH,verb,txn,key,number          the same with LENGTH bytes of store
 //   *TXN,KEY,NUMBER                      a whole transaction: NUMBER put under KEY and committed at the clock NUMBER
-//   !SLOT,AT,BYTE                        a byte of a slot is changed
-//   ~FIELD,PLACE,POSITION,VALUE          a field of the station is changed; edited_live and edited_entry number the fields
+//   !slot SLOT,byte AT,BYTE              a byte of a slot is changed
+//   ~FIELD name,place PLACE,POSITION,VALUE   a field of the station is changed; edited_live and edited_entry number the fields
+// Of the last two only the digits are read. A title ends in the answers that 01 gives to its last lines; tests/cases.rs tests that.
 use calls::Entry;
 use calls::Id;
 use calls::Live;
@@ -111,7 +112,7 @@ fn find(text: &[u8], from: usize, b: u8) -> usize
 }
 
 // ---- bytes
-fn cleared(bytes: &mut [u8]) {
+fn clear(bytes: &mut [u8]) {
     let mut i = 0;
     while i < bytes.len() {
         bytes[i] = 0;
@@ -119,7 +120,7 @@ fn cleared(bytes: &mut [u8]) {
     }
 }
 
-fn copied(to: &mut [u8], from: &[u8]) {
+fn copy_over(to: &mut [u8], from: &[u8]) {
     let mut i = 0;
     while i < to.len() {
         if i >= from.len() {
@@ -512,7 +513,7 @@ fn edited(station: Station, line: &[u8]) -> Station {
 }
 
 // ---- a store's byte changed
-fn damaged(bytes: &mut [u8], line: &[u8]) {
+fn damage(bytes: &mut [u8], line: &[u8]) {
     let slot = low8(number_in(line, 0)) as usize;
     let at = low8(number_in(line, 1)) as usize;
     let x = low8(number_in(line, 2));
@@ -582,9 +583,14 @@ fn report(line: &[u8], before: Station, o: Outcome, is_kept: bool, is_quiet: boo
 }
 
 // ---- lines carried out
-fn acted(station: Station, store: &mut [u8], line: &[u8]) -> Outcome {
+fn asked(line: &[u8]) -> Request {
     let command = sheet::parse_line(line);
-    desk::act_once(station, store, Request { command })
+    Request { command }
+}
+
+fn acted(station: Station, store: &mut [u8], line: &[u8]) -> Outcome {
+    let request = asked(line);
+    desk::act_once(station, store, request)
 }
 
 // A sheet's line with this much of the store.
@@ -600,7 +606,7 @@ fn act(
     if size > bytes.len() {
         return station;
     }
-    copied(copy, bytes);
+    copy_over(copy, bytes);
     let o = acted(station, &mut bytes[..size], line);
     let is_kept = same_bytes(bytes, copy);
     report(shown, station, o, is_kept, is_quiet)
@@ -654,7 +660,7 @@ fn act_whole(
     if STORE > bytes.len() {
         return station;
     }
-    copied(copy, bytes);
+    copy_over(copy, bytes);
     let o = whole(station, &mut bytes[..STORE], txn, key, number);
     let is_kept = same_bytes(bytes, copy);
     report(line, station, o, is_kept, is_quiet)
@@ -668,7 +674,7 @@ fn first_byte(line: &[u8]) -> u8 {
 }
 
 fn begun(bytes: &mut [u8]) -> Station {
-    cleared(bytes);
+    clear(bytes);
     Station::empty()
 }
 
@@ -687,7 +693,7 @@ fn carried_out(
     }
     if kind == b'!' {
         say_line(line, is_quiet);
-        damaged(bytes, line);
+        damage(bytes, line);
         return station;
     }
     if kind == b'~' {

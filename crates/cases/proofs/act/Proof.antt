@@ -8,8 +8,8 @@ use Rattle.cases.proofs.act.Tie as tie
 returns : tie.Need-returns
 returns c = search needs
 
-copied-requires : tie.Need-copied-requires
-copied-requires c κs = search needs
+copy-over-requires : tie.Need-copy-over-requires
+copy-over-requires c κs = search needs
 
 slice-relend-prefix-acted : tie.Need-slice-relend-prefix-acted
 slice-relend-prefix-acted c = search needs
@@ -40,7 +40,7 @@ act-spec =
     tie.close
     (tie.spec
     returns
-    copied-requires
+    copy-over-requires
     slice-relend-prefix-acted
     slice-aggregate-acted
     acted-requires

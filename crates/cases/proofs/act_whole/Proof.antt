@@ -23,8 +23,8 @@ number-in-requires-3 c κs = search needs
 returns : tie.Need-returns
 returns c = search needs
 
-copied-requires : tie.Need-copied-requires
-copied-requires c κs = search needs
+copy-over-requires : tie.Need-copy-over-requires
+copy-over-requires c κs = search needs
 
 slice-relend-prefix-whole : tie.Need-slice-relend-prefix-whole
 slice-relend-prefix-whole c = search needs
@@ -60,7 +60,7 @@ act-whole-spec =
     low8-requires
     number-in-requires-3
     returns
-    copied-requires
+    copy-over-requires
     slice-relend-prefix-whole
     slice-aggregate-whole
     whole-requires

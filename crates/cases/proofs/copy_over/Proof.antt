@@ -2,8 +2,8 @@ use mathlib.Core.Path.{_≡_}
 use lib.ListN.{length}
 use Prim.Native.Nat.{_≤_, _-_}
 use borrow.Author.Needs.{needs}
-use Rattle.cases.proofs.copied.Statement.{statement}
-use Rattle.cases.proofs.copied.Tie as tie
+use Rattle.cases.proofs.copy_over.Statement.{statement}
+use Rattle.cases.proofs.copy_over.Tie as tie
 
 abbrev Inv-loop : tie.InvT-loop
 Inv-loop to₀ from i₀ to i = (i ≤ length to₀) × (length to ≡ length to₀)
@@ -41,8 +41,8 @@ same-length-2 c = search needs
 returns-2 : tie.Need-returns-2 Inv-loop μ-loop
 returns-2 c = search needs
 
-pub copied-spec : {M : Type 1} → statement M
-copied-spec =
+pub copy-over-spec : {M : Type 1} → statement M
+copy-over-spec =
     tie.close
     (tie.spec
     Inv-loop

@@ -2,8 +2,8 @@ use mathlib.Core.Path.{_≡_}
 use lib.ListN.{length}
 use Prim.Native.Nat.{_≤_, _-_}
 use borrow.Author.Needs.{needs}
-use Rattle.cases.proofs.cleared.Statement.{statement}
-use Rattle.cases.proofs.cleared.Tie as tie
+use Rattle.cases.proofs.clear.Statement.{statement}
+use Rattle.cases.proofs.clear.Tie as tie
 
 abbrev Inv-loop : tie.InvT-loop
 Inv-loop bytes₀ i₀ bytes i = (i ≤ length bytes₀) × (length bytes ≡ length bytes₀)
@@ -32,8 +32,8 @@ same-length c = search needs
 returns : tie.Need-returns Inv-loop μ-loop
 returns c = search needs
 
-pub cleared-spec : {M : Type 1} → statement M
-cleared-spec =
+pub clear-spec : {M : Type 1} → statement M
+clear-spec =
     tie.close
     (tie.spec
     Inv-loop
