@@ -1,13 +1,13 @@
 use Prim.Native.Nat.{_≤_, _-_}
 use borrow.Author.Needs.{needs}
-use Rattle.cases.proofs.same_entries.Statement.{statement}
-use Rattle.cases.proofs.same_entries.Tie as tie
+use Rattle.edits.proofs.same_lives.Statement.{statement}
+use Rattle.edits.proofs.same_lives.Tie as tie
 
 abbrev Inv-loop : tie.InvT-loop
-Inv-loop a b i₀ i = i ≤ 64
+Inv-loop a b i₀ i = i ≤ 8
 
 abbrev μ-loop : tie.MeasureT-loop
-μ-loop a b i₀ i = 64 - i
+μ-loop a b i₀ i = 8 - i
 
 loop-holds : tie.Need-loop-holds Inv-loop μ-loop
 loop-holds c = search needs
@@ -24,8 +24,8 @@ mul-y c = search needs
 array-copy-out-y : tie.Need-array-copy-out-y Inv-loop μ-loop
 array-copy-out-y c = search needs
 
-same-entry-requires : tie.Need-same-entry-requires Inv-loop μ-loop
-same-entry-requires c κs = tt
+same-live-requires : tie.Need-same-live-requires Inv-loop μ-loop
+same-live-requires c κs = tt
 
 returns : tie.Need-returns Inv-loop μ-loop
 returns c = search needs
@@ -42,8 +42,8 @@ loop-again c = search needs
 returns-2 : tie.Need-returns-2 Inv-loop μ-loop
 returns-2 c = search needs
 
-pub same-entries-spec : {M : Type 1} → statement M
-same-entries-spec =
+pub same-lives-spec : {M : Type 1} → statement M
+same-lives-spec =
     tie.close
     (tie.spec
     Inv-loop
@@ -53,7 +53,7 @@ same-entries-spec =
     array-copy-out-x
     mul-y
     array-copy-out-y
-    same-entry-requires
+    same-live-requires
     returns
     add-i
     loop-less
