@@ -173,6 +173,16 @@ fn change(before: &World, after: &World) -> &'static str {
     }
 }
 
+/// A line that asks for no call: a title, or a change that is one.
+fn changed(line: &str, before: &World, after: &World) -> String {
+    if line.starts_with('#') {
+        return String::new();
+    }
+    let change = change(before, after);
+    assert!(change == "new station" || change == "new store", "{line}: {change}");
+    format!("; {change}")
+}
+
 fn outcome(answer: Answer, change: &str) -> String {
     let (a, b, c) = answer.values();
     format!("{},{a},{b},{c}; {change}", answer.word())
@@ -224,7 +234,7 @@ fn main() {
         }
         let before = world.clone();
         let Some(answer) = world.line(line) else {
-            println!("{line}");
+            println!("{line}{}", changed(line, &before, &world));
             continue;
         };
         keeps(line, answer, &before, &world);

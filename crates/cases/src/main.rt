@@ -224,6 +224,34 @@ fn acted(station: Station, store: &mut [u8], line: &[u8]) -> Outcome {
     desk::act_once(station, store, request)
 }
 
+fn act_damage(
+    station: Station,
+    bytes: &mut [u8],
+    copy: &mut [u8],
+    line: &[u8],
+    is_quiet: bool,
+) -> Station {
+    copy_over(copy, bytes);
+    damage(bytes, line);
+    let is_kept = same_bytes(bytes, copy);
+    if is_quiet {
+        return station;
+    }
+    say(line);
+    say_change(station, station, is_kept);
+    station
+}
+
+fn act_edit(station: Station, line: &[u8], is_quiet: bool) -> Station {
+    let after = edit(station, line);
+    if is_quiet {
+        return after;
+    }
+    say(line);
+    say_change(station, after, true);
+    after
+}
+
 // A sheet's line with this much of the store.
 fn act(
     station: Station,
@@ -323,13 +351,10 @@ fn carried_out(
         return begun(bytes);
     }
     if kind == b'!' {
-        say_line(line, is_quiet);
-        damage(bytes, line);
-        return station;
+        return act_damage(station, bytes, copy, line, is_quiet);
     }
     if kind == b'~' {
-        say_line(line, is_quiet);
-        return edit(station, line);
+        return act_edit(station, line, is_quiet);
     }
     if kind == b'*' {
         return act_whole(station, bytes, copy, line, is_quiet);
