@@ -93,7 +93,7 @@ cut-held c n w f st = go (decLt n (length (e .stores)))
     go (yes y) = rw (lt-leb (length (e .stores)) n y) (good .before n y)
     go (no y) = rw (le-leb (length (e .stores)) n (omega arith), take-all n (e .stores) (omega arith)) (e .station, sound-kept c (w .station) (w .store) (st .0), good .after)
 
-restart-keeps : (s : List ℕ) (b : Ledger) → Held s b → State (restarted s b)
+pub restart-keeps : (s : List ℕ) (b : Ledger) → Held s b → State (restarted s b)
 unfolding restarted stored
 restart-keeps s b hd = (sound-scan s, none-stored (scan-keeps (hd .0) s b (hd .2) .after) (scan-stores (hd .0) s b (hd .2)))
   where
@@ -112,8 +112,12 @@ run-keeps [] w f st = st
 run-keeps (v ∷ vs) w f st = run-keeps vs (next v w) (f .1) (next-keeps v w (f .0) st)
 
 -- from the empty station and the zero store
+pub begin-state : State begin
+unfolding begin
+begin-state = (sound-empty, begin-inv)
+
 pub history-keeps : (vs : List Event) → AllInRange vs → State (run vs begin)
-history-keeps vs f = run-keeps vs begin f (unfold begin in (sound-empty, begin-inv))
+history-keeps vs f = run-keeps vs begin f begin-state
 
 -- ── the cut rule ──
 pub cut-rule : Demand3
