@@ -3,7 +3,7 @@ use Prim.Native.Nat.{ℕ, zero, suc, _+_, _-_, _<_, _≤_, suc-le-suc}
 use mathlib.Core.Path.{_≡_, refl, sym, ap, _∙_}
 use mathlib.Core.Bool.{Bool, true, false, cond}
 use mathlib.Core.List.{List, [], _∷_, map}
-use lib.Dec.{eqb, ltb}
+use lib.Dec.{eqb, ltb, leb}
 use lib.ListN.{length, take, getD, length-take, length-map}
 use lib.Seq.{take-all, length-take-le}
 use native.Mathlib.Nat.{le-of-suc-le-suc, not-suc-le-zero, le-refl}
@@ -11,6 +11,7 @@ use native.Mathlib.Omega.{arith}
 use native.Mathlib.Numerals.{add-one}
 use borrow.Author.Tests.{lt-ltb, le-ltb, ne-eqb}
 use Rattle.model.specs.Lists.{first, member}
+use Rattle.stations.specs.Found.{atLeast}
 use Rattle.model.proofs.ListLaws.{first-yes, first-no, first-none, member-finds, member-none}
 
 -- the first of n numbers with the property, from i on; i + n where there is none
@@ -74,6 +75,19 @@ module _ {A : Type 0} where
   pub first-key : (f : A → ℕ) (k : ℕ) (xs : List A) (d : A) (n : ℕ) → n ≤ length xs
       → first (eqb k) (map f (take n xs)) ≡ firstFrom (λ i. eqb k (f (getD xs i d))) 0 n
   first-key f k xs d n o = first-map f (eqb k) (take n xs) ∙ first-taken (λ x. eqb k (f x)) xs d n o
+
+  take-map : (f : A → ℕ) (n : ℕ) (xs : List A) → take n (map f xs) ≡ map f (take n xs)
+  take-map f zero xs = refl
+  take-map f (suc n) [] = refl
+  take-map f (suc n) (x ∷ xs) = ap (_∷_ (f x)) (take-map f n xs)
+
+  -- a search of the column of keys, first for the key itself, then for one that is not lower
+  module _ (f : A → ℕ) (k n m i : ℕ) (xs : List A) (ks : List ℕ) (column : ks ≡ map f xs) (count : m ≡ n) where
+    pub key-position : i ≡ first (eqb k) (take m ks) → i ≡ first (eqb k) (map f (take n xs))
+    key-position e = e ∙ (ap (λ (j : ℕ). first (eqb k) (take j ks)) count ∙ (ap (λ (l : List ℕ). first (eqb k) (take n l)) column ∙ ap (first (eqb k)) (take-map f n xs)))
+
+    pub key-place : i ≡ first (leb k) (take m ks) → i ≡ first (atLeast f k) (take n xs)
+    key-place e = e ∙ (ap (λ (j : ℕ). first (leb k) (take j ks)) count ∙ (ap (λ (l : List ℕ). first (leb k) (take n l)) column ∙ (ap (first (leb k)) (take-map f n xs) ∙ first-map f (leb k) (take n xs))))
 
   -- of a whole list
   pub first-whole : (f : A → ℕ) (k : ℕ) (xs : List A) (d : A) (n : ℕ) → length xs ≡ n

@@ -4,7 +4,7 @@ ghost use mathlib.Core.Bool.{true, false, not, cond};
 ghost use mathlib.Core.List.{map};
 ghost use Prim.Native.Nat.{_≤_};
 ghost use lib.Dec.{eqb, leb};
-ghost use lib.ListN.{take};
+ghost use lib.ListN.{length, take};
 ghost use Rattle.model.specs.Lists.{_and_, first, member, anyBelow};
 ghost use Rattle.model.specs.Limits.{slots, writeLimit, readLimit};
 ghost use Rattle.model.specs.Stations.{noLive, noEntry, writesOf, readsOf, writeKey, readKey, hasWritten, hasRead, valueUnder, isClosing, closingClock, slotMark, isFree};
@@ -176,16 +176,57 @@ pub fn highest_free(station: Station) -> usize
 }
 
 // ---- a transaction's sets
-// The position of the key in the write set; the count where it is not there.
-fn write_at(l: Live, key: u8) -> usize
-    requires { ⌜ l .«write_count» ≤ 8 ⌝ }
-    ensures { λ r. ⌜ r ≡ first (eqb key) (map writeKey (writesOf l)) ⌝ }
+fn write_keys(writes: [Write; 8]) -> [u8; 8]
+    ensures { λ r. ⌜ r ≡ map writeKey writes ⌝ }
 {
-    let n = wide(l.write_count);
+    let mut keys = [0u8; 8];
+    let mut i = 0;
+    while i < 8 {
+        let w = writes[i];
+        keys[i] = w.key;
+        i += 1;
+    }
+    keys
+}
+
+fn read_keys(reads: [Read; 16]) -> [u8; 16]
+    ensures { λ r. ⌜ r ≡ map readKey reads ⌝ }
+{
+    let mut keys = [0u8; 16];
+    let mut i = 0;
+    while i < 16 {
+        let r = reads[i];
+        keys[i] = r.key;
+        i += 1;
+    }
+    keys
+}
+
+// The position of a key among the first n; n where it is not there.
+fn position(keys: &[u8], n: usize, key: u8) -> usize
+    requires { ⌜ n ≤ length (now keys) ⌝ }
+    ensures { λ r. ⌜ r ≡ first (eqb key) (take n (now (keys .entry))) ⌝ }
+{
     let mut i = 0;
     while i < n {
-        let w = l.writes[i];
-        if key == w.key {
+        let k = keys[i];
+        if key == k {
+            return i;
+        }
+        i += 1;
+    }
+    i
+}
+
+// The position of the first among the first n keys that is not lower; n where there is none.
+fn place_for(keys: &[u8], n: usize, key: u8) -> usize
+    requires { ⌜ n ≤ length (now keys) ⌝ }
+    ensures { λ r. ⌜ r ≡ first (leb key) (take n (now (keys .entry))) ⌝ }
+{
+    let mut i = 0;
+    while i < n {
+        let k = keys[i];
+        if key <= k {
             return i;
         }
         i += 1;
@@ -198,7 +239,9 @@ pub fn has_written(l: Live, key: u8) -> bool
     ensures { λ r. ⌜ r ≡ hasWritten key l ⌝ }
 {
     let n = wide(l.write_count);
-    write_at(l, key) < n
+    let writes = l.writes;
+    let keys = write_keys(writes);
+    position(&keys, n, key) < n
 }
 
 // The value under a key of the write set.
@@ -207,26 +250,12 @@ pub fn value_under(l: Live, key: u8) -> u64
     requires { ⌜ hasWritten key l ≡ true ⌝ }
     ensures { λ r. ⌜ r ≡ valueUnder key (writesOf l) ⌝ }
 {
-    let i = write_at(l, key);
-    let w = l.writes[i];
+    let n = wide(l.write_count);
+    let writes = l.writes;
+    let keys = write_keys(writes);
+    let i = position(&keys, n, key);
+    let w = writes[i];
     w.value
-}
-
-// The position of the key in the read set; the count where it is not there.
-fn read_at(l: Live, key: u8) -> usize
-    requires { ⌜ l .«read_count» ≤ 16 ⌝ }
-    ensures { λ r. ⌜ r ≡ first (eqb key) (map readKey (readsOf l)) ⌝ }
-{
-    let n = wide(l.read_count);
-    let mut i = 0;
-    while i < n {
-        let w = l.reads[i];
-        if key == w.key {
-            return i;
-        }
-        i += 1;
-    }
-    i
 }
 
 pub fn has_read(l: Live, key: u8) -> bool
@@ -234,27 +263,12 @@ pub fn has_read(l: Live, key: u8) -> bool
     ensures { λ r. ⌜ r ≡ hasRead key l ⌝ }
 {
     let n = wide(l.read_count);
-    read_at(l, key) < n
+    let reads = l.reads;
+    let keys = read_keys(reads);
+    position(&keys, n, key) < n
 }
 
 // ---- a key put into a write set
-// The position of the first key of the write set that is not lower; the count where there is none.
-fn write_place(l: Live, key: u8) -> usize
-    requires { ⌜ l .«write_count» ≤ 8 ⌝ }
-    ensures { λ r. ⌜ r ≡ first (atLeast writeKey key) (writesOf l) ⌝ }
-{
-    let n = wide(l.write_count);
-    let mut i = 0;
-    while i < n {
-        let w = l.writes[i];
-        if key <= w.key {
-            return i;
-        }
-        i += 1;
-    }
-    i
-}
-
 // The writes with one more at a position, those from there on moved up by one.
 fn write_joined(old: [Write; 8], at: usize, w: Write) -> [Write; 8]
     requires { ⌜ at ≤ 8 ⌝ }
@@ -279,49 +293,29 @@ pub fn with_write(l: Live, key: u8, value: u64) -> Live
     requires { ⌜ (not (hasWritten key l) and leb writeLimit (l .«write_count»)) ≡ false ⌝ }
     ensures { λ r. ⌜ r ≡ withWrite key value l ⌝ }
 {
-    let at = write_place(l, key);
-    let n = l.write_count;
-    let mut m = l;
-    if at < wide(n) {
-        let old = l.writes[at];
-        if key == old.key {
-            let w = Write {
-                key: key,
-                value: value,
-            };
-            m.writes[at] = w;
-            return m;
-        }
-    }
+    let n = wide(l.write_count);
     let old = l.writes;
+    let keys = write_keys(old);
+    let at = place_for(&keys, n, key);
     let w = Write {
         key: key,
         value: value,
     };
+    let mut m = l;
+    if at < n {
+        let was = old[at];
+        if key == was.key {
+            m.writes[at] = w;
+            return m;
+        }
+    }
     let writes = write_joined(old, at, w);
     m.writes = writes;
-    m.write_count = n + 1;
+    m.write_count = l.write_count + 1;
     m
 }
 
 // ---- a read joined to a read set
-// The position of the first key of the read set that is not lower; the count where there is none.
-fn read_place(l: Live, key: u8) -> usize
-    requires { ⌜ l .«read_count» ≤ 16 ⌝ }
-    ensures { λ r. ⌜ r ≡ first (atLeast readKey key) (readsOf l) ⌝ }
-{
-    let n = wide(l.read_count);
-    let mut i = 0;
-    while i < n {
-        let w = l.reads[i];
-        if key <= w.key {
-            return i;
-        }
-        i += 1;
-    }
-    i
-}
-
 // The reads with one more at a position, those from there on moved up by one.
 fn read_joined(old: [Read; 16], at: usize, r: Read) -> [Read; 16]
     requires { ⌜ at ≤ 16 ⌝ }
@@ -346,22 +340,22 @@ pub fn with_read(l: Live, key: u8, id: Id) -> Live
     requires { ⌜ (not (hasRead key l) and leb readLimit (l .«read_count»)) ≡ false ⌝ }
     ensures { λ r. ⌜ r ≡ withRead key id l ⌝ }
 {
-    let at = read_place(l, key);
-    let n = l.read_count;
+    let n = wide(l.read_count);
+    let old = l.reads;
+    let keys = read_keys(old);
+    let at = place_for(&keys, n, key);
+    let r = Read { key: key, id: id };
     let mut m = l;
-    if at < wide(n) {
-        let old = l.reads[at];
-        if key == old.key {
-            let r = Read { key: key, id: id };
+    if at < n {
+        let was = old[at];
+        if key == was.key {
             m.reads[at] = r;
             return m;
         }
     }
-    let old = l.reads;
-    let r = Read { key: key, id: id };
     let reads = read_joined(old, at, r);
     m.reads = reads;
-    m.read_count = n + 1;
+    m.read_count = l.read_count + 1;
     m
 }
 
@@ -392,19 +386,6 @@ fn closing_clock(p: Phase) -> u64
     }
 }
 
-fn write_keys(writes: [Write; 8]) -> [u8; 8]
-    ensures { λ r. ⌜ r ≡ map writeKey writes ⌝ }
-{
-    let mut keys = [0u8; 8];
-    let mut i = 0;
-    while i < 8 {
-        let w = writes[i];
-        keys[i] = w.key;
-        i += 1;
-    }
-    keys
-}
-
 // The entry that a closing transaction becomes.
 pub fn entry_for(l: Live) -> Entry
     ensures { λ r. ⌜ r ≡ entryFor l ⌝ }
@@ -428,15 +409,8 @@ pub fn record_of(e: Entry, key: u8) -> usize
     ensures { λ r. ⌜ r ≡ recordOf e key ⌝ }
 {
     let n = wide(e.count);
-    let mut i = 0;
-    while i < n {
-        let k = e.keys[i];
-        if key == k {
-            return i + 1;
-        }
-        i += 1;
-    }
-    i + 1
+    let keys = e.keys;
+    position(&keys, n, key) + 1
 }
 
 // ---- what a call needs

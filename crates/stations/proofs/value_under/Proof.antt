@@ -4,32 +4,47 @@ use mathlib.Core.Path.{_≡_}
 use lib.ListN.{length, length-map}
 use native.Mathlib.Omega.{arith}
 use borrow.Author.Needs.{needs}
+use Rattle.model.specs.Stations.{writeKey, writesOf}
+use Rattle.stations.proofs.Search.{key-position}
 use Rattle.stations.proofs.Sets.{written-below, value-there}
 use Rattle.stations.proofs.value_under.Statement.{statement}
 use Rattle.stations.proofs.value_under.Tie as tie
 
-write-at-requires : tie.Need-write-at-requires
-write-at-requires c κs = search needs
+wide-requires : tie.Need-wide-requires
+wide-requires c κs = search needs
+
+write-keys-requires : tie.Need-write-keys-requires
+write-keys-requires c κs = search needs
+
+slice-aggregate-position : tie.Need-slice-aggregate-position
+slice-aggregate-position c = search needs
+
+position-requires : tie.Need-position-requires
+position-requires c κs = search needs
+
+-- the position found is in the write set
+below : (c : tie.After-position) → c .position .result < c .before .before .before .before .before .args .l .«write_count»
+unfolding writesOf
+below c =
+    let s = c .before .before .before .before .before in
+    let z : length (s .args .l .writes) ≡ 8 = simp length-map at (s .good .0 .1 .1 .1 .1 .1 .0 .1 .0 .1) in
+    written-below (s .args .l) (s .args .key) (c .position .result) z (s .pre .0)
+    (key-position writeKey _ _ _ _ _ _ (c .before .before .write-keys .ensures) (c .before .before .before .before .wide .ensures) (c .position .ensures)) (s .pre .1)
 
 mul-w : tie.Need-mul-w
-mul-w c =
-    let s = c .before in
-    let z : length (s .args .t1 .writes) ≡ 8 = simp length-map at (s .good .0 .1 .1 .1 .1 .1 .0 .1 .0 .1) in
-    let o : c .write-at .result < s .args .t1 .«write_count» = written-below (s .args .t1) (s .args .key) (c .write-at .result) z (s .pre .0) (c .write-at .ensures) (s .pre .1) in
-    omega (arith, o, s .pre .0)
+mul-w c = omega (arith, below c, c .before .before .before .before .before .pre .0)
 
-element-copy-out-w : tie.Need-element-copy-out-w
-element-copy-out-w c =
-    let s = c .before in
-    let z : length (s .args .t1 .writes) ≡ 8 = simp length-map at (s .good .0 .1 .1 .1 .1 .1 .0 .1 .0 .1) in
-    let o : c .write-at .result < s .args .t1 .«write_count» = written-below (s .args .t1) (s .args .key) (c .write-at .result) z (s .pre .0) (c .write-at .ensures) (s .pre .1) in
-    omega (arith, o, s .pre .0)
+array-copy-out-w : tie.Need-array-copy-out-w
+array-copy-out-w c = omega (arith, below c, c .before .before .before .before .before .pre .0)
 
 returns : tie.Need-returns
+unfolding writesOf
 returns c =
-    let s = c .before .before in
-    let z : length (s .args .t1 .writes) ≡ 8 = simp length-map at (s .good .0 .1 .1 .1 .1 .1 .0 .1 .0 .1) in
-    value-there (s .args .t1) (s .args .key) (c .before .write-at .result) z (s .pre .0) (c .before .write-at .ensures) (s .pre .1)
+    let p = c .before in
+    let s = p .before .before .before .before .before in
+    let z : length (s .args .l .writes) ≡ 8 = simp length-map at (s .good .0 .1 .1 .1 .1 .1 .0 .1 .0 .1) in
+    value-there (s .args .l) (s .args .key) (p .position .result) z (s .pre .0)
+    (key-position writeKey _ _ _ _ _ _ (p .before .before .write-keys .ensures) (p .before .before .before .before .wide .ensures) (p .position .ensures)) (s .pre .1)
 
 pub value-under-spec : {M : Type 1} → statement M
-value-under-spec = tie.close (tie.spec write-at-requires mul-w element-copy-out-w returns)
+value-under-spec = tie.close (tie.spec wide-requires write-keys-requires slice-aggregate-position position-requires mul-w array-copy-out-w returns)
