@@ -21,7 +21,7 @@ use Rattle.model.specs.Stations.{readsOf, keysOf, writeKey, readKey, slotMark}
 use Rattle.model.specs.Records.{entryRules}
 use Rattle.model.specs.Sound.{isNoWrite, isNoRead, isNoEntry, entryRight}
 use Rattle.soundness.specs.Parts.{fits, setRight, keysRight, writesRight, readsRight, liveColumn, heldColumn, txnColumn, markColumn, slotIn}
-use Rattle.soundness.specs.Parts.{isNamed, namedBy, slotFree}
+use Rattle.soundness.specs.Parts.{shape, isNamed, namedBy, placeFits, slotFree}
 use Rattle.soundness.proofs.Loops.{all-more, all-stop, all-end, all-split}
 
 -- ── sets within their limits ──
@@ -103,6 +103,19 @@ module _ (es : List Entry) (ts : List ℕ) (l : Live) (j : ℕ) (rest whole : Bo
   pub named-end : length (readsOf l) ≤ j → whole ≡ rest
   unfolding _and_
   named-end h = v ∙ rw (all-end (namedBy es ts) (readsOf l) j h)
+
+-- a place that is wrong by itself; a place that is right, by its reads
+module _ (es : List Entry) (ts : List ℕ) (l : Live) where
+  pub place-wrong : shape l ≡ false → placeFits es ts l ≡ false
+  unfolding placeFits _and_
+  place-wrong e = rw e
+
+  pub place-reads : shape l ≡ true → placeFits es ts l ≡ all (namedBy es ts) (readsOf l)
+  unfolding placeFits _and_
+  place-reads e = rw e
+
+  pub place-unread : shape l ≡ true → length (readsOf l) ≤ 0 → placeFits es ts l ≡ true
+  place-unread e h = place-reads e ∙ all-end (namedBy es ts) (readsOf l) 0 h
 
 -- ── columns ──
 pub mark-at : (ls : List Live) (i : ℕ) → getD (markColumn ls) i 0 ≡ slotMark (getD ls i (record { txn = 0; phase = Unused; «write_count» = 0; writes = []; «read_count» = 0; reads = [] }) .phase)

@@ -30,8 +30,8 @@ use Rattle.model.proofs.IdLaws.{same-id}
 use Rattle.model.proofs.StationLaws.{unheld-txn, unheld-of}
 use Rattle.model.proofs.SoundLaws.{Used, used-at, used-of, write-limit, read-limit, writes-ascending, reads-ascending, sets-of, writes-zero}
 use Rattle.model.proofs.SoundLaws.{reads-zero, zeros-of, Shut, shut-at, shut-of, unheld-wrote}
-use Rattle.soundness.specs.Parts.{writesRight, readsRight, listsRight, countsRight, shapeRight, shape, liveColumn, heldColumn, txnColumn}
-use Rattle.soundness.specs.Parts.{markColumn, slotIn, isNamed, namedBy, allNamed, slotFree, parts}
+use Rattle.soundness.specs.Parts.{writesRight, readsRight, listsRight, countsRight, shapeRight, liveColumn, heldColumn, txnColumn}
+use Rattle.soundness.specs.Parts.{markColumn, slotIn, isNamed, namedBy, placeFits, slotFree, parts}
 use Rattle.soundness.proofs.PartLaws.{free-none, free-high, free-is, held-txn-at, set-is}
 
 -- ── tests ──
@@ -179,7 +179,7 @@ module _ (st : Station) (hl : length (st .live) ≡ 8) (he : length (st .entries
       ∙ getD-append-add (liveColumn (st .live)) (heldColumn (st .entries)) d 0 ∙ held-txn-at (st .entries) d
 
   to-parts : sound st ≡ true → parts (st .live) (st .entries) ≡ true
-  unfolding sound parts liveTxns heldTxns closingSlots
+  unfolding sound parts placeFits liveTxns heldTxns closingSlots
   to-parts h =
       let a : all entryRight (st .entries) ≡ true = and-left _ _ (and-left _ _ (and-left _ _ h)) in
       let b : all (λ l. placeRight st (l .phase) l) (st .live) ≡ true = and-right _ _ (and-left _ _ (and-left _ _ h)) in
@@ -189,34 +189,31 @@ module _ (st : Station) (hl : length (st .live) ≡ 8) (he : length (st .entries
       λ l q. place-parts st (txnColumn (st .live) (st .entries)) slot-at l (l .phase) refl q in
       and-intro _ _
       (and-intro _ _
-      (and-intro _ _
-      (and-intro _ _
-      (and-intro _ _ a (all-by (λ l. placeRight st (l .phase) l) shape (st .live) (λ l _ q. at l q .0) b))
-      u)
-      (all-by (λ l. placeRight st (l .phase) l) (allNamed (st .entries) (txnColumn (st .live) (st .entries))) (st .live)
-      (λ l _ q. all-by (names (st .entries)) (namedBy (st .entries) (txnColumn (st .live) (st .entries))) (readsOf l) (λ r _ z. names-named (st .live) (st .entries) hl he a u r z) (at l q .1)) b))
+      (and-intro _ _ (and-intro _ _ a u)
+      (all-by (λ l. placeRight st (l .phase) l) (placeFits (st .entries) (txnColumn (st .live) (st .entries))) (st .live)
+      (λ l _ q.
+      and-intro _ _ (at l q .0)
+      (all-by (names (st .entries)) (namedBy (st .entries) (txnColumn (st .live) (st .entries))) (readsOf l) (λ r _ z. names-named (st .live) (st .entries) hl he a u r z) (at l q .1))) b))
       m)
       (all-map (λ (l : Live). slotMark (l .phase)) (λ l. placeRight st (l .phase) l) (slotFree (txnColumn (st .live) (st .entries))) (λ l q. at l q .2) (st .live) b)
 
   of-parts : parts (st .live) (st .entries) ≡ true → sound st ≡ true
-  unfolding sound parts liveTxns heldTxns closingSlots
+  unfolding sound parts placeFits liveTxns heldTxns closingSlots
   of-parts h =
       let f : all (slotFree (txnColumn (st .live) (st .entries))) (markColumn (st .live)) ≡ true = and-right _ _ h in
       let m : distinct (markColumn (st .live)) ≡ true = and-right _ _ (and-left _ _ h) in
-      let n : all (allNamed (st .entries) (txnColumn (st .live) (st .entries))) (st .live) ≡ true = and-right _ _ (and-left _ _ (and-left _ _ h)) in
-      let g : (all entryRight (st .entries) and all shape (st .live) and distinct (txnColumn (st .live) (st .entries))) ≡ true = and-left _ _ (and-left _ _ (and-left _ _ h)) in
-      let a : all entryRight (st .entries) ≡ true = and-left _ _ (and-left _ _ g) in
-      let s : all shape (st .live) ≡ true = and-right _ _ (and-left _ _ g) in
-      let u : distinct (txnColumn (st .live) (st .entries)) ≡ true = and-right _ _ g in
+      let p : all (placeFits (st .entries) (txnColumn (st .live) (st .entries))) (st .live) ≡ true = and-right _ _ (and-left _ _ (and-left _ _ h)) in
+      let a : all entryRight (st .entries) ≡ true = and-left _ _ (and-left _ _ (and-left _ _ (and-left _ _ h))) in
+      let u : distinct (txnColumn (st .live) (st .entries)) ≡ true = and-right _ _ (and-left _ _ (and-left _ _ (and-left _ _ h))) in
       let f′ = all-unmap (λ (l : Live). slotMark (l .phase)) (slotFree (txnColumn (st .live) (st .entries))) (st .live) f in
       and-intro _ _
       (and-intro _ _
       (and-intro _ _ a
-      (all-by shape (λ l. placeRight st (l .phase) l) (st .live)
+      (all-by (placeFits (st .entries) (txnColumn (st .live) (st .entries))) (λ l. placeRight st (l .phase) l) (st .live)
       (λ l e q.
-      parts-place st (txnColumn (st .live) (st .entries)) slot-at l (l .phase) refl q
-      (all-by (namedBy (st .entries) (txnColumn (st .live) (st .entries))) (names (st .entries)) (readsOf l) (λ r _ z. named-names (st .live) (st .entries) hl he r z) (all-mem (allNamed (st .entries) (txnColumn (st .live) (st .entries))) (st .live) n l e))
-      (all-mem (λ (x : Live). slotFree (txnColumn (st .live) (st .entries)) (slotMark (x .phase))) (st .live) f′ l e)) s))
+      parts-place st (txnColumn (st .live) (st .entries)) slot-at l (l .phase) refl (and-left _ _ q)
+      (all-by (namedBy (st .entries) (txnColumn (st .live) (st .entries))) (names (st .entries)) (readsOf l) (λ r _ z. named-names (st .live) (st .entries) hl he r z) (and-right _ _ q))
+      (all-mem (λ (x : Live). slotFree (txnColumn (st .live) (st .entries)) (slotMark (x .phase))) (st .live) f′ l e)) p))
       u)
       m
 

@@ -84,6 +84,10 @@ namedBy es ts r = ltb (slotIn ts (r .id .txn)) slots and isNamed (getD es (slotI
 abbrev pub allNamed : List Entry → List ℕ → Live → Bool
 allNamed es ts l = all (namedBy es ts) (readsOf l)
 
+-- a live place: right by itself, and all its reads named
+unfoldable pub placeFits : List Entry → List ℕ → Live → Bool
+placeFits es ts l = shape l and allNamed es ts l
+
 -- a closing transaction's slot, counted from 1, is there and not held
 unfoldable pub slotFree : List ℕ → ℕ → Bool
 slotFree ts m = eqb m 0 or (leb m slots and eqb (getD ts (m + 7) 0) 0)
@@ -91,5 +95,5 @@ slotFree ts m = eqb m 0 or (leb m slots and eqb (getD ts (m + 7) 0) 0)
 -- all of it, in the order of the tests
 unfoldable pub parts : List Live → List Entry → Bool
 parts ls es =
-    all entryRight es and all shape ls and distinct (txnColumn ls es)
-    and all (allNamed es (txnColumn ls es)) ls and distinct (markColumn ls) and all (slotFree (txnColumn ls es)) (markColumn ls)
+    all entryRight es and distinct (txnColumn ls es) and all (placeFits es (txnColumn ls es)) ls
+    and distinct (markColumn ls) and all (slotFree (txnColumn ls es)) (markColumn ls)

@@ -8,11 +8,11 @@ use model::Write;
 ghost use mathlib.Core.Path.{_≡_};
 ghost use Prim.Native.Nat.{_≤_};
 ghost use lib.Dec.{eqb};
-ghost use lib.ListN.{length, drop};
-ghost use Rattle.model.specs.Lists.{all, member, distinct};
+ghost use lib.ListN.{length};
+ghost use Rattle.model.specs.Lists.{all, count, distinct};
 ghost use Rattle.model.specs.Stations.{readsOf, wrote, slotMark};
 ghost use Rattle.model.specs.Sound.{isNoWrite, isNoRead, isNoLive, entryRight, sound};
-ghost use Rattle.soundness.specs.Parts.{fits, keysRight, writesRight, readsRight, noWrites, noReads, listsRight, countsRight, shape, txnColumn, markColumn, slotIn, isNamed, allNamed, slotFree};
+ghost use Rattle.soundness.specs.Parts.{fits, keysRight, writesRight, readsRight, noWrites, noReads, listsRight, countsRight, shape, txnColumn, markColumn, slotIn, isNamed, placeFits, slotFree};
 
 fn wide(x: u8) -> usize
     ensures { λ r. ⌜ r ≡ x ⌝ }
@@ -274,20 +274,6 @@ fn live_right(l: Live) -> bool
     }
 }
 
-fn lives_right(live: [Live; 8]) -> bool
-    ensures { λ r. ⌜ r ≡ all shape live ⌝ }
-{
-    let mut i = 0;
-    while i < 8 {
-        let l = live[i];
-        if !live_right(l) {
-            return false;
-        }
-        i += 1;
-    }
-    true
-}
-
 // ---- columns ----
 // The transactions of the live places, then of the entries; 0 where unused.
 fn txns_of(live: [Live; 8], entries: [Entry; 64]) -> [u32; 72]
@@ -336,23 +322,25 @@ fn marks_of(live: [Live; 8]) -> [u32; 8]
 }
 
 // ---- numbers that nothing else has ----
-// All of them are looked at: a loop with no other way out compares several at a time.
-fn among(xs: &[u32], start: usize, x: u32) -> bool
-    ensures { λ r. ⌜ r ≡ member x (drop start (now (xs .entry))) ⌝ }
+// How often a number stands in the list. A loop with no other way out, and a count as wide as the numbers, compares several at a time.
+fn times(xs: &[u32], x: u32) -> u32
+    requires { ⌜ length (now xs) ≤ 72 ⌝ }
+    ensures { λ r. ⌜ r ≡ count (eqb x) (now (xs .entry)) ⌝ }
 {
-    let mut found = false;
-    let mut j = start;
+    let mut n = 0u32;
+    let mut j = 0;
     while j < xs.len() {
         if xs[j] == x {
-            found = true;
+            n += 1;
         }
         j += 1;
     }
-    found
+    n
 }
 
 // No number but 0 stands twice.
 fn differ(xs: &[u32]) -> bool
+    requires { ⌜ length (now xs) ≤ 72 ⌝ }
     ensures { λ r. ⌜ r ≡ distinct (now (xs .entry)) ⌝ }
 {
     let mut i = 0;
@@ -360,7 +348,7 @@ fn differ(xs: &[u32]) -> bool
         let x = xs[i];
         i += 1;
         if x != 0 {
-            if among(xs, i, x) {
+            if 1 < times(xs, x) {
                 return false;
             }
         }
@@ -443,23 +431,33 @@ fn read_count(l: Live) -> usize
     if n < 16 { wide(n) } else { 16 }
 }
 
-// Every read names the entry that its transaction has.
-fn reads_named(live: [Live; 8], entries: [Entry; 64], txns: &[u32]) -> bool
-    ensures { λ r. ⌜ r ≡ all (allNamed entries (now (txns .entry))) live ⌝ }
+// Every live place is right by itself, and each of its reads names the entry that its transaction has. A place is read anew for each
+// use: only one with reads is then copied whole.
+fn lives_right(station: Station, txns: &[u32]) -> bool
+    ensures { λ r. ⌜ r ≡ all (placeFits (station .entries) (now (txns .entry))) (station .live) ⌝ }
 {
     let mut i = 0;
     while i < 8 {
-        let l = live[i];
-        let n = read_count(l);
+        let l = station.live[i];
+        if !live_right(l) {
+            return false;
+        }
+        let counted = station.live[i];
+        let n = read_count(counted);
+        if n == 0 {
+            i += 1;
+            continue;
+        }
+        let reader = station.live[i];
         let mut j = 0;
         while j < n {
-            let read = l.reads[j];
+            let read = reader.reads[j];
             let id = read.id;
             let d = slot_of(txns, id.txn);
             if 63 < d {
                 return false;
             }
-            let e = entries[d];
+            let e = station.entries[d];
             if !named(e, read) {
                 return false;
             }
@@ -479,14 +477,11 @@ pub fn is_sound(station: Station) -> bool
     if !entries_right(entries) {
         return false;
     }
-    if !lives_right(live) {
-        return false;
-    }
     let txns = txns_of(live, entries);
     if !differ(&txns) {
         return false;
     }
-    if !reads_named(live, entries, &txns) {
+    if !lives_right(station, &txns) {
         return false;
     }
     let marks = marks_of(live);

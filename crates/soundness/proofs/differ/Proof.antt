@@ -1,10 +1,11 @@
-use Prim.Native.Nat.{_-_, _≤_}
+use Prim.Native.Nat.{_-_, _≤_, _<_}
 use mathlib.Core.Path.{_≡_, refl, sym, _∙_}
 use native.Mathlib.Omega.{arith}
-use lib.ListN.{length, drop}
+use lib.Dec.{eqb}
+use lib.ListN.{length, drop, getD}
 use borrow.Author.Needs.{needs}
-use Rattle.model.specs.Lists.{distinct}
-use Rattle.soundness.proofs.Loops.{distinct-zero, distinct-new, distinct-old, distinct-end}
+use Rattle.model.specs.Lists.{count, distinct}
+use Rattle.soundness.proofs.Loops.{distinct-zero, distinct-once, distinct-twice, distinct-end}
 use Rattle.soundness.proofs.differ.Statement.{statement}
 use Rattle.soundness.proofs.differ.Tie as tie
 
@@ -26,14 +27,16 @@ shared-slice-read-x c = search needs
 add-i : tie.Need-add-i Inv-loop μ-loop
 add-i c = search needs
 
-among-requires : tie.Need-among-requires Inv-loop μ-loop
-among-requires c κs = tt
+times-requires : tie.Need-times-requires Inv-loop μ-loop
+times-requires c κs = search needs
 
 returns : tie.Need-returns Inv-loop μ-loop
 returns c =
     let l = c .before .before .before .before .before in
     let xs = l .before .before .args .xs .now in
-    sym (l .loop .inv .1 ∙ distinct-old xs (l .loop .i) (omega arith) (c .before .before .if1 .taken) (sym (c .before .among .ensures) ∙ c .if2 .taken))
+    let x = getD xs (l .loop .i) 0 in
+    let t : 1 < count (eqb x) xs = omega (arith, c .before .times .ensures, c .if2 .taken) in
+    sym (distinct-twice x xs (c .before .before .if1 .taken) t)
 
 loop-less : tie.Need-loop-less Inv-loop μ-loop
 loop-less c = search needs
@@ -42,7 +45,9 @@ loop-again : tie.Need-loop-again Inv-loop μ-loop
 loop-again c =
     let l = c .before .before .before .before .before in
     let xs = l .before .before .args .xs .now in
-    (omega arith, l .loop .inv .1 ∙ distinct-new xs (l .loop .i) (omega arith) (c .before .before .if1 .taken) (sym (c .before .among .ensures) ∙ c .if2 .left))
+    let x = getD xs (l .loop .i) 0 in
+    let t : count (eqb x) xs ≤ 1 = omega (arith, c .before .times .ensures, c .if2 .left) in
+    (omega arith, l .loop .inv .1 ∙ distinct-once xs (l .loop .i) (omega arith) (c .before .before .if1 .taken) t)
 
 loop-less-2 : tie.Need-loop-less-2 Inv-loop μ-loop
 loop-less-2 c = search needs
@@ -69,7 +74,7 @@ differ-spec =
     mul-x
     shared-slice-read-x
     add-i
-    among-requires
+    times-requires
     returns
     loop-less
     loop-again

@@ -1,3 +1,6 @@
+use mathlib.Core.Path.{_≡_}
+use mathlib.Core.Logic.{_≢_}
+use native.Mathlib.Omega.{arith}
 use borrow.Author.Tests.{eq-eqb, ne-eqb}
 use Rattle.model.specs.Lists.{_and_}
 use Rattle.model.specs.Ids.{sameId}
@@ -7,18 +10,27 @@ use Rattle.soundness.proofs.named.Tie as tie
 
 returns : tie.Need-returns
 unfolding isNamed sameId _and_
-returns c = rw (ne-eqb _ _ (c .if1 .taken))
+returns c =
+    let a = c .before .before .before .before .before .args in
+    let n : a .e .id .clock ≢ a .read .id .clock = λ q. omega (arith, q, c .if1 .taken) in
+    rw (ne-eqb _ _ n)
 
 returns-2 : tie.Need-returns-2
 unfolding isNamed sameId _and_
-returns-2 c = rw (eq-eqb _ _ (c .before .before .before .if1 .left), ne-eqb _ _ (c .if2 .taken))
+returns-2 c =
+    let a = c .before .before .before .before .before .before .before .before .args in
+    let q : a .e .id .clock ≡ a .read .id .clock = omega (arith, c .before .before .before .if1 .left) in
+    rw (eq-eqb _ _ q, ne-eqb _ _ (c .if2 .taken))
 
 wrote-key-requires : tie.Need-wrote-key-requires
 wrote-key-requires c κs = tt
 
 returns-3 : tie.Need-returns-3
 unfolding isNamed sameId _and_
-returns-3 c = rw (eq-eqb _ _ (c .before .before .before .before .if1 .left), eq-eqb _ _ (c .before .if2 .left)) (c .wrote-key .ensures)
+returns-3 c =
+    let a = c .before .before .before .before .before .before .before .before .before .args in
+    let q : a .e .id .clock ≡ a .read .id .clock = omega (arith, c .before .before .before .before .if1 .left) in
+    rw (eq-eqb _ _ q, eq-eqb _ _ (c .before .if2 .left)) (c .wrote-key .ensures)
 
 pub named-spec : {M : Type 1} → statement M
 named-spec = tie.close (tie.spec returns returns-2 wrote-key-requires returns-3)
