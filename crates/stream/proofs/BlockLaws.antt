@@ -1,0 +1,118 @@
+-- A block fed line by line.
+use Prim.Native.Nat.{ℕ, suc, _+_, _-_, _<_, _≤_}
+use mathlib.Core.Path.{_≡_, refl, sym, ap, ap₂, _∙_}
+use mathlib.Core.Bool.{Bool, true, false}
+use mathlib.Core.List.{List, [], _∷_, _++_, append-nil}
+use lib.Dec.{eqb}
+use lib.ListN.{length, take, drop, length-append, length-take, length-drop, drop-of-length-le}
+use lib.Seq.{take-append-le, drop-append-le, take-append-add, drop-append-add, drop-drop, length-take-le}
+use native.Mathlib.Omega.{arith}
+use native.Mathlib.Nat.{le-of-suc-le-suc}
+use borrow.Author.Tests.{eqb-true}
+use borrow.Rule.Slice.PartMut.{putMid}
+use Rattle.sheet.specs.Words.{newline}
+use Rattle.sheet.specs.Sheets.{Desk, firstLine, afterLine, lineOutput}
+use Rattle.stream.specs.Streams.{Stream, joined, afterByte, byteOutput, afterBytes, bytesOutput}
+use Rattle.stream.specs.Parts.{joinedWith}
+use Rattle.stream.proofs.JoinLaws.{line-none, line-yes, line-no}
+
+abbrev pub at : Desk → List ℕ → Stream
+at k l = record { desk = k; line = l }
+
+-- ── one byte ──
+pub newline-after : (b : ℕ) (k : Desk) (l : List ℕ) → eqb b newline ≡ true → afterByte b (at k l) ≡ at (afterLine l k) []
+unfolding afterByte
+newline-after b k l h = rw h
+
+pub newline-output : (b : ℕ) (k : Desk) (l : List ℕ) → eqb b newline ≡ true → byteOutput b (at k l) ≡ lineOutput l k
+unfolding byteOutput
+newline-output b k l h = rw h
+
+pub byte-after : (b : ℕ) (k : Desk) (l : List ℕ) → eqb b newline ≡ false → afterByte b (at k l) ≡ at k (joined l b)
+unfolding afterByte
+byte-after b k l h = rw h
+
+pub byte-output : (b : ℕ) (k : Desk) (l : List ℕ) → eqb b newline ≡ false → byteOutput b (at k l) ≡ []
+unfolding byteOutput
+byte-output b k l h = rw h
+
+-- ── a line's bytes ──
+pub line-after : (bs : List ℕ) (k : Desk) (l : List ℕ) → afterBytes bs (at k l) ≡ afterBytes (drop (length (firstLine bs)) bs) (at k (joinedWith l (firstLine bs)))
+unfolding joinedWith afterBytes
+line-after [] k l = sym (ap (λ (m : List ℕ). afterBytes (drop (length m) []) (at k (joinedWith l m))) line-none)
+line-after (b ∷ bs) k l = go (eqb b newline) refl (line-after bs k (joined l b))
+  where
+    go : (t : Bool) → eqb b newline ≡ t → afterBytes bs (at k (joined l b)) ≡ afterBytes (drop (length (firstLine bs)) bs) (at k (joinedWith (joined l b) (firstLine bs)))
+        → afterBytes (b ∷ bs) (at k l) ≡ afterBytes (drop (length (firstLine (b ∷ bs))) (b ∷ bs)) (at k (joinedWith l (firstLine (b ∷ bs))))
+    go true e ih = rw (line-yes b bs e)
+    go false e ih = rw (line-no b bs e) (ap (afterBytes bs) (byte-after b k l e) ∙ ih)
+
+pub line-output : (bs : List ℕ) (k : Desk) (l : List ℕ) → bytesOutput bs (at k l) ≡ bytesOutput (drop (length (firstLine bs)) bs) (at k (joinedWith l (firstLine bs)))
+unfolding joinedWith bytesOutput
+line-output [] k l = sym (ap (λ (m : List ℕ). bytesOutput (drop (length m) []) (at k (joinedWith l m))) line-none)
+line-output (b ∷ bs) k l = go (eqb b newline) refl (line-output bs k (joined l b))
+  where
+    go : (t : Bool) → eqb b newline ≡ t → bytesOutput bs (at k (joined l b)) ≡ bytesOutput (drop (length (firstLine bs)) bs) (at k (joinedWith (joined l b) (firstLine bs)))
+        → bytesOutput (b ∷ bs) (at k l) ≡ bytesOutput (drop (length (firstLine (b ∷ bs))) (b ∷ bs)) (at k (joinedWith l (firstLine (b ∷ bs))))
+    go true e ih = rw (line-yes b bs e)
+    go false e ih = rw (line-no b bs e) (ap₂ _++_ (byte-output b k l e) (ap (bytesOutput bs) (byte-after b k l e)) ∙ ih)
+
+-- a line that does not reach the block's end is ended by a newline
+line-stops : (bs : List ℕ) → length (firstLine bs) < length bs → drop (length (firstLine bs)) bs ≡ newline ∷ drop (suc (length (firstLine bs))) bs
+line-stops [] h = absurd (omega arith)
+line-stops (b ∷ bs) h = go (eqb b newline) refl (line-stops bs)
+  where
+    go : (t : Bool) → eqb b newline ≡ t → (length (firstLine bs) < length bs → drop (length (firstLine bs)) bs ≡ newline ∷ drop (suc (length (firstLine bs))) bs)
+        → drop (length (firstLine (b ∷ bs))) (b ∷ bs) ≡ newline ∷ drop (suc (length (firstLine (b ∷ bs)))) (b ∷ bs)
+    go true e ih = rw (line-yes b bs e) (ap (λ (x : ℕ). x ∷ bs) (eqb-true b newline e))
+    go false e ih =
+        let h′ : suc (length (firstLine bs)) < suc (length bs) = rw (line-no b bs e) at h in
+        rw (line-no b bs e) (ih (omega arith))
+
+-- ── a turn of the loop ──
+module _ (input : List ℕ) (from end : ℕ) (k : Desk) (l l′ : List ℕ) (o : from ≤ length input) (e : end ≡ from + length (firstLine (drop from input))) (j : l′ ≡ joinedWith l (firstLine (drop from input))) where
+  rest : drop (length (firstLine (drop from input))) (drop from input) ≡ drop end input
+  rest = drop-drop (length (firstLine (drop from input))) from input ∙ ap (λ (n : ℕ). drop n input) (sym e)
+
+  to-after : afterBytes (drop from input) (at k l) ≡ afterBytes (drop end input) (at k l′)
+  to-after = line-after (drop from input) k l ∙ ap₂ (λ (bs m : List ℕ). afterBytes bs (at k m)) rest (sym j)
+
+  to-output : bytesOutput (drop from input) (at k l) ≡ bytesOutput (drop end input) (at k l′)
+  to-output = line-output (drop from input) k l ∙ ap₂ (λ (bs m : List ℕ). bytesOutput bs (at k m)) rest (sym j)
+
+  stops : end < length input → drop end input ≡ newline ∷ drop (end + 1) input
+  stops h =
+      let m : from + suc (length (firstLine (drop from input))) ≡ end + 1 = omega arith in
+      sym rest ∙ line-stops (drop from input) (simp length-drop (omega arith))
+      ∙ ap (λ (bs : List ℕ). newline ∷ bs) (drop-drop (suc (length (firstLine (drop from input)))) from input ∙ ap (λ (n : ℕ). drop n input) m)
+
+  pub turn-after : end < length input → afterBytes (drop from input) (at k l) ≡ afterBytes (drop (end + 1) input) (at (afterLine l′ k) [])
+  unfolding afterBytes
+  turn-after h = to-after ∙ ap (λ (bs : List ℕ). afterBytes bs (at k l′)) (stops h) ∙ ap (afterBytes (drop (end + 1) input)) (newline-after newline k l′ refl)
+
+  pub turn-output : end < length input → bytesOutput (drop from input) (at k l) ≡ lineOutput l′ k ++ bytesOutput (drop (end + 1) input) (at (afterLine l′ k) [])
+  unfolding bytesOutput
+  turn-output h = to-output ∙ ap (λ (bs : List ℕ). bytesOutput bs (at k l′)) (stops h) ∙ ap₂ _++_ (newline-output newline k l′ refl) (ap (bytesOutput (drop (end + 1) input)) (newline-after newline k l′ refl))
+
+  pub last-after : length input ≤ end → afterBytes (drop from input) (at k l) ≡ at k l′
+  unfolding afterBytes
+  last-after h = to-after ∙ ap (λ (bs : List ℕ). afterBytes bs (at k l′)) (drop-of-length-le input h)
+
+  pub last-output : length input ≤ end → bytesOutput (drop from input) (at k l) ≡ []
+  unfolding bytesOutput
+  last-output h = to-output ∙ ap (λ (bs : List ℕ). bytesOutput bs (at k l′)) (drop-of-length-le input h)
+
+-- ── what was printed after the first a bytes of the output ──
+module _ (a n : ℕ) (xs ys : List ℕ) (o : a ≤ length xs) (p : n ≤ length ys) (l : length ys ≡ length xs - a) where
+  pub out-taken : take (a + n) (putMid a (length xs - a) xs ys) ≡ take a xs ++ take n ys
+  out-taken =
+      let e : a + n ≡ length (take a xs) + n = omega (arith, length-take-le a xs o) in
+      ap (λ (m : ℕ). take m (putMid a (length xs - a) xs ys)) e ∙ take-append-add (take a xs) (ys ++ drop (length xs - a) (drop a xs)) n
+      ∙ ap (λ (t : List ℕ). take a xs ++ t) (take-append-le n ys _ p)
+
+  pub out-dropped : drop (a + n) (putMid a (length xs - a) xs ys) ≡ drop n ys
+  out-dropped =
+      let e : a + n ≡ length (take a xs) + n = omega (arith, length-take-le a xs o) in
+      let z : length (drop a xs) ≤ length xs - a = simp length-drop (omega arith) in
+      ap (λ (m : ℕ). drop m (putMid a (length xs - a) xs ys)) e ∙ drop-append-add (take a xs) (ys ++ drop (length xs - a) (drop a xs)) n
+      ∙ drop-append-le n ys _ p ∙ ap (λ (t : List ℕ). drop n ys ++ t) (drop-of-length-le (drop a xs) z) ∙ append-nil (drop n ys)

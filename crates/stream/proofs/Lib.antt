@@ -1,0 +1,3 @@
+pub mod JoinLaws
+pub mod BlockLaws
+pub mod RunLaws

@@ -1,0 +1,64 @@
+-- A line parsed, carried out and answered, against what the line comes to.
+use Prim.Native.Nat.{ℕ, _+_, _≤_}
+use mathlib.Core.Path.{_≡_, refl, sym, ap, ap₂, _∙_}
+use mathlib.Core.Logic.{_≢_}
+use mathlib.Core.List.{List, [], _∷_}
+use lib.ListN.{length, take}
+use lib.Seq.{length-take-le}
+use mathlib.Core.Option.{Option, some, none}
+use Rattle.model.specs.declared.Station.{Station}
+use Rattle.model.specs.declared.Outcome.{Outcome}
+use Rattle.model.specs.Effects.{stored, outcomeOf}
+use Rattle.model.specs.Calls.{Call, Start, Put, Get, Commit, Step, Abort, Collect, Scan}
+use Rattle.sheet.specs.declared.Command.{Command}
+use Rattle.sheet.specs.Lines.{lineCall}
+use Rattle.sheet.specs.Commands.{commandOf}
+use Rattle.sheet.specs.Sheets.{Desk, lineEffect, afterLine, printed, lineOutput}
+use Rattle.desk.specs.declared.Request.{Request}
+use Rattle.desk.specs.Acts.{callOf, acted, kept}
+use Rattle.stream.specs.Streams.{lastLine, endOutput}
+use Rattle.stream.specs.Parts.{deskOf, streamOf}
+
+-- a command is the call that it was made of
+call-of-command : (c : Option Call) → callOf (commandOf c) ≡ c
+unfolding callOf commandOf
+call-of-command none = refl
+call-of-command (some (Start t)) = refl
+call-of-command (some (Put t k v)) = refl
+call-of-command (some (Get t k)) = refl
+call-of-command (some (Commit t c)) = refl
+call-of-command (some (Step t)) = refl
+call-of-command (some (Abort t)) = refl
+call-of-command (some (Collect d)) = refl
+call-of-command (some Scan) = refl
+
+module _ (l : List ℕ) (st : Station) (s : List ℕ) (n : ℕ) (c : Command) (h : c ≡ commandOf (lineCall l)) (o : Outcome) (s′ : List ℕ)
+    (p : o ≡ acted st s (record { command = c })) (q : s′ ≡ kept st s (record { command = c })) where
+  call-is : callOf c ≡ lineCall l
+  call-is = ap callOf h ∙ call-of-command (lineCall l)
+
+  pub line-run : deskOf (o .station) s′ (n + 1) ≡ afterLine l (deskOf st s n)
+  unfolding deskOf afterLine acted kept outcomeOf
+  line-run = λ i. record {
+    station = (ap (λ (x : Outcome). x .station) p ∙ ap (λ (x : Option Call). lineEffect x st s .station) call-is) i;
+    store = (q ∙ ap (λ (x : Option Call). stored (lineEffect x st s .stores) s) call-is) i;
+    line = n + 1;
+  }
+
+  pub line-answered : printed n (o .answer) ≡ lineOutput l (deskOf st s n)
+  unfolding deskOf lineOutput acted outcomeOf
+  line-answered = ap (λ (x : Outcome). printed n (x .answer)) p ∙ ap (λ (x : Option Call). printed n (lineEffect x st s .answer)) call-is
+
+-- ── the end of the input ──
+pub end-none : (st : Station) (s : List ℕ) (n : ℕ) (p : List ℕ) (len : ℕ) → len ≡ 0 → [] ≡ endOutput (streamOf st s n p len)
+unfolding endOutput streamOf lastLine
+end-none st s n p len h = sym (ap (λ (m : ℕ). lastLine (take m p) (deskOf st s n)) h)
+
+last-line : (l : List ℕ) (k : Desk) → length l ≢ 0 → lineOutput l k ≡ lastLine l k
+unfolding lastLine
+last-line [] k h = absurd (h refl)
+last-line (b ∷ bs) k h = refl
+
+pub end-line : (st : Station) (s : List ℕ) (n : ℕ) (p : List ℕ) (len : ℕ) → len ≢ 0 → len ≤ length p → lineOutput (take len p) (deskOf st s n) ≡ endOutput (streamOf st s n p len)
+unfolding endOutput streamOf
+end-line st s n p len h o = last-line (take len p) (deskOf st s n) (λ e. h (sym (length-take-le len p o) ∙ e))

@@ -1,0 +1,45 @@
+-- `stream::run_line` meets its contract.
+use mathlib.Core.Path.{_∙_}
+use borrow.Author.Needs.{needs}
+use Rattle.stream.proofs.RunLaws.{line-run, line-answered}
+use Rattle.stream.proofs.run_line.Statement.{statement}
+use Rattle.stream.proofs.run_line.Tie as tie
+
+parse-line-requires : tie.Need-parse-line-requires
+parse-line-requires c κs = search needs
+
+act-once-requires : tie.Need-act-once-requires
+act-once-requires c κs = search needs
+
+print-line-requires : tie.Need-print-line-requires
+print-line-requires c κs = search needs
+
+same-length : tie.Need-same-length
+same-length c = search needs
+
+same-length-2 : tie.Need-same-length-2
+same-length-2 c = search needs
+
+returns : tie.Need-returns
+returns c =
+    let a = c .before .before .before .before .before .before .before .before .before .before .before .before .before .args in
+    let o = c .before .before .before .before .before .before .before .act-once in
+    let w = c .before .before .print-line in
+    let m = c .before .before .before .before .before .before .before .before .before .parse-line in
+    (
+      line-run (a .line .now) (a .station) (a .store .now) (a .number) (m .result) (m .ensures) (o .result) (o .last .1 .0) (o .ensures .0) (o .ensures .1),
+      w .ensures .0,
+      w .ensures .1 ∙ line-answered (a .line .now) (a .station) (a .store .now) (a .number) (m .result) (m .ensures) (o .result) (o .last .1 .0) (o .ensures .0) (o .ensures .1),
+      w .ensures .2,
+    )
+
+pub run-line-spec : {M : Type 1} → statement M
+run-line-spec =
+    tie.close
+    (tie.spec
+    parse-line-requires
+    act-once-requires
+    print-line-requires
+    same-length
+    same-length-2
+    returns)

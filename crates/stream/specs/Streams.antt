@@ -1,0 +1,56 @@
+-- 01 'The run sheet', as the program meets it: the input comes in reads, cut anywhere, and the output is made piece by piece.
+use Prim.Native.Nat.{ℕ, _+_}
+use mathlib.Core.Bool.{cond}
+use mathlib.Core.List.{List, [], _∷_, _++_}
+use lib.Dec.{eqb}
+use lib.ListN.{take}
+use Rattle.sheet.specs.Words.{newline, header}
+use Rattle.sheet.specs.Lines.{lineLimit}
+use Rattle.sheet.specs.Sheets.{Desk, newDesk, afterLine, lineOutput}
+
+-- the desk in the middle of a line, with the bytes of that line so far
+pub record Stream : Type 0 where
+  pub desk : Desk
+  pub line : List ℕ
+
+unfoldable pub newStream : Stream
+newStream = record { desk = newDesk; line = [] }
+
+-- "A line has at most 64 bytes before its newline .. A longer .. line is one refused line": of a longer one 65 bytes are kept
+abbrev pub keptBytes : ℕ
+keptBytes = lineLimit + 1
+
+unfoldable pub joined : List ℕ → ℕ → List ℕ
+joined l b = take keptBytes (l ++ (b ∷ []))
+
+-- ── one byte: a newline runs the line and begins the next, any other byte joins the line ──
+unfoldable pub afterByte : ℕ → Stream → Stream
+afterByte b s = cond (eqb b newline) (record { desk = afterLine (s .line) (s .desk); line = [] }) (record { desk = s .desk; line = joined (s .line) b })
+
+unfoldable pub byteOutput : ℕ → Stream → List ℕ
+byteOutput b s = cond (eqb b newline) (lineOutput (s .line) (s .desk)) []
+
+-- ── the bytes of a read ──
+unfoldable pub afterBytes : List ℕ → Stream → Stream
+afterBytes [] s = s
+afterBytes (b ∷ bs) s = afterBytes bs (afterByte b s)
+
+unfoldable pub bytesOutput : List ℕ → Stream → List ℕ
+bytesOutput [] s = []
+bytesOutput (b ∷ bs) s = byteOutput b s ++ bytesOutput bs (afterByte b s)
+
+-- ── the end of the input: "the last newline may be missing", so a line that has begun is run ──
+unfoldable pub lastLine : List ℕ → Desk → List ℕ
+lastLine [] k = []
+lastLine (b ∷ bs) k = lineOutput (b ∷ bs) k
+
+unfoldable pub endOutput : Stream → List ℕ
+endOutput s = lastLine (s .line) (s .desk)
+
+-- ── all reads, then the end; what the program writes for them ──
+unfoldable pub readsOutput : List (List ℕ) → Stream → List ℕ
+readsOutput [] s = endOutput s
+readsOutput (r ∷ rs) s = bytesOutput r s ++ readsOutput rs (afterBytes r s)
+
+unfoldable pub outputOfReads : List (List ℕ) → List ℕ
+outputOfReads rs = header ++ readsOutput rs newStream
