@@ -2,18 +2,19 @@
 use Prim.Native.Nat.{ℕ, suc, _+_, _-_, _<_, _≤_}
 use mathlib.Core.Path.{_≡_, refl, sym, ap, ap₂, _∙_}
 use mathlib.Core.Bool.{Bool, true, false}
-use mathlib.Core.List.{List, [], _∷_, _++_, append-nil}
+use mathlib.Core.List.{List, [], _∷_, _++_, append-nil, append-assoc}
 use lib.Dec.{eqb}
 use lib.ListN.{length, take, drop, length-append, length-take, length-drop, drop-of-length-le}
-use lib.Seq.{take-append-le, drop-append-le, take-append-add, drop-append-add, drop-drop, length-take-le}
+use lib.Seq.{take-all, take-append-le, drop-append-le, take-append-add, drop-append-add, drop-drop, length-take-le}
 use native.Mathlib.Omega.{arith}
 use native.Mathlib.Nat.{le-of-suc-le-suc}
 use borrow.Author.Tests.{eqb-true}
 use borrow.Rule.Slice.PartMut.{putMid}
+use Rattle.model.specs.declared.Station.{Station}
 use Rattle.sheet.specs.Words.{newline}
 use Rattle.sheet.specs.Sheets.{Desk, firstLine, afterLine, lineOutput}
 use Rattle.stream.specs.Streams.{Stream, joined, afterByte, byteOutput, afterBytes, bytesOutput}
-use Rattle.stream.specs.Parts.{joinedWith}
+use Rattle.stream.specs.Parts.{deskOf, streamOf, joinedWith}
 use Rattle.stream.proofs.JoinLaws.{line-none, line-yes, line-no}
 
 abbrev pub at : Desk → List ℕ → Stream
@@ -116,3 +117,52 @@ module _ (a n : ℕ) (xs ys : List ℕ) (o : a ≤ length xs) (p : n ≤ length 
       let z : length (drop a xs) ≤ length xs - a = simp length-drop (omega arith) in
       ap (λ (m : ℕ). drop m (putMid a (length xs - a) xs ys)) e ∙ drop-append-add (take a xs) (ys ++ drop (length xs - a) (drop a xs)) n
       ∙ drop-append-le n ys _ p ∙ ap (λ (t : List ℕ). drop n ys ++ t) (drop-of-length-le (drop a xs) z) ∙ append-nil (drop n ys)
+
+-- ── a block fed up to a place: what is left of it gives the rest ──
+pub record Passed (input : List ℕ) (first : Stream) (out₀ : List ℕ) (s : Stream) (from used : ℕ) (out : List ℕ) : Type 0 where
+  pub after-is : afterBytes input first ≡ afterBytes (drop from input) s
+  pub output-is : bytesOutput input first ≡ take used out ++ bytesOutput (drop from input) s
+  pub rest-is : drop used out ≡ drop used out₀
+
+pub passed-none : (input : List ℕ) (first : Stream) (out₀ : List ℕ) → Passed input first out₀ first 0 0 out₀
+passed-none input first out₀ = record { after-is = refl; output-is = refl; rest-is = refl }
+
+module _ (input : List ℕ) (first : Stream) (out₀ : List ℕ) (st : Station) (store : List ℕ) (n : ℕ) (part : List ℕ) (len : ℕ) (from used : ℕ) (out : List ℕ)
+    (h : Passed input first out₀ (streamOf st store n part len) from used out) where
+  -- the block has no byte left
+  pub passed-all : length input ≤ from → (streamOf st store n part len ≡ afterBytes input first) × (take used out ≡ bytesOutput input first)
+  unfolding afterBytes bytesOutput
+  passed-all o = (
+    sym (h .after-is ∙ ap (λ (bs : List ℕ). afterBytes bs (streamOf st store n part len)) (drop-of-length-le input o)),
+    sym (h .output-is ∙ ap (λ (bs : List ℕ). take used out ++ bytesOutput bs (streamOf st store n part len)) (drop-of-length-le input o) ∙ append-nil (take used out)),
+  )
+
+  module _ (part′ : List ℕ) (len′ end : ℕ) (o : from ≤ length input) (e : end ≡ from + length (firstLine (drop from input)))
+      (j : take len′ part′ ≡ joinedWith (take len part) (firstLine (drop from input))) where
+    -- its last bytes are a line that has no newline yet
+    pub passed-last : length input ≤ end → (streamOf st store n part′ len′ ≡ afterBytes input first) × (take used out ≡ bytesOutput input first)
+    unfolding streamOf
+    passed-last z = (
+      sym (h .after-is ∙ last-after input from end (deskOf st store n) (take len part) (take len′ part′) o e j z),
+      sym (h .output-is ∙ ap (λ (w : List ℕ). take used out ++ w) (last-output input from end (deskOf st store n) (take len part) (take len′ part′) o e j z) ∙ append-nil (take used out)),
+    )
+
+    -- a line that ends in the block was run
+    pub passed-line : end < length input → (st′ : Station) (store′ last : List ℕ) (m : ℕ) → used ≤ length out → m ≤ length last → length last ≡ length out - used
+        → deskOf st′ store′ (n + 1) ≡ afterLine (take len′ part′) (deskOf st store n)
+        → take m last ≡ lineOutput (take len′ part′) (deskOf st store n)
+        → drop m last ≡ drop m (take (length out - used) (drop used out))
+        → Passed input first out₀ (streamOf st′ store′ (n + 1) part′ 0) (end + 1) (used + m) (putMid used (length out - used) out last)
+    unfolding streamOf
+    passed-line z st′ store′ last m u v w d t r =
+        let k : take (length out - used) (drop used out) ≡ drop used out = take-all (length out - used) (drop used out) (simp length-drop (omega arith)) in
+        record {
+          after-is = h .after-is ∙ turn-after input from end (deskOf st store n) (take len part) (take len′ part′) o e j z
+              ∙ ap (λ (x : Desk). afterBytes (drop (end + 1) input) (at x [])) (sym d);
+          output-is = h .output-is
+              ∙ ap (λ (x : List ℕ). take used out ++ x) (turn-output input from end (deskOf st store n) (take len part) (take len′ part′) o e j z
+              ∙ ap₂ (λ (x : List ℕ) (y : Desk). x ++ bytesOutput (drop (end + 1) input) (at y [])) (sym t) (sym d))
+              ∙ sym (append-assoc (take used out) (take m last) (bytesOutput (drop (end + 1) input) (at (deskOf st′ store′ (n + 1)) [])))
+              ∙ ap (λ (x : List ℕ). x ++ bytesOutput (drop (end + 1) input) (at (deskOf st′ store′ (n + 1)) [])) (sym (out-taken used m out last u v w));
+          rest-is = out-dropped used m out last u v w ∙ r ∙ ap (drop m) (k ∙ h .rest-is) ∙ drop-drop m used out₀;
+        }
