@@ -9,7 +9,7 @@ use sheet::print_header;
 use stream::finish;
 use stream::run_block;
 ghost use mathlib.Core.Path.{_≡_};
-ghost use Prim.Native.Nat.{_+_, _*_, _^_, _≤_, _<_};
+ghost use Prim.Native.Nat.{_+_, _^_, _≤_, _<_};
 ghost use lib.ListN.{length};
 
 // The bytes of a store, of a line that are kept, of a read and of the output's buffer.
@@ -57,7 +57,10 @@ fn make_room(out: &[u8], used: usize) -> Room
     ensures { λ r. ⌜ r .start ≤ 81920 ⌝ }
 {
     if used <= FULL {
-        return Room { start: used, written: true };
+        return Room {
+            start: used,
+            written: true,
+        };
     }
     let written = io::write_all(STDOUT_FILENO, &out[..used]);
     Room { start: 0, written }
@@ -75,7 +78,15 @@ fn block_end(start: usize, len: usize) -> usize
 }
 
 // Runs what was read, block by block, and writes all answers.
-fn run_read(station: Station, store: &mut [u8], part: &mut [u8], len: usize, number: u64, input: &[u8], out: &mut [u8]) -> Progress
+fn run_read(
+    station: Station,
+    store: &mut [u8],
+    part: &mut [u8],
+    len: usize,
+    number: u64,
+    input: &[u8],
+    out: &mut [u8],
+) -> Progress
     requires { ⌜ (length (now part) ≡ 65) × (len ≤ 65) × (number + length (now input) < 2 ^ 64) × (length (now out) ≡ 131072) ⌝ }
     ensures { λ r. ⌜ (r .len ≤ 65) × (r .number ≤ number + length (now (input .entry))) ⌝ }
 {
@@ -114,7 +125,14 @@ fn run_read(station: Station, store: &mut [u8], part: &mut [u8], len: usize, num
 }
 
 // The input has ended: a last line without a newline is answered.
-fn run_end(station: Station, store: &mut [u8], part: &[u8], len: usize, number: u64, out: &mut [u8]) -> Stop
+fn run_end(
+    station: Station,
+    store: &mut [u8],
+    part: &[u8],
+    len: usize,
+    number: u64,
+    out: &mut [u8],
+) -> Stop
     requires { ⌜ (length (now part) ≡ 65) × (len ≤ 65) × (length (now out) ≡ 131072) ⌝ }
 {
     let used = finish(station, store, part, len, number, out);
@@ -175,7 +193,10 @@ fn report(stop: Stop) {
             io::write_all(STDERR_FILENO, b"runsheet: standard input cannot be read\n");
         }
         Stop::Unwritten => {
-            io::write_all(STDERR_FILENO, b"runsheet: standard output cannot be written\n");
+            io::write_all(
+                STDERR_FILENO,
+                b"runsheet: standard output cannot be written\n",
+            );
         }
         Stop::TooLong => {
             io::write_all(STDERR_FILENO, b"runsheet: the input is too long\n");

@@ -1,3 +1,4 @@
 pub mod JoinLaws
 pub mod BlockLaws
 pub mod RunLaws
+pub mod ReadsLaws

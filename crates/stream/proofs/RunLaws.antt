@@ -1,6 +1,6 @@
 -- A line parsed, carried out and answered, against what the line comes to.
 use Prim.Native.Nat.{ℕ, _+_, _≤_}
-use mathlib.Core.Path.{_≡_, refl, sym, ap, ap₂, _∙_}
+use mathlib.Core.Path.{_≡_, refl, sym, ap, _∙_}
 use mathlib.Core.Logic.{_≢_}
 use mathlib.Core.List.{List, [], _∷_}
 use lib.ListN.{length, take}
@@ -14,7 +14,6 @@ use Rattle.sheet.specs.declared.Command.{Command}
 use Rattle.sheet.specs.Lines.{lineCall}
 use Rattle.sheet.specs.Commands.{commandOf}
 use Rattle.sheet.specs.Sheets.{Desk, lineEffect, afterLine, printed, lineOutput}
-use Rattle.desk.specs.declared.Request.{Request}
 use Rattle.desk.specs.Acts.{callOf, acted, kept}
 use Rattle.stream.specs.Streams.{lastLine, endOutput}
 use Rattle.stream.specs.Parts.{deskOf, streamOf}

@@ -81,7 +81,15 @@ fn run_line(station: Station, store: &mut [u8], line: &[u8], number: u64, out: &
 }
 
 // A block of input. Each line prints at most 96 bytes, so out is never full. No input is so long that the lines' numbers reach 2^64.
-pub fn run_block(station: Station, store: &mut [u8], part: &mut [u8], len: usize, number: u64, input: &[u8], out: &mut [u8]) -> Fed
+pub fn run_block(
+    station: Station,
+    store: &mut [u8],
+    part: &mut [u8],
+    len: usize,
+    number: u64,
+    input: &[u8],
+    out: &mut [u8],
+) -> Fed
     requires { ⌜ (length (now part) ≡ 65) × (len ≤ 65) × (number + length (now input) < 2 ^ 64) × (96 * length (now input) ≤ length (now out)) ⌝ }
     ensures { λ r. ⌜ (streamOf (r .station) (now (store .exit)) (r .number) (now (part .exit)) (r .len) ≡ afterBytes (now (input .entry)) (streamOf station (now (store .entry)) number (now (part .entry)) len)) × (take (r .used) (now (out .exit)) ≡ bytesOutput (now (input .entry)) (streamOf station (now (store .entry)) number (now (part .entry)) len)) × (drop (r .used) (now (out .exit)) ≡ drop (r .used) (now (out .entry))) × (r .used ≤ 96 * length (now (input .entry))) × (r .len ≤ 65) × (r .number ≤ number + length (now (input .entry))) ⌝ }
 {
@@ -119,7 +127,14 @@ pub fn run_block(station: Station, store: &mut [u8], part: &mut [u8], len: usize
 }
 
 // The end of the input: a line that has begun is run. The bytes of its output.
-pub fn finish(station: Station, store: &mut [u8], part: &[u8], len: usize, number: u64, out: &mut [u8]) -> usize
+pub fn finish(
+    station: Station,
+    store: &mut [u8],
+    part: &[u8],
+    len: usize,
+    number: u64,
+    out: &mut [u8],
+) -> usize
     requires { ⌜ (len ≤ length (now part)) × (96 ≤ length (now out)) ⌝ }
     ensures { λ r. ⌜ (r ≤ 96) × (take r (now (out .exit)) ≡ endOutput (streamOf station (now (store .entry)) number (now (part .entry)) len)) × (drop r (now (out .exit)) ≡ drop r (now (out .entry))) ⌝ }
 {

@@ -85,8 +85,7 @@ loop-again c =
     let e = c .before .before .before .before .before .before .before .before .before .before .before .before .before .block-end in
     let m = c .before .before .before .before .before .before .before .before .before .before .before .before .before .before .before .before .make-room in
     let i : length (take (e .result - l .at) (drop (l .at) (s .args .input .now))) ≡ e .result - l .at = mid-len (l .at) (e .result) (s .args .input .now) (e .ensures .1) in
-    let r = c .before .before .before .before .before .before .before .before .run-block in
-    (
+    let r = c .before .before .before .before .before .before .before .before .run-block in (
       e .ensures .1,
       r .ensures .4,
       omega (arith, i, r .ensures .3, e .ensures .2, m .ensures),

@@ -99,8 +99,7 @@ loop-again c =
     let a : r .result .number ≤ l .number + length (take (n .result) (g .last .1 .0)) = r .ensures .1 in
     let b : n .result ≡ length (take (n .result) (g .last .1 .0)) = n .ensures .0 .1 in
     let d : n .result ≤ length (g .last .1 .0) = n .ensures .0 .0 in
-    let e : length (g .last .1 .0) ≡ 65536 = g .kept .1 .0 ∙ l .inv .1 in
-    (
+    let e : length (g .last .1 .0) ≡ 65536 = g .kept .1 .0 ∙ l .inv .1 in (
       r .kept .1 .1 .0 ∙ l .inv .0,
       e,
       r .kept .1 .1 .1 .1 .1 .1 .0 ∙ l .inv .2,

@@ -1,7 +1,7 @@
 -- `stream::run_block` meets its contract.
 use Prim.Native.Nat.{_+_, _*_, _-_, _≤_}
 use mathlib.Core.Path.{_≡_, refl, sym, _∙_}
-use lib.ListN.{length, take, drop, length-take, length-drop}
+use lib.ListN.{length, length-take, length-drop}
 use lib.Seq.{length-take-le}
 use borrow.Author.Needs.{needs}
 use borrow.Rule.Slice.PartMut.{same-len-mid}
@@ -92,8 +92,7 @@ loop-again c =
     let o = c .before .before .before .before .before .before .before .before .before .before .if1 .left in
     let m : length (r .last .1 .1 .1 .1 .0) ≡ length (l .out) - l .used = r .kept .1 .1 .1 .1 .0 ∙ (simp (length-take, length-drop) (omega arith)) in
     let u : l .used ≤ length (l .out) = omega (arith, l .inv .0, l .inv .2, l .inv .5, s .pre .3) in
-    let v : r .result .used ≤ length (r .last .1 .1 .1 .1 .0) = omega (arith, m, o, r .ensures .1, f .ensures .1, l .inv .2, l .inv .5, s .pre .3) in
-    (
+    let v : r .result .used ≤ length (r .last .1 .1 .1 .1 .0) = omega (arith, m, o, r .ensures .1, f .ensures .1, l .inv .2, l .inv .5, s .pre .3) in (
       omega (arith, o),
       omega arith,
       omega (arith, r .ensures .1, f .ensures .1, l .inv .2),
@@ -102,7 +101,7 @@ loop-again c =
       same-len-mid (l .used) (length (l .out) - l .used) (l .out) (r .last .1 .1 .1 .1 .0) (r .kept .1 .1 .1 .1 .0) ∙ l .inv .5,
       r .kept .1 .0 ∙ l .inv .6,
       passed-line (s .args .input .now) _ (s .args .out .now) (l .s) (l .store) (l .next) (l .part) (l .n) (l .at) (l .used) (l .out) (l .inv .7) (f .last .0) (f .result .len) (f .result .end) (l .inv .0) (f .ensures .1) (f .ensures .2) o
-      (r .result .station) (r .last .1 .0) (r .last .1 .1 .1 .1 .0) (r .result .used) u v m (r .ensures .0) (r .ensures .2) (r .ensures .3),
+          (r .result .station) (r .last .1 .0) (r .last .1 .1 .1 .1 .0) (r .result .used) u v m (r .ensures .0) (r .ensures .2) (r .ensures .3),
     )
 
 same-length-4 : tie.Need-same-length-4 Inv-loop μ-loop

@@ -1,0 +1,151 @@
+-- However the input is cut into reads, the output is the sheet's.
+use Prim.Native.Nat.{ℕ, zero, suc, _+_, _≤_, _<_}
+use mathlib.Core.Path.{_≡_, refl, sym, ap, ap₂, _∙_}
+use mathlib.Core.Bool.{Bool, true, false}
+use mathlib.Core.List.{List, [], _∷_, _++_, append-nil, append-assoc, flatten}
+use mathlib.Core.Option.{none}
+use lib.Dec.{eqb}
+use lib.ListN.{length, take, length-append, length-take}
+use lib.Seq.{take-all}
+use native.Mathlib.Omega.{arith}
+use native.Mathlib.Decide.{decLt}
+use borrow.Author.Tests.{lt-leb}
+use Rattle.sheet.specs.Words.{newline, header}
+use Rattle.sheet.specs.Lines.{lineCall}
+use Rattle.sheet.specs.Sheets.{Desk, newDesk, firstLine, otherLines, afterLine, lineOutput, linesOutput, sheetOf}
+use Rattle.stream.specs.Streams.{Stream, newStream, joined, afterByte, byteOutput, afterBytes, bytesOutput, lastLine, endOutput, readsOutput, outputOfReads}
+use Rattle.stream.proofs.JoinLaws.{line-none, line-yes, line-no}
+use Rattle.stream.proofs.BlockLaws.{at, newline-after, newline-output, byte-after, byte-output}
+
+-- ── a longer line is malformed by its first 65 bytes ──
+long-malformed : (l : List ℕ) → 64 < length l → lineCall l ≡ none
+unfolding lineCall
+long-malformed l h = rw (lt-leb (length l) 64 h)
+
+pub kept-call : (l : List ℕ) → lineCall (take 65 l) ≡ lineCall l
+kept-call l = go (decLt 64 (length l))
+  where
+    go : Dec (64 < length l) → lineCall (take 65 l) ≡ lineCall l
+    go (yes h) = long-malformed (take 65 l) (simp length-take (omega arith)) ∙ sym (long-malformed l h)
+    go (no h) = let o : length l ≤ 65 = omega (arith, h) in ap lineCall (take-all 65 l o)
+
+kept-after : (l : List ℕ) (k : Desk) → afterLine (take 65 l) k ≡ afterLine l k
+unfolding afterLine
+kept-after l k = rw (kept-call l)
+
+kept-output : (l : List ℕ) (k : Desk) → lineOutput (take 65 l) k ≡ lineOutput l k
+unfolding lineOutput
+kept-output l k = rw (kept-call l)
+
+-- a byte joins what is kept as it joins the whole
+taken-joined : (n : ℕ) (l : List ℕ) (b : ℕ) → take n (take n l ++ (b ∷ [])) ≡ take n (l ++ (b ∷ []))
+taken-joined zero l b = refl
+taken-joined (suc n) [] b = refl
+taken-joined (suc n) (x ∷ xs) b = ap (λ (l : List ℕ). x ∷ l) (taken-joined n xs b)
+
+kept-joined : (l : List ℕ) (b : ℕ) → joined (take 65 l) b ≡ take 65 (l ++ (b ∷ []))
+unfolding joined
+kept-joined l b = taken-joined 65 l b
+
+-- ── bytes without a newline ──
+abbrev Plain : List ℕ → Type 0
+Plain [] = Unit {0}
+Plain (b ∷ bs) = (eqb b newline ≡ false) × Plain bs
+
+plain-joined : (p : List ℕ) (b : ℕ) → Plain p → eqb b newline ≡ false → Plain (p ++ (b ∷ []))
+plain-joined [] b h e = (e, tt)
+plain-joined (x ∷ xs) b h e = (h .0, plain-joined xs b (h .1) e)
+
+others-yes : (b : ℕ) (bs : List ℕ) → eqb b newline ≡ true → otherLines (b ∷ bs) ≡ bs
+unfolding otherLines
+others-yes b bs h = rw h
+
+others-no : (b : ℕ) (bs : List ℕ) → eqb b newline ≡ false → otherLines (b ∷ bs) ≡ otherLines bs
+unfolding otherLines
+others-no b bs h = rw h
+
+-- such a line, with a newline after it or at the input's end
+first-plain : (p : List ℕ) (b : ℕ) (bs : List ℕ) → Plain p → eqb b newline ≡ true → firstLine (p ++ b ∷ bs) ≡ p
+first-plain [] b bs h e = line-yes b bs e
+first-plain (x ∷ xs) b bs h e = line-no x (xs ++ b ∷ bs) (h .0) ∙ ap (λ (l : List ℕ). x ∷ l) (first-plain xs b bs (h .1) e)
+
+others-plain : (p : List ℕ) (b : ℕ) (bs : List ℕ) → Plain p → eqb b newline ≡ true → otherLines (p ++ b ∷ bs) ≡ bs
+others-plain [] b bs h e = others-yes b bs e
+others-plain (x ∷ xs) b bs h e = others-no x (xs ++ b ∷ bs) (h .0) ∙ others-plain xs b bs (h .1) e
+
+first-last : (p : List ℕ) → Plain p → firstLine p ≡ p
+first-last [] h = line-none
+first-last (x ∷ xs) h = line-no x xs (h .0) ∙ ap (λ (l : List ℕ). x ∷ l) (first-last xs (h .1))
+
+others-last : (p : List ℕ) → Plain p → otherLines p ≡ []
+unfolding otherLines
+others-last [] h = refl
+others-last (x ∷ xs) h = others-no x xs (h .0) ∙ others-last xs (h .1)
+
+-- ── the sheet's lines, one at a time ──
+lines-none : (n : ℕ) (k : Desk) → linesOutput n [] k ≡ []
+unfolding linesOutput
+lines-none zero k = refl
+lines-none (suc n) k = refl
+
+lines-more : (n : ℕ) (bs l rest : List ℕ) (k : Desk) → 1 ≤ length bs → firstLine bs ≡ l → otherLines bs ≡ rest → linesOutput (suc n) bs k ≡ lineOutput l k ++ linesOutput n rest (afterLine l k)
+unfolding linesOutput
+lines-more n [] l rest k o f e = absurd (omega arith)
+lines-more n (b ∷ bs) l rest k o f e = ap₂ (λ (x y : List ℕ). lineOutput x k ++ linesOutput n y (afterLine x k)) f e
+
+-- a line that has begun, at the end
+end-lines : (p : List ℕ) (k : Desk) (n : ℕ) → Plain p → length p ≤ n → lastLine (take 65 p) k ≡ linesOutput n p k
+unfolding lastLine
+end-lines [] k n h o = sym (lines-none n k)
+end-lines (b ∷ bs) k zero h o = absurd (omega arith)
+end-lines (b ∷ bs) k (suc n) h o =
+    kept-output (b ∷ bs) k ∙ sym (append-nil (lineOutput (b ∷ bs) k)) ∙ ap (λ (x : List ℕ). lineOutput (b ∷ bs) k ++ x) (sym (lines-none n (afterLine (b ∷ bs) k)))
+    ∙ sym (lines-more n (b ∷ bs) (b ∷ bs) [] k (omega arith) (first-last (b ∷ bs) h) (others-last (b ∷ bs) h))
+
+-- ── all of an input: its bytes, then its end ──
+unfoldable whole : List ℕ → Stream → List ℕ
+whole bs s = bytesOutput bs s ++ endOutput (afterBytes bs s)
+
+whole-cons : (b : ℕ) (bs : List ℕ) (s : Stream) → whole (b ∷ bs) s ≡ byteOutput b s ++ whole bs (afterByte b s)
+unfolding whole bytesOutput afterBytes
+whole-cons b bs s = append-assoc (byteOutput b s) (bytesOutput bs (afterByte b s)) (endOutput (afterBytes bs (afterByte b s)))
+
+whole-append : (x y : List ℕ) (s : Stream) → whole (x ++ y) s ≡ bytesOutput x s ++ whole y (afterBytes x s)
+unfolding bytesOutput afterBytes
+whole-append [] y s = refl
+whole-append (b ∷ x) y s = whole-cons b (x ++ y) s ∙ ap (λ (w : List ℕ). byteOutput b s ++ w) (whole-append x y (afterByte b s))
+    ∙ sym (append-assoc (byteOutput b s) (bytesOutput x (afterByte b s)) (whole y (afterBytes x (afterByte b s))))
+
+whole-end : (p : List ℕ) (k : Desk) → whole [] (at k p) ≡ lastLine p k
+unfolding whole bytesOutput afterBytes endOutput
+whole-end p k = refl
+
+whole-lines : (bs p : List ℕ) (k : Desk) (n : ℕ) → Plain p → length p + length bs ≤ n → whole bs (at k (take 65 p)) ≡ linesOutput n (p ++ bs) k
+whole-lines [] p k n h o = whole-end (take 65 p) k ∙ end-lines p k n h (omega arith) ∙ ap (λ (l : List ℕ). linesOutput n l k) (sym (append-nil p))
+whole-lines (b ∷ bs) p k zero h o = absurd (omega arith)
+whole-lines (b ∷ bs) p k (suc n) h o = whole-cons b bs (at k (take 65 p)) ∙ go (eqb b newline) refl (whole-lines bs)
+  where
+    go : (t : Bool) → eqb b newline ≡ t
+        → ((q : List ℕ) (j : Desk) (m : ℕ) → Plain q → length q + length bs ≤ m → whole bs (at j (take 65 q)) ≡ linesOutput m (q ++ bs) j)
+        → byteOutput b (at k (take 65 p)) ++ whole bs (afterByte b (at k (take 65 p))) ≡ linesOutput (suc n) (p ++ b ∷ bs) k
+    go true e ih =
+        ap₂ _++_ (newline-output b k (take 65 p) e ∙ kept-output p k) (ap (whole bs) (newline-after b k (take 65 p) e ∙ ap (λ (j : Desk). at j []) (kept-after p k)) ∙ ih [] (afterLine p k) n tt (omega arith))
+        ∙ sym (lines-more n (p ++ b ∷ bs) p bs k (simp length-append (omega arith)) (first-plain p b bs h e) (others-plain p b bs h e))
+    go false e ih =
+        ap₂ _++_ (byte-output b k (take 65 p) e) (ap (whole bs) (byte-after b k (take 65 p) e ∙ ap (at k) (kept-joined p b))
+        ∙ ih (p ++ (b ∷ [])) k (suc n) (plain-joined p b h e) (simp length-append (omega arith)))
+        ∙ ap (λ (l : List ℕ). linesOutput (suc n) l k) (append-assoc p (b ∷ []) bs)
+
+-- ── reads ──
+reads-whole : (rs : List (List ℕ)) (s : Stream) → readsOutput rs s ≡ whole (flatten rs) s
+unfolding readsOutput flatten
+reads-whole [] s = unfold whole bytesOutput afterBytes in refl
+reads-whole (r ∷ rs) s = ap (λ (w : List ℕ). bytesOutput r s ++ w) (reads-whole rs (afterBytes r s)) ∙ sym (whole-append r (flatten rs) s)
+
+-- 01: the program "reads standard input .. and writes one line per line read": however the input is cut into reads, what is written is the sheet of its bytes
+pub reads-do-not-matter : (rs : List (List ℕ)) → outputOfReads rs ≡ sheetOf (flatten rs)
+unfolding outputOfReads sheetOf newStream
+reads-do-not-matter rs = ap (λ (w : List ℕ). header ++ w) (reads-whole rs newStream ∙ whole-lines (flatten rs) [] newDesk (length (flatten rs)) tt (omega arith))
+
+pub same-bytes-same-output : (rs rs′ : List (List ℕ)) → flatten rs ≡ flatten rs′ → outputOfReads rs ≡ outputOfReads rs′
+same-bytes-same-output rs rs′ h = reads-do-not-matter rs ∙ ap sheetOf h ∙ sym (reads-do-not-matter rs′)
