@@ -1,0 +1,227 @@
+//! Runs the proved program and the plain Rust version on random and hostile sheets, by seed, and compares every byte.
+//! The input goes through a pipe in random pieces, so that the reads of the program are cut anywhere.
+//! Arguments: the program, the first seed, how many sheets.
+
+#[path = "sheet.rs"]
+mod sheet;
+
+use std::collections::BTreeMap;
+use std::io::{Read, Write};
+use std::process::{Command, Stdio};
+use std::time::Duration;
+
+/// splitmix64
+struct Random(u64);
+
+impl Random {
+    fn next(&mut self) -> u64 {
+        self.0 = self.0.wrapping_add(0x9e37_79b9_7f4a_7c15);
+        let mut z = self.0;
+        z = (z ^ (z >> 30)).wrapping_mul(0xbf58_476d_1ce4_e5b9);
+        z = (z ^ (z >> 27)).wrapping_mul(0x94d0_49bb_1331_11eb);
+        z ^ (z >> 31)
+    }
+
+    fn below(&mut self, n: u64) -> u64 {
+        self.next() % n
+    }
+
+    fn one_in(&mut self, n: u64) -> bool {
+        self.below(n) == 0
+    }
+
+    fn of<T: Copy>(&mut self, all: &[T]) -> T {
+        all[self.below(all.len() as u64) as usize]
+    }
+}
+
+/// A number near a limit of some field.
+fn edge(r: &mut Random) -> String {
+    let limits = [0u128, 1, 8, 9, 10, 16, 63, 64, 99, 100, 255, 256, 1 << 32, 10_000_000_000_000_000_000, 1 << 63, 1 << 64, 100_000_000_000_000_000_000];
+    let n = r.of(&limits);
+    (n + u128::from(r.below(3))).saturating_sub(1).to_string()
+}
+
+/// A call on few transactions, keys and slots, so that calls meet.
+fn call(r: &mut Random, txns: u64, keys: u64) -> String {
+    let (t, k) = (1 + r.below(txns), r.below(keys));
+    let clock = 1 + r.below(12);
+    match r.below(20) {
+        0..=1 => format!("start,{t},0,0"),
+        2..=5 => format!("put,{t},{k},{}", r.below(1000)),
+        6..=9 => format!("get,{t},{k},0"),
+        10 => format!("commit,{t},0,{clock}"),
+        11..=16 => format!("step,{t},0,0"),
+        17 => format!("collect,0,{},0", 63 - r.below(txns + 2).min(63)),
+        18 if r.one_in(3) => format!("abort,{t},0,0"),
+        18 => format!("start,{t},0,0"),
+        _ if r.one_in(8) => "cut,0,0,0".to_string(),
+        _ => format!("step,{t},0,0"),
+    }
+}
+
+/// A transaction from start to its last step, with its numbers growing, beside readers that stay: many entries come to be held and
+/// superseded, and readers meet versions that do not fit.
+fn transaction(r: &mut Random, n: u64, keys: u64, out: &mut Vec<String>) {
+    let t = 1000 + n;
+    let puts = 1 + r.below(8);
+    out.push(format!("start,{t},0,0"));
+    for _ in 0..puts {
+        out.push(format!("put,{t},{},{}", r.below(keys), r.next() >> r.below(64)));
+    }
+    let reader = 1 + r.below(5);
+    out.push(format!("start,{reader},0,0"));
+    for _ in 0..r.below(keys.min(30)) {
+        out.push(format!("get,{reader},{},0", r.below(keys)));
+    }
+    if r.one_in(6) {
+        out.push(format!("abort,{reader},0,0"));
+    }
+    out.push(format!("commit,{t},0,{}", 1 + r.below(1 + n)));
+    for _ in 0..puts + 2 {
+        out.push(format!("step,{t},0,0"));
+    }
+    for _ in 0..r.below(4) {
+        out.push(format!("collect,0,{},0", r.below(64)));
+    }
+    if r.one_in(40) {
+        out.push("cut,0,0,0".to_string());
+    }
+}
+
+/// A line that is close to a right one.
+fn near(r: &mut Random) -> Vec<u8> {
+    let verb = r.of(&["start", "put", "get", "commit", "step", "abort", "collect", "cut", "scan", "", "putt", "PUT"]);
+    let number = |r: &mut Random| if r.one_in(2) { edge(r) } else { r.below(4).to_string() };
+    let (t, k, n) = (number(r), number(r), number(r));
+    let mut line = format!("{verb},{t},{k},{n}").into_bytes();
+    if r.one_in(3) {
+        let at = r.below(line.len() as u64 + 1) as usize;
+        match r.below(3) {
+            0 => line.insert(at, r.of(b",0 1\r\0\xff-+9")),
+            1 if at < line.len() => drop(line.remove(at)),
+            _ if at < line.len() => line[at] = r.next() as u8,
+            _ => {}
+        }
+    }
+    line
+}
+
+/// Bytes of any kind, a line or several.
+fn noise(r: &mut Random) -> Vec<u8> {
+    let len = match r.below(12) {
+        0 => 60 + r.below(10),
+        1 => r.below(70_000),
+        2 => 65_530 + r.below(12),
+        _ => r.below(40),
+    };
+    let plain = r.one_in(2);
+    (0..len).map(|_| if plain { r.of(b"start,0123456789") } else { r.next() as u8 }).collect()
+}
+
+/// A sheet: of one kind, or of all mixed.
+fn make(r: &mut Random) -> Vec<u8> {
+    let mut lines: Vec<Vec<u8>> = Vec::new();
+    let (kind, txns, keys) = (r.below(5), r.of(&[2, 3, 9, 12]), r.of(&[2, 4, 20, 66]));
+    for n in 0..r.of(&[0, 1, 5, 60, 200]) {
+        match if kind == 4 { r.below(4) } else { kind } {
+            0 | 1 => lines.push(call(r, txns, keys).into_bytes()),
+            2 => {
+                let mut calls = Vec::new();
+                transaction(r, n, keys, &mut calls);
+                lines.extend(calls.into_iter().map(String::into_bytes));
+            }
+            _ if r.one_in(4) => lines.push(noise(r)),
+            _ => lines.push(near(r)),
+        }
+    }
+    let mut input = lines.join(&b'\n');
+    if !r.one_in(4) {
+        input.push(b'\n');
+    }
+    input
+}
+
+/// What the program writes for an input that is handed over in the given pieces.
+fn program(path: &str, input: &[u8], pieces: &[usize], pause: bool) -> Vec<u8> {
+    let mut child = Command::new(path).stdin(Stdio::piped()).stdout(Stdio::piped()).spawn().expect("the program starts");
+    let mut stdin = child.stdin.take().expect("a pipe");
+    let mut stdout = child.stdout.take().expect("a pipe");
+    let mut output = Vec::new();
+    std::thread::scope(|s| {
+        s.spawn(move || {
+            let mut rest = input;
+            for n in pieces {
+                let (piece, more) = rest.split_at((*n).min(rest.len()));
+                stdin.write_all(piece).expect("the program reads");
+                if pause {
+                    std::thread::sleep(Duration::from_micros(300));
+                }
+                rest = more;
+            }
+            stdin.write_all(rest).expect("the program reads");
+        });
+        stdout.read_to_end(&mut output).expect("the program writes");
+    });
+    let status = child.wait().expect("the program ends");
+    assert!(status.success(), "the program ended with {status}");
+    output
+}
+
+fn differ(what: &str, input: &[u8], ours: &[u8], theirs: &[u8]) -> ! {
+    let path = "target/differs.csv";
+    std::fs::write(path, input).expect("the sheet is kept");
+    let lines = |b: &[u8]| -> Vec<String> { b.split(|c| *c == b'\n').map(|l| String::from_utf8_lossy(l).into_owned()).collect() };
+    let (a, b) = (lines(ours), lines(theirs));
+    let at = (0..a.len().max(b.len())).find(|i| a.get(*i) != b.get(*i)).unwrap_or(0);
+    eprintln!("DIFFERENT: {what}; the sheet is in {path}");
+    eprintln!("  the program: {:?}\n  the model:   {:?}", a.get(at), b.get(at));
+    std::process::exit(1);
+}
+
+/// The answers that came up: each word, and each number of a refusal.
+type Seen = BTreeMap<String, usize>;
+
+fn compare(what: &str, path: &str, input: &[u8], pieces: &[usize], pause: bool, seen: &mut Seen) {
+    let mut theirs = Vec::new();
+    sheet::output(input, &mut theirs).expect("memory");
+    let ours = program(path, input, pieces, pause);
+    if ours != theirs {
+        differ(what, input, &ours, &theirs);
+    }
+    for line in String::from_utf8(theirs).expect("ASCII").lines().skip(1) {
+        let fields: Vec<&str> = line.split(',').collect();
+        let name = if fields[1] == "refused" { fields[2] } else { fields[1] };
+        *seen.entry(name.to_string()).or_default() += 1;
+    }
+}
+
+/// A comparison that never met some answer shows less than it says.
+fn expect_all(seen: &Seen) {
+    let words = "started kept own version none nofit closing empty done stored slipped dropped collected found 3 4 5 6 7 8 9 10 11 12 13 14 15 16 19";
+    let missing: Vec<&str> = words.split(' ').filter(|w| !seen.contains_key(*w)).collect();
+    if !missing.is_empty() {
+        eprintln!("TOO FEW: no sheet was answered by {missing:?}");
+        std::process::exit(1);
+    }
+}
+
+fn main() {
+    let args: Vec<String> = std::env::args().collect();
+    let (path, seed, count) = (&args[1], args[2].parse::<u64>().expect("a seed"), args[3].parse::<u64>().expect("a count"));
+    let mut seen = Seen::new();
+    for n in seed..seed + count {
+        let mut r = Random(n);
+        let input = make(&mut r);
+        let most = r.of(&[1, 3, 50, 600, 5000, 100_000]);
+        let pieces: Vec<usize> = (0..r.below(20)).map(|_| 1 + r.below(most) as usize).collect();
+        compare(&format!("seed {n}"), path, &input, &pieces, n % 8 == 0, &mut seen);
+    }
+    let example = std::fs::read("sheets/example.csv").expect("the example");
+    for at in 0..=example.len() {
+        compare(&format!("the example in two reads, cut at {at}"), path, &example, &[at], true, &mut seen);
+    }
+    expect_all(&seen);
+    let (sheets, lines) = (count + example.len() as u64 + 1, seen.values().sum::<usize>());
+    println!("{sheets} random sheets of {lines} lines: the program and the model wrote the same bytes");
+}
