@@ -77,6 +77,17 @@ fn block_end(start: usize, len: usize) -> usize
     start + BLOCK
 }
 
+fn after_read(station: Station, len: usize, number: u64, written: bool) -> Progress
+    ensures { λ r. ⌜ (r .len ≡ len) × (r .number ≡ number) ⌝ }
+{
+    Progress {
+        station,
+        len,
+        number,
+        written,
+    }
+}
+
 // Runs what was read, block by block, and writes all answers.
 fn run_read(
     station: Station,
@@ -98,12 +109,7 @@ fn run_read(
     while at < input.len() {
         let room = make_room(out, used);
         if !room.written {
-            return Progress {
-                station: s,
-                len: n,
-                number: next,
-                written: false,
-            };
+            return after_read(s, n, next, false);
         }
         let start = room.start;
         let end = block_end(at, input.len());
@@ -116,12 +122,7 @@ fn run_read(
         at = end;
     }
     let written = io::write_all(STDOUT_FILENO, &out[..used]);
-    Progress {
-        station: s,
-        len: n,
-        number: next,
-        written,
-    }
+    after_read(s, n, next, written)
 }
 
 // The input has ended: a last line without a newline is answered.

@@ -69,38 +69,34 @@ line-stops (b ∷ bs) h = go (eqb b newline) refl (line-stops bs)
         let h′ : suc (length (firstLine bs)) < suc (length bs) = rw (line-no b bs e) at h in
         rw (line-no b bs e) (ih (omega arith))
 
--- ── a turn of the loop ──
-module _ (input : List ℕ) (from end : ℕ) (k : Desk) (l l′ : List ℕ) (o : from ≤ length input) (e : end ≡ from + length (firstLine (drop from input))) (j : l′ ≡ joinedWith l (firstLine (drop from input))) where
+-- ── the bytes of a line in a block, from a place up to their end ──
+module _ (input : List ℕ) (from end : ℕ) (e : end ≡ from + length (firstLine (drop from input))) where
   rest : drop (length (firstLine (drop from input))) (drop from input) ≡ drop end input
   rest = drop-drop (length (firstLine (drop from input))) from input ∙ ap (λ (n : ℕ). drop n input) (sym e)
 
-  to-after : afterBytes (drop from input) (at k l) ≡ afterBytes (drop end input) (at k l′)
-  to-after = line-after (drop from input) k l ∙ ap₂ (λ (bs m : List ℕ). afterBytes bs (at k m)) rest (sym j)
-
-  to-output : bytesOutput (drop from input) (at k l) ≡ bytesOutput (drop end input) (at k l′)
-  to-output = line-output (drop from input) k l ∙ ap₂ (λ (bs m : List ℕ). bytesOutput bs (at k m)) rest (sym j)
-
-  stops : end < length input → drop end input ≡ newline ∷ drop (end + 1) input
-  stops h =
+  -- a byte there is a newline
+  pub stops : from ≤ length input → end < length input → drop end input ≡ newline ∷ drop (end + 1) input
+  stops o h =
       let m : from + suc (length (firstLine (drop from input))) ≡ end + 1 = omega arith in
       sym rest ∙ line-stops (drop from input) (simp length-drop (omega arith))
       ∙ ap (λ (bs : List ℕ). newline ∷ bs) (drop-drop (suc (length (firstLine (drop from input)))) from input ∙ ap (λ (n : ℕ). drop n input) m)
 
-  pub turn-after : end < length input → afterBytes (drop from input) (at k l) ≡ afterBytes (drop (end + 1) input) (at (afterLine l′ k) [])
+  module _ (k : Desk) (l l′ : List ℕ) (j : l′ ≡ joinedWith l (firstLine (drop from input))) where
+    to-after : afterBytes (drop from input) (at k l) ≡ afterBytes (drop end input) (at k l′)
+    to-after = line-after (drop from input) k l ∙ ap₂ (λ (bs m : List ℕ). afterBytes bs (at k m)) rest (sym j)
+
+    to-output : bytesOutput (drop from input) (at k l) ≡ bytesOutput (drop end input) (at k l′)
+    to-output = line-output (drop from input) k l ∙ ap₂ (λ (bs m : List ℕ). bytesOutput bs (at k m)) rest (sym j)
+
+-- a newline at a place of a block
+module _ (input : List ℕ) (end : ℕ) (k : Desk) (l : List ℕ) (e : drop end input ≡ newline ∷ drop (end + 1) input) where
+  turn-after : afterBytes (drop end input) (at k l) ≡ afterBytes (drop (end + 1) input) (at (afterLine l k) [])
   unfolding afterBytes
-  turn-after h = to-after ∙ ap (λ (bs : List ℕ). afterBytes bs (at k l′)) (stops h) ∙ ap (afterBytes (drop (end + 1) input)) (newline-after newline k l′ refl)
+  turn-after = ap (λ (bs : List ℕ). afterBytes bs (at k l)) e ∙ ap (afterBytes (drop (end + 1) input)) (newline-after newline k l refl)
 
-  pub turn-output : end < length input → bytesOutput (drop from input) (at k l) ≡ lineOutput l′ k ++ bytesOutput (drop (end + 1) input) (at (afterLine l′ k) [])
+  turn-output : bytesOutput (drop end input) (at k l) ≡ lineOutput l k ++ bytesOutput (drop (end + 1) input) (at (afterLine l k) [])
   unfolding bytesOutput
-  turn-output h = to-output ∙ ap (λ (bs : List ℕ). bytesOutput bs (at k l′)) (stops h) ∙ ap₂ _++_ (newline-output newline k l′ refl) (ap (bytesOutput (drop (end + 1) input)) (newline-after newline k l′ refl))
-
-  pub last-after : length input ≤ end → afterBytes (drop from input) (at k l) ≡ at k l′
-  unfolding afterBytes
-  last-after h = to-after ∙ ap (λ (bs : List ℕ). afterBytes bs (at k l′)) (drop-of-length-le input h)
-
-  pub last-output : length input ≤ end → bytesOutput (drop from input) (at k l) ≡ []
-  unfolding bytesOutput
-  last-output h = to-output ∙ ap (λ (bs : List ℕ). bytesOutput bs (at k l′)) (drop-of-length-le input h)
+  turn-output = ap (λ (bs : List ℕ). bytesOutput bs (at k l)) e ∙ ap₂ _++_ (newline-output newline k l refl) (ap (bytesOutput (drop (end + 1) input)) (newline-after newline k l refl))
 
 -- ── what was printed after the first a bytes of the output ──
 module _ (a n : ℕ) (xs ys : List ℕ) (o : a ≤ length xs) (p : n ≤ length ys) (l : length ys ≡ length xs - a) where
@@ -117,51 +113,60 @@ module _ (a n : ℕ) (xs ys : List ℕ) (o : a ≤ length xs) (p : n ≤ length 
       ap (λ (m : ℕ). drop m (putMid a (length xs - a) xs ys)) e ∙ drop-append-add (take a xs) (ys ++ drop (length xs - a) (drop a xs)) n
       ∙ drop-append-le n ys _ p ∙ ap (λ (t : List ℕ). drop n ys ++ t) (drop-of-length-le (drop a xs) z) ∙ append-nil (drop n ys)
 
--- ── a block fed up to a place: what is left of it gives the rest ──
-pub record Passed (input : List ℕ) (first : Stream) (out₀ : List ℕ) (s : Stream) (from used : ℕ) (out : List ℕ) : Type 0 where
-  pub after-is : afterBytes input first ≡ afterBytes (drop from input) s
-  pub output-is : bytesOutput input first ≡ take used out ++ bytesOutput (drop from input) s
+-- ── a block fed up to a place: what is left of it gives the rest of what it comes to ──
+pub record Passed (input : List ℕ) (done : Stream) (said out₀ : List ℕ) (s : Stream) (from used : ℕ) (out : List ℕ) : Type 0 where
+  pub after-is : done ≡ afterBytes (drop from input) s
+  pub output-is : said ≡ take used out ++ bytesOutput (drop from input) s
   pub rest-is : drop used out ≡ drop used out₀
 
-pub passed-none : (input : List ℕ) (first : Stream) (out₀ : List ℕ) → Passed input first out₀ first 0 0 out₀
-passed-none input first out₀ = record { after-is = refl; output-is = refl; rest-is = refl }
+pub passed-none : (input out₀ : List ℕ) (s : Stream) (from : ℕ) → Passed input (afterBytes (drop from input) s) (bytesOutput (drop from input) s) out₀ s from 0 out₀
+passed-none input out₀ s from = record { after-is = refl; output-is = refl; rest-is = refl }
 
-module _ (input : List ℕ) (first : Stream) (out₀ : List ℕ) (st : Station) (store : List ℕ) (n : ℕ) (part : List ℕ) (len : ℕ) (from used : ℕ) (out : List ℕ)
-    (h : Passed input first out₀ (streamOf st store n part len) from used out) where
+module _ (input : List ℕ) (done : Stream) (said out₀ : List ℕ) (st : Station) (store : List ℕ) (n : ℕ) (part : List ℕ) (len : ℕ) (from used : ℕ) (out : List ℕ)
+    (h : Passed input done said out₀ (streamOf st store n part len) from used out) where
   -- the block has no byte left
-  pub passed-all : length input ≤ from → (streamOf st store n part len ≡ afterBytes input first) × (take used out ≡ bytesOutput input first)
+  pub passed-all : length input ≤ from → (streamOf st store n part len ≡ done) × (take used out ≡ said)
   unfolding afterBytes bytesOutput
   passed-all o = (
     sym (h .after-is ∙ ap (λ (bs : List ℕ). afterBytes bs (streamOf st store n part len)) (drop-of-length-le input o)),
     sym (h .output-is ∙ ap (λ (bs : List ℕ). take used out ++ bytesOutput bs (streamOf st store n part len)) (drop-of-length-le input o) ∙ append-nil (take used out)),
   )
 
-  module _ (part′ : List ℕ) (len′ end : ℕ) (o : from ≤ length input) (e : end ≡ from + length (firstLine (drop from input)))
-      (j : take len′ part′ ≡ joinedWith (take len part) (firstLine (drop from input))) where
-    -- its last bytes are a line that has no newline yet
-    pub passed-last : length input ≤ end → (streamOf st store n part′ len′ ≡ afterBytes input first) × (take used out ≡ bytesOutput input first)
-    unfolding streamOf
-    passed-last z = (
-      sym (h .after-is ∙ last-after input from end (deskOf st store n) (take len part) (take len′ part′) o e j z),
-      sym (h .output-is ∙ ap (λ (w : List ℕ). take used out ++ w) (last-output input from end (deskOf st store n) (take len part) (take len′ part′) o e j z) ∙ append-nil (take used out)),
-    )
+  -- the bytes up to a newline, or to the block's end, joined the line
+  pub passed-fill : (part′ : List ℕ) (len′ end : ℕ) → end ≡ from + length (firstLine (drop from input)) → take len′ part′ ≡ joinedWith (take len part) (firstLine (drop from input))
+      → Passed input done said out₀ (streamOf st store n part′ len′) end used out
+  unfolding streamOf
+  passed-fill part′ len′ end e j =
+      record {
+        after-is = h .after-is ∙ to-after input from end e (deskOf st store n) (take len part) (take len′ part′) j;
+        output-is = h .output-is ∙ ap (λ (w : List ℕ). take used out ++ w) (to-output input from end e (deskOf st store n) (take len part) (take len′ part′) j);
+        rest-is = h .rest-is;
+      }
 
-    -- a line that ends in the block was run
-    pub passed-line : end < length input → (st′ : Station) (store′ last : List ℕ) (m : ℕ) → used ≤ length out → m ≤ length last → length last ≡ length out - used
-        → deskOf st′ store′ (n + 1) ≡ afterLine (take len′ part′) (deskOf st store n)
-        → take m last ≡ lineOutput (take len′ part′) (deskOf st store n)
-        → drop m last ≡ drop m (take (length out - used) (drop used out))
-        → Passed input first out₀ (streamOf st′ store′ (n + 1) part′ 0) (end + 1) (used + m) (putMid used (length out - used) out last)
-    unfolding streamOf
-    passed-line z st′ store′ last m u v w d t r =
-        let k : take (length out - used) (drop used out) ≡ drop used out = take-all (length out - used) (drop used out) (simp length-drop (omega arith)) in
-        record {
-          after-is = h .after-is ∙ turn-after input from end (deskOf st store n) (take len part) (take len′ part′) o e j z
-              ∙ ap (λ (x : Desk). afterBytes (drop (end + 1) input) (at x [])) (sym d);
-          output-is = h .output-is
-              ∙ ap (λ (x : List ℕ). take used out ++ x) (turn-output input from end (deskOf st store n) (take len part) (take len′ part′) o e j z
-              ∙ ap₂ (λ (x : List ℕ) (y : Desk). x ++ bytesOutput (drop (end + 1) input) (at y [])) (sym t) (sym d))
-              ∙ sym (append-assoc (take used out) (take m last) (bytesOutput (drop (end + 1) input) (at (deskOf st′ store′ (n + 1)) [])))
-              ∙ ap (λ (x : List ℕ). x ++ bytesOutput (drop (end + 1) input) (at (deskOf st′ store′ (n + 1)) [])) (sym (out-taken used m out last u v w));
-          rest-is = out-dropped used m out last u v w ∙ r ∙ ap (drop m) (k ∙ h .rest-is) ∙ drop-drop m used out₀;
-        }
+  -- a newline's line was run
+  pub passed-line : drop from input ≡ newline ∷ drop (from + 1) input → (st′ : Station) (store′ last : List ℕ) (m : ℕ) → used ≤ length out → m ≤ length last → length last ≡ length out - used
+      → deskOf st′ store′ (n + 1) ≡ afterLine (take len part) (deskOf st store n)
+      → take m last ≡ lineOutput (take len part) (deskOf st store n)
+      → drop m last ≡ drop m (take (length out - used) (drop used out))
+      → Passed input done said out₀ (streamOf st′ store′ (n + 1) part 0) (from + 1) (used + m) (putMid used (length out - used) out last)
+  unfolding streamOf
+  passed-line e st′ store′ last m u v w d t r =
+      let k : take (length out - used) (drop used out) ≡ drop used out = take-all (length out - used) (drop used out) (simp length-drop (omega arith)) in
+      record {
+        after-is = h .after-is ∙ turn-after input from (deskOf st store n) (take len part) e ∙ ap (λ (x : Desk). afterBytes (drop (from + 1) input) (at x [])) (sym d);
+        output-is = h .output-is
+            ∙ ap (λ (x : List ℕ). take used out ++ x) (turn-output input from (deskOf st store n) (take len part) e
+            ∙ ap₂ (λ (x : List ℕ) (y : Desk). x ++ bytesOutput (drop (from + 1) input) (at y [])) (sym t) (sym d))
+            ∙ sym (append-assoc (take used out) (take m last) (bytesOutput (drop (from + 1) input) (at (deskOf st′ store′ (n + 1)) [])))
+            ∙ ap (λ (x : List ℕ). x ++ bytesOutput (drop (from + 1) input) (at (deskOf st′ store′ (n + 1)) [])) (sym (out-taken used m out last u v w));
+        rest-is = out-dropped used m out last u v w ∙ r ∙ ap (drop m) (k ∙ h .rest-is) ∙ drop-drop m used out₀;
+      }
+
+-- the line that had begun, filled from the block's start
+pub first-fill : (input : List ℕ) (st : Station) (store : List ℕ) (n : ℕ) (part : List ℕ) (len : ℕ) (part′ : List ℕ) (len′ end : ℕ)
+    → end ≡ 0 + length (firstLine input) → take len′ part′ ≡ joinedWith (take len part) (firstLine input)
+    → (afterBytes (drop end input) (streamOf st store n part′ len′) ≡ afterBytes input (streamOf st store n part len))
+    × (bytesOutput (drop end input) (streamOf st store n part′ len′) ≡ bytesOutput input (streamOf st store n part len))
+first-fill input st store n part len part′ len′ end e j =
+    let p = passed-fill input _ _ [] st store n part len 0 0 [] (passed-none input [] (streamOf st store n part len) 0) part′ len′ end e j in
+    (sym (p .after-is), sym (p .output-is))

@@ -2,7 +2,7 @@
 use Prim.Native.Nat.{ℕ, _+_, _-_, _<_, _≤_}
 use mathlib.Core.Path.{_≡_, refl, sym, ap, _∙_}
 use mathlib.Core.Logic.{_≢_}
-use mathlib.Core.Bool.{true, false}
+use mathlib.Core.Bool.{Bool, true, false}
 use mathlib.Core.List.{List, [], _∷_, _++_}
 use lib.Dec.{eqb}
 use lib.ListN.{length, take, drop, set, getD, length-append, length-take, drop-of-length-le}
@@ -54,6 +54,14 @@ line-next s i o h = ap firstLine (rest-next s i o) ∙ line-no (getD s i 0) (dro
 pub line-end : (s : List ℕ) (i : ℕ) → length s ≤ i → firstLine (drop i s) ≡ []
 unfolding firstLine
 line-end s i h = ap firstLine (drop-of-length-le s h)
+
+pub line-within : (bs : List ℕ) → length (firstLine bs) ≤ length bs
+line-within [] = rw line-none (omega arith)
+line-within (b ∷ bs) = go (eqb b newline) refl (line-within bs)
+  where
+    go : (t : Bool) → eqb b newline ≡ t → length (firstLine bs) ≤ length bs → length (firstLine (b ∷ bs)) ≤ length (b ∷ bs)
+    go true e ih = rw (line-yes b bs e) (omega arith)
+    go false e ih = rw (line-no b bs e) (omega arith)
 
 -- ── the bytes that a block still has for the line, and the place where they end ──
 abbrev pub Left : List ℕ → ℕ → List ℕ → ℕ → List ℕ → Type 0

@@ -94,29 +94,20 @@ pub fn run_block(
     ensures { λ r. ⌜ (streamOf (r .station) (now (store .exit)) (r .number) (now (part .exit)) (r .len) ≡ afterBytes (now (input .entry)) (streamOf station (now (store .entry)) number (now (part .entry)) len)) × (take (r .used) (now (out .exit)) ≡ bytesOutput (now (input .entry)) (streamOf station (now (store .entry)) number (now (part .entry)) len)) × (drop (r .used) (now (out .exit)) ≡ drop (r .used) (now (out .entry))) × (r .used ≤ 96 * length (now (input .entry))) × (r .len ≤ 65) × (r .number ≤ number + length (now (input .entry))) ⌝ }
 {
     let mut s = station;
-    let mut n = len;
     let mut next = number;
     let mut used = 0;
-    let mut at = 0;
-    while at < input.len() {
-        let line = fill(part, n, input, at);
-        n = line.len;
-        at = line.end;
-        if at >= input.len() {
-            return Fed {
-                station: s,
-                len: n,
-                number: next,
-                used,
-            };
-        }
+    let first = fill(part, len, input, 0);
+    let mut n = first.len;
+    let mut end = first.end;
+    while end < input.len() {
         let ran = run_line(s, store, &part[..n], next, &mut out[used..]);
         let after = ran.station;
         s = after;
         used += ran.used;
         next += 1;
-        n = 0;
-        at += 1;
+        let line = fill(part, 0, input, end + 1);
+        n = line.len;
+        end = line.end;
     }
     Fed {
         station: s,

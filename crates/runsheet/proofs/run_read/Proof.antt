@@ -22,6 +22,9 @@ loop-holds c = let s = c .before .before .before .before in (omega arith, s .pre
 make-room-requires : tie.Need-make-room-requires Inv-loop μ-loop
 make-room-requires c κs = search needs
 
+after-read-requires : tie.Need-after-read-requires Inv-loop μ-loop
+after-read-requires c κs = tt
+
 same-length : tie.Need-same-length Inv-loop μ-loop
 same-length c = search needs
 
@@ -32,7 +35,10 @@ same-length-3 : tie.Need-same-length-3 Inv-loop μ-loop
 same-length-3 c = search needs
 
 returns : tie.Need-returns Inv-loop μ-loop
-returns c = let l = c .before .before .before .before .before .loop in (l .inv .1, omega (arith, l .inv .0, l .inv .3))
+returns c =
+    let l = c .before .before .before .before .before .before .loop in
+    let a = c .after-read .ensures in
+    (omega (arith, a .0, l .inv .1), omega (arith, a .1, l .inv .0, l .inv .3))
 
 block-end-requires : tie.Need-block-end-requires Inv-loop μ-loop
 block-end-requires c κs = search needs
@@ -106,6 +112,9 @@ slice-aggregate-write-all c =
 write-all-requires : tie.Need-write-all-requires Inv-loop μ-loop
 write-all-requires c κs = search needs
 
+after-read-requires-2 : tie.Need-after-read-requires-2 Inv-loop μ-loop
+after-read-requires-2 c κs = tt
+
 same-length-4 : tie.Need-same-length-4 Inv-loop μ-loop
 same-length-4 c = search needs
 
@@ -116,7 +125,10 @@ same-length-6 : tie.Need-same-length-6 Inv-loop μ-loop
 same-length-6 c = search needs
 
 returns-2 : tie.Need-returns-2 Inv-loop μ-loop
-returns-2 c = let l = c .before .before .before .loop in (l .inv .1, omega (arith, l .inv .0, l .inv .3))
+returns-2 c =
+    let l = c .before .before .before .before .loop in
+    let a = c .after-read2 .ensures in
+    (omega (arith, a .0, l .inv .1), omega (arith, a .1, l .inv .0, l .inv .3))
 
 pub run-read-spec : {M : Type 1} → statement M
 run-read-spec =
@@ -126,6 +138,7 @@ run-read-spec =
     μ-loop
     loop-holds
     make-room-requires
+    after-read-requires
     same-length
     same-length-2
     same-length-3
@@ -144,6 +157,7 @@ run-read-spec =
     slice-reshare-prefix-write-all
     slice-aggregate-write-all
     write-all-requires
+    after-read-requires-2
     same-length-4
     same-length-5
     same-length-6
