@@ -5,15 +5,18 @@ use mathlib.Core.Bool.{Bool, true, false}
 use mathlib.Core.List.{List, [], _∷_, _++_, append-nil, append-assoc, flatten}
 use mathlib.Core.Option.{none}
 use lib.Dec.{eqb}
-use lib.ListN.{length, take, length-append, length-take}
+use lib.ListN.{length, take, replicate, length-append, length-take}
 use lib.Seq.{take-all}
 use native.Mathlib.Omega.{arith}
 use native.Mathlib.Decide.{decLt}
 use borrow.Author.Tests.{lt-leb}
+use Rattle.model.specs.Limits.{storeSize}
+use Rattle.model.specs.Stations.{emptyStation}
 use Rattle.sheet.specs.Words.{newline, header}
 use Rattle.sheet.specs.Lines.{lineCall}
 use Rattle.sheet.specs.Sheets.{Desk, newDesk, firstLine, otherLines, afterLine, lineOutput, linesOutput, sheetOf}
 use Rattle.stream.specs.Streams.{Stream, newStream, joined, afterByte, byteOutput, afterBytes, bytesOutput, lastLine, endOutput, readsOutput, outputOfReads}
+use Rattle.stream.specs.Parts.{deskOf, streamOf}
 use Rattle.stream.proofs.JoinLaws.{line-none, line-yes, line-no}
 use Rattle.stream.proofs.BlockLaws.{at, newline-after, newline-output, byte-after, byte-output}
 
@@ -141,6 +144,11 @@ reads-whole : (rs : List (List ℕ)) (s : Stream) → readsOutput rs s ≡ whole
 unfolding readsOutput flatten
 reads-whole [] s = unfold whole bytesOutput afterBytes in refl
 reads-whole (r ∷ rs) s = ap (λ (w : List ℕ). bytesOutput r s ++ w) (reads-whole rs (afterBytes r s)) ∙ sym (whole-append r (flatten rs) s)
+
+-- the program's first state, whatever the bytes of the part that keeps a line
+pub starts-new : (part : List ℕ) → streamOf emptyStation (replicate storeSize 0) 1 part 0 ≡ newStream
+unfolding streamOf deskOf newStream newDesk
+starts-new part = refl
 
 -- 01: the program "reads standard input .. and writes one line per line read": however the input is cut into reads, what is written is the sheet of its bytes
 pub reads-do-not-matter : (rs : List (List ℕ)) → outputOfReads rs ≡ sheetOf (flatten rs)
