@@ -64,7 +64,7 @@ fn call(r: &mut Random, txns: u64, keys: u64) -> String {
 /// superseded, and readers meet versions that do not fit.
 fn transaction(r: &mut Random, n: u64, keys: u64, out: &mut Vec<String>) {
     let t = 1000 + n;
-    let puts = 1 + r.below(8);
+    let puts = 1 + r.below(12);
     out.push(format!("start,{t},0,0"));
     for _ in 0..puts {
         out.push(format!("put,{t},{},{}", r.below(keys), r.next() >> r.below(64)));
@@ -221,7 +221,9 @@ fn main() {
     for at in 0..=example.len() {
         compare(&format!("the example in two reads, cut at {at}"), path, &example, &[at], true, &mut seen);
     }
-    expect_all(&seen);
+    if count >= 1000 {
+        expect_all(&seen);
+    }
     let (sheets, lines) = (count + example.len() as u64 + 1, seen.values().sum::<usize>());
     println!("{sheets} random sheets of {lines} lines: the program and the model wrote the same bytes");
 }
