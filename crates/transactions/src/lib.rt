@@ -1,6 +1,10 @@
 // The calls that touch no store: start, put, commit, abort. Each takes whatever comes and equals its definition (model's specs/Start, Put,
 // Commit, Abort): the tests in the order of the table of refusals, then the effect. A refusal hands the station back as given.
+// The place that a call changes is read from `next`, the copy that it works on: an array indexed by a variable is copied again where it
+// is passed on, and `station` is passed on to the refusals.
 use model::Answer;
+use model::Id;
+use model::Live;
 use model::Outcome;
 use model::Phase;
 use model::Station;
@@ -8,6 +12,7 @@ use soundness::is_sound;
 use stations::has_written;
 use stations::highest_free;
 use stations::is_closing;
+use stations::named_row;
 use stations::no_live;
 use stations::opened;
 use stations::place_of;
@@ -16,16 +21,12 @@ use stations::slot_of;
 use stations::with_phase;
 use stations::with_write;
 ghost use mathlib.Core.Path.{_≡_};
-ghost use mathlib.Core.Bool.{true};
-ghost use Rattle.model.specs.Sound.{sound};
-ghost use Rattle.model.specs.Effects.{outcomeOf};
+ghost use Rattle.model.specs.Effects.{outcomeOf, says};
 ghost use Rattle.model.specs.Start.{start};
 ghost use Rattle.model.specs.Put.{put};
 ghost use Rattle.model.specs.Commit.{commit};
 ghost use Rattle.model.specs.Abort.{abort};
-
-// Keys are below this.
-const KEYS: u8 = 64;
+ghost use Rattle.transactions.specs.Committing.{unknownRow, slotFor, afterCommit, commitAnswer};
 
 // A write set has at most this many keys.
 const WRITES: u8 = 8;
@@ -38,13 +39,6 @@ pub fn start(station: Station, txn: u32) -> Outcome
     if !is_sound(station) {
         return refused(station, 2);
     }
-    start_sound(station, txn)
-}
-
-fn start_sound(station: Station, txn: u32) -> Outcome
-    requires { ⌜ sound station ≡ true ⌝ }
-    ensures { λ r. ⌜ r ≡ outcomeOf (start station txn) ⌝ }
-{
     if txn == 0 {
         return refused(station, 3);
     }
@@ -77,25 +71,14 @@ pub fn put(station: Station, txn: u32, key: u8, value: u64) -> Outcome
     if !is_sound(station) {
         return refused(station, 2);
     }
-    put_sound(station, txn, key, value)
-}
-
-fn put_sound(station: Station, txn: u32, key: u8, value: u64) -> Outcome
-    requires { ⌜ sound station ≡ true ⌝ }
-    ensures { λ r. ⌜ r ≡ outcomeOf (put station txn key value) ⌝ }
-{
-    if txn == 0 {
-        return refused(station, 3);
-    }
-    if key >= KEYS {
-        return refused(station, 4);
-    }
     let live = station.live;
     let place = place_of(live, txn);
-    if place >= Station::LIVE {
-        return refused(station, 8);
+    let row = named_row(txn, key, place);
+    if row != 0 {
+        return refused(station, row);
     }
-    let l = live[place];
+    let mut next = station;
+    let l = next.live[place];
     let phase = l.phase;
     if is_closing(phase) {
         return refused(station, 9);
@@ -105,7 +88,6 @@ fn put_sound(station: Station, txn: u32, key: u8, value: u64) -> Outcome
             return refused(station, 11);
         }
     }
-    let mut next = station;
     let kept = with_write(l, key, value);
     next.live[place] = kept;
     Outcome {
@@ -115,6 +97,64 @@ fn put_sound(station: Station, txn: u32, key: u8, value: u64) -> Outcome
 }
 
 // ---- commit
+// The first of rows 3, 5 and 8 that applies; 0 where none does.
+fn unknown_row(txn: u32, clock: u64, held: usize, place: usize) -> u8
+    ensures { λ r. ⌜ r ≡ unknownRow txn clock held place ⌝ }
+{
+    if txn == 0 {
+        return 3;
+    }
+    if clock == 0 {
+        return 5;
+    }
+    if held < Station::SLOTS {
+        return 0;
+    }
+    if place >= Station::LIVE {
+        return 8;
+    }
+    0
+}
+
+// A retry changes nothing.
+fn done(station: Station, id: Id) -> Outcome
+    ensures { λ r. ⌜ r ≡ outcomeOf (says (Answer.Done id) station) ⌝ }
+{
+    Outcome {
+        answer: Answer::Done(id),
+        station,
+    }
+}
+
+// The slot for this many writes: the highest free one, 64 where there is none. Nothing written needs no slot: 0.
+fn slot_for(station: Station, writes: u8) -> usize
+    ensures { λ r. ⌜ r ≡ slotFor writes station ⌝ }
+{
+    if writes == 0 {
+        return 0;
+    }
+    highest_free(station)
+}
+
+// What stands in the place afterwards.
+fn after_commit(l: Live, slot: u8, clock: u64) -> Live
+    ensures { λ r. ⌜ r ≡ afterCommit slot clock l ⌝ }
+{
+    if l.write_count == 0 {
+        return no_live();
+    }
+    with_phase(l, Phase::Closing(slot, clock, 0))
+}
+
+fn commit_answer(writes: u8, slot: u8) -> Answer
+    ensures { λ r. ⌜ r ≡ commitAnswer writes slot ⌝ }
+{
+    if writes == 0 {
+        return Answer::Empty;
+    }
+    Answer::Closing(slot)
+}
+
 // Begins to close a transaction, in the highest free slot. A read-only one is over at once, and a retry of a held one changes nothing.
 pub fn commit(station: Station, txn: u32, clock: u64) -> Outcome
     ensures { λ r. ⌜ r ≡ outcomeOf (commit station txn clock) ⌝ }
@@ -122,58 +162,36 @@ pub fn commit(station: Station, txn: u32, clock: u64) -> Outcome
     if !is_sound(station) {
         return refused(station, 2);
     }
-    commit_sound(station, txn, clock)
-}
-
-fn commit_sound(station: Station, txn: u32, clock: u64) -> Outcome
-    requires { ⌜ sound station ≡ true ⌝ }
-    ensures { λ r. ⌜ r ≡ outcomeOf (commit station txn clock) ⌝ }
-{
-    if txn == 0 {
-        return refused(station, 3);
-    }
-    if clock == 0 {
-        return refused(station, 5);
-    }
-    // A held transaction is not live, so rows 8, 9 and 13 are for the others.
     let entries = station.entries;
     let held = slot_of(entries, txn);
+    let live = station.live;
+    let place = place_of(live, txn);
+    let row = unknown_row(txn, clock, held, place);
+    if row != 0 {
+        return refused(station, row);
+    }
+    // A held transaction is not live, so rows 9 and 13 are for the others.
     if held < Station::SLOTS {
         let e = entries[held];
         let id = e.id;
-        return Outcome {
-            answer: Answer::Done(id),
-            station,
-        };
+        return done(station, id);
     }
-    let live = station.live;
-    let place = place_of(live, txn);
-    if place >= Station::LIVE {
-        return refused(station, 8);
-    }
-    let l = live[place];
+    let mut next = station;
+    let l = next.live[place];
     let phase = l.phase;
     if is_closing(phase) {
         return refused(station, 9);
     }
-    let mut next = station;
-    if l.write_count == 0 {
-        let unused = no_live();
-        next.live[place] = unused;
-        return Outcome {
-            answer: Answer::Empty,
-            station: next,
-        };
-    }
-    let slot = highest_free(station);
+    let writes = l.write_count;
+    let slot = slot_for(station, writes);
     if slot >= Station::SLOTS {
         return refused(station, 13);
     }
     let d = slot as u8;
-    let closing = with_phase(l, Phase::Closing(d, clock, 0));
-    next.live[place] = closing;
+    let after = after_commit(l, d, clock);
+    next.live[place] = after;
     Outcome {
-        answer: Answer::Closing(d),
+        answer: commit_answer(writes, d),
         station: next,
     }
 }
@@ -186,27 +204,18 @@ pub fn abort(station: Station, txn: u32) -> Outcome
     if !is_sound(station) {
         return refused(station, 2);
     }
-    abort_sound(station, txn)
-}
-
-fn abort_sound(station: Station, txn: u32) -> Outcome
-    requires { ⌜ sound station ≡ true ⌝ }
-    ensures { λ r. ⌜ r ≡ outcomeOf (abort station txn) ⌝ }
-{
-    if txn == 0 {
-        return refused(station, 3);
-    }
     let live = station.live;
     let place = place_of(live, txn);
-    if place >= Station::LIVE {
-        return refused(station, 8);
+    let row = named_row(txn, 0, place);
+    if row != 0 {
+        return refused(station, row);
     }
-    let dropped = live[place];
+    let mut next = station;
+    let dropped = next.live[place];
     let phase = dropped.phase;
     if is_closing(phase) {
         return refused(station, 9);
     }
-    let mut next = station;
     let unused = no_live();
     next.live[place] = unused;
     Outcome {

@@ -1,11 +1,21 @@
 -- `transactions::abort` meets its contract. Assumes nothing.
-use mathlib.Core.Path.{sym, ap, _∙_}
+use mathlib.Core.Path.{_≡_, refl, sym, ap, _∙_}
+use mathlib.Core.Bool.{true}
+use lib.ListN.{length, length-map}
 use borrow.Author.Needs.{needs}
 use borrow.Author.Tests.{not-true, not-false}
+use Rattle.model.specs.declared.Answer.the-variants as A
 use Rattle.model.specs.Effects.{outcomeOf}
-use Rattle.transactions.proofs.Rows.{abort-2}
+use Rattle.model.specs.Sound.{sound}
+use Rattle.transactions.proofs.Rows.{placed, abort-2, abort-named, named-here, Here, abort-9, abort-done}
 use Rattle.transactions.proofs.abort.Statement.{statement}
 use Rattle.transactions.proofs.abort.Tie as tie
+
+live8 : (c : tie.Start) → length (c .args .station .live) ≡ 8
+live8 c = simp length-map at (c .good .0 .1 .1 .0 .1 .0 .1)
+
+sound-known : (c : tie.Else1) → sound (c .before .before .args .station) ≡ true
+sound-known c = sym (c .before .is-sound .ensures) ∙ not-false _ (c .if1 .left)
 
 is-sound-requires : tie.Need-is-sound-requires
 is-sound-requires c κs = search needs
@@ -17,12 +27,71 @@ returns : tie.Need-returns
 returns c =
     c .refused .ensures ∙ sym (ap outcomeOf (abort-2 _ (sym (c .before .before .is-sound .ensures) ∙ not-true _ (c .before .if1 .taken)) _))
 
-abort-sound-requires : tie.Need-abort-sound-requires
-abort-sound-requires c κs = sym (c .before .is-sound .ensures) ∙ not-false _ (c .if1 .left)
+place-of-requires : tie.Need-place-of-requires
+place-of-requires c κs = search needs
+
+named-row-requires : tie.Need-named-row-requires
+named-row-requires c κs = search needs
+
+refused-requires-2 : tie.Need-refused-requires-2
+refused-requires-2 c κs = search needs
 
 returns-2 : tie.Need-returns-2
-returns-2 c = search needs
+returns-2 c =
+    c .refused2 .ensures
+    ∙ sym (ap outcomeOf (abort-named _ (sound-known (c .before .before .before .before .before)) _ _ (c .before .before .before .place-of .ensures) (live8 (c .before .before .before .before .before .before .before)) _ (c .before .before .named-row .ensures) (c .before .if2 .taken)))
+
+-- what the tests have told
+here : (c : tie.Else2) → Here (c .before .before .before .before .before .before .args .station) (c .before .before .before .before .before .before .args .txn) (c .before .before .place-of .result)
+here c = named-here _ (sound-known (c .before .before .before .before)) _ _ (c .before .before .place-of .ensures) (live8 (c .before .before .before .before .before .before)) _ 0 (c .before .named-row .ensures) (c .if2 .left) .0
+
+mul-dropped : tie.Need-mul-dropped
+mul-dropped c = let o = here c .low in search needs
+
+element-copy-out-dropped : tie.Need-element-copy-out-dropped
+element-copy-out-dropped c = let o = here c .low in search needs
+
+is-closing-requires : tie.Need-is-closing-requires
+is-closing-requires c κs = search needs
+
+refused-requires-3 : tie.Need-refused-requires-3
+refused-requires-3 c κs = search needs
+
+returns-3 : tie.Need-returns-3
+returns-3 c =
+    c .refused3 .ensures ∙ sym (ap outcomeOf (abort-9 _ _ _ (here (c .before .before .before .before)) _ (sym (c .before .before .is-closing .ensures) ∙ c .before .if3 .taken)))
+
+no-live-requires : tie.Need-no-live-requires
+no-live-requires c κs = search needs
+
+mul-unused : tie.Need-mul-unused
+mul-unused c = let o = here (c .before .before .before .before) .low in search needs
+
+element-set-from-unused : tie.Need-element-set-from-unused
+element-set-from-unused c = let o = here (c .before .before .before .before) .low in search needs
+
+returns-4 : tie.Need-returns-4
+returns-4 c =
+    placed A.Dropped _ _ _ _ _ _ refl (c .no-live .ensures)
+    (abort-done _ _ _ (here (c .before .before .before .before)) _ (sym (c .before .before .is-closing .ensures) ∙ c .before .if3 .left))
 
 pub abort-spec : {M : Type 1} → statement M
 abort-spec =
-    tie.close (tie.spec is-sound-requires refused-requires returns abort-sound-requires returns-2)
+    tie.close
+    (tie.spec
+    is-sound-requires
+    refused-requires
+    returns
+    place-of-requires
+    named-row-requires
+    refused-requires-2
+    returns-2
+    mul-dropped
+    element-copy-out-dropped
+    is-closing-requires
+    refused-requires-3
+    returns-3
+    no-live-requires
+    mul-unused
+    element-set-from-unused
+    returns-4)

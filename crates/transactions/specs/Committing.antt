@@ -1,0 +1,28 @@
+-- Names for what the parts of a commit give.
+use Prim.Native.Nat.{ℕ}
+use mathlib.Core.Bool.{cond}
+use lib.Dec.{eqb, leb}
+use Rattle.model.specs.declared.Live.{Live}
+use Rattle.model.specs.declared.Station.{Station}
+use Rattle.model.specs.declared.Phase.the-variants.{Closing}
+use Rattle.model.specs.declared.Answer.{Answer}
+use Rattle.model.specs.declared.Answer.the-variants as A
+use Rattle.model.specs.Limits.{livePlaces, slots}
+use Rattle.model.specs.Lists.{_and_, anyBelow}
+use Rattle.model.specs.Stations.{noLive, isFree}
+use Rattle.model.specs.Commit.{withPhase, highestFree}
+
+-- the first of rows 3, 5 and 8 that applies to a transaction's number, a clock, and the slot and the place found; 0 where none does
+unfoldable pub unknownRow : ℕ → ℕ → ℕ → ℕ → ℕ
+unknownRow t c j i = cond (eqb t 0) 3 (cond (eqb c 0) 5 (cond (leb slots j and leb livePlaces i) 8 0))
+
+-- the slot that a commit of so many writes takes; none has the number 64
+unfoldable pub slotFor : ℕ → Station → ℕ
+slotFor n st = cond (eqb n 0) 0 (cond (anyBelow (isFree st) slots) (highestFree st) slots)
+
+-- 01 'Calls': "Open with an empty write list: empty, nothing stored, the ticket is forgotten. Else it becomes closing"
+unfoldable pub afterCommit : ℕ → ℕ → Live → Live
+afterCommit d c l = cond (eqb (l .«write_count») 0) noLive (withPhase (Closing d c 0) l)
+
+unfoldable pub commitAnswer : ℕ → ℕ → Answer
+commitAnswer n d = cond (eqb n 0) A.Empty (A.Closing d)
