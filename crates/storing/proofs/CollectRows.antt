@@ -19,18 +19,7 @@ use Rattle.model.specs.Stations.{noEntry, entryAt, setEntry, holds}
 use Rattle.model.specs.Supersedence.{superseded, isRead}
 use Rattle.model.proofs.RefusalLaws.{refusals-none, skipped, hit}
 use Rattle.model.proofs.Tests.{or-none, or-intro-left, or-intro-right, not-of-false, not-of-true}
-use Rattle.storing.specs.Parts.{entryFreed}
 use Rattle.storing.proofs.Parts.{length-right, sound-right}
-
--- the part of a collect once its entry may go
-module _ (st : Station) (s : List ℕ) (d : ℕ) where
-  pub freed-17 : carriesEntry (recordAt s d 0) (entryAt st d) ≡ false → entryFreed st s d ≡ says (A.Refused 17 0) st
-  unfolding entryFreed
-  freed-17 h = hit 17 _ _ st _ (not-of-false _ h)
-
-  pub freed-on : carriesEntry (recordAt s d 0) (entryAt st d) ≡ true → entryFreed st s d ≡ saysStoring (A.Collected (entryAt st d .id)) (setEntry st d noEntry) d 0 zeroRecord
-  unfolding entryFreed
-  freed-on h = skipped 17 _ _ st _ (not-of-true _ h) ∙ refusals-none st _
 
 -- ── the tests of a collect, in their order ──
 module _ (st : Station) (s : List ℕ) (d : ℕ) where
@@ -66,6 +55,11 @@ module _ (st : Station) (s : List ℕ) (d : ℕ) where
           unfolding collect
           collect-16 h = skipped 1 _ _ st _ (length-right s z) ∙ (skipped 2 _ _ st _ (sound-right st g) ∙ (skipped 14 _ _ st _ held ∙ (skipped 15 _ _ st _ (not-of-true _ p) ∙ hit 16 _ _ st _ h)))
 
-          pub collect-on : isRead st (entryAt st d) ≡ false → collect st s d ≡ entryFreed st s d
-          unfolding collect entryFreed
-          collect-on h = skipped 1 _ _ st _ (length-right s z) ∙ (skipped 2 _ _ st _ (sound-right st g) ∙ (skipped 14 _ _ st _ held ∙ (skipped 15 _ _ st _ (not-of-true _ p) ∙ skipped 16 _ _ st _ h)))
+          module _ (r : isRead st (entryAt st d) ≡ false) where
+            pub collect-17 : carriesEntry (recordAt s d 0) (entryAt st d) ≡ false → collect st s d ≡ says (A.Refused 17 0) st
+            unfolding collect
+            collect-17 h = skipped 1 _ _ st _ (length-right s z) ∙ (skipped 2 _ _ st _ (sound-right st g) ∙ (skipped 14 _ _ st _ held ∙ (skipped 15 _ _ st _ (not-of-true _ p) ∙ (skipped 16 _ _ st _ r ∙ hit 17 _ _ st _ (not-of-false _ h)))))
+
+            pub collect-on : carriesEntry (recordAt s d 0) (entryAt st d) ≡ true → collect st s d ≡ saysStoring (A.Collected (entryAt st d .id)) (setEntry st d noEntry) d 0 zeroRecord
+            unfolding collect
+            collect-on h = skipped 1 _ _ st _ (length-right s z) ∙ (skipped 2 _ _ st _ (sound-right st g) ∙ (skipped 14 _ _ st _ held ∙ (skipped 15 _ _ st _ (not-of-true _ p) ∙ (skipped 16 _ _ st _ r ∙ (skipped 17 _ _ st _ (not-of-true _ h) ∙ refusals-none st _)))))

@@ -1,11 +1,12 @@
 -- A get, test by test.
-use Prim.Native.Nat.{ℕ, _+_, _*_, _-_, _<_, _≤_}
+use Prim.Native.Nat.{ℕ, _<_, _≤_}
 use mathlib.Core.Path.{_≡_, refl, sym, ap, ap₂, subst, _∙_}
 use mathlib.Core.Logic.{_≢_}
 use mathlib.Core.Bool.{Bool, true, false}
-use mathlib.Core.List.{List, [], _∷_}
+use mathlib.Core.List.{List, [], _∷_, map}
 use mathlib.Core.Option.{Option, some, none}
-use lib.ListN.{length, take, drop, set}
+use lib.Dec.{eqb}
+use lib.ListN.{length, set}
 use native.Mathlib.Omega.{arith}
 use borrow.Author.Tests.{le-leb, lt-leb, eq-eqb, ne-eqb}
 use Rattle.model.specs.declared.Read.{Read}
@@ -15,47 +16,19 @@ use Rattle.model.specs.declared.Station.{Station}
 use Rattle.model.specs.declared.Answer.the-variants as A
 use Rattle.model.specs.Effects.{Effect, outcomeOf, says, _when_, refusals, wrongLength, unsound}
 use Rattle.model.specs.Get.{choiceOf, withRead, versionAt, noRoom, notCarried, answered, get}
-use Rattle.model.specs.Limits.{keys, recordSize, slotSize, storeSize}
-use Rattle.model.specs.Lists.{any}
+use Rattle.model.specs.Limits.{keys, storeSize}
+use Rattle.model.specs.Lists.{first, any}
 use Rattle.model.specs.Reading.{passes, newest, Choice, own, absent, nofit, version, chosen, choose}
-use Rattle.model.specs.Records.{valueIn, carriesVersion, recordAt, recordOf}
+use Rattle.model.specs.Records.{valueIn, carriesVersion}
 use Rattle.model.specs.Sound.{sound}
-use Rattle.model.specs.Stations.{writesOf, readsOf, wrote, hasWritten, valueUnder, isClosing, liveAt, entryAt, setLive, isLive, placeOf}
+use Rattle.model.specs.Stations.{writesOf, readsOf, wrote, hasWritten, valueUnder, isClosing, liveAt, entryAt, setLive, isLive}
 use Rattle.model.proofs.RefusalLaws.{refusals-none, skipped, hit}
-use Rattle.model.proofs.StationLaws.{place-hit}
 use Rattle.model.proofs.Tests.{not-of-false, not-of-true}
 use Rattle.reading.specs.declared.Chosen.the-variants.{Version, Nofit, None}
 use Rattle.reading.specs.Choosing.{chosenAs}
-use Rattle.storing.specs.Parts.{versionRead}
-use Rattle.storing.proofs.Parts.{record-part, length-right, sound-right}
-
--- the part of a get from its choice on
-module _ (st : Station) (s : List ℕ) (i k d : ℕ) where
-  pub read-12 : noRoom (liveAt st i) k (version d) ≡ true → versionRead st s i k d ≡ says (A.Refused 12 0) st
-  unfolding versionRead
-  read-12 h = hit 12 _ _ st _ h
-
-  module _ (r : noRoom (liveAt st i) k (version d) ≡ false) where
-    pub read-17 : carriesVersion (versionAt st s k d) k (entryAt st d .id) ≡ false → versionRead st s i k d ≡ says (A.Refused 17 0) st
-    unfolding versionRead notCarried
-    read-17 h = skipped 12 _ _ st _ r ∙ hit 17 _ _ st _ (not-of-false _ h)
-
-    pub read-on : carriesVersion (versionAt st s k d) k (entryAt st d .id) ≡ true
-        → versionRead st s i k d ≡ says (A.Version (valueIn (versionAt st s k d)) (entryAt st d .id)) (setLive st i (withRead k (entryAt st d .id) (liveAt st i)))
-    unfolding versionRead notCarried answered
-    read-on h = skipped 12 _ _ st _ r ∙ (skipped 17 _ _ st _ (not-of-true _ h) ∙ refusals-none st _)
-
-    pub read-answer : (v : ℕ) (m : Live) → carriesVersion (versionAt st s k d) k (entryAt st d .id) ≡ true → v ≡ valueIn (versionAt st s k d) → m ≡ withRead k (entryAt st d .id) (liveAt st i)
-        → record { answer = A.Version v (entryAt st d .id); station = record { live = set (st .live) i m; entries = st .entries } } ≡ outcomeOf (versionRead st s i k d)
-    unfolding outcomeOf says setLive
-    read-answer v m h ev em =
-        ap₂ {B = Live} (λ (x : ℕ) (y : Live). outcomeOf (says (A.Version x (entryAt st d .id)) (setLive st i y))) ev em ∙ sym (ap outcomeOf (read-on h))
-
-  -- the version record as a part of the store
-  pub version-part : (n : ℕ) → n ≡ recordOf (entryAt st d) k
-      → take (slotSize * d + recordSize * n + recordSize - (slotSize * d + recordSize * n)) (drop (slotSize * d + recordSize * n) s) ≡ versionAt st s k d
-  unfolding versionAt
-  version-part n e = record-part s d n (slotSize * d + recordSize * n) refl ∙ ap (recordAt s d) e
+use Rattle.stations.specs.Found.{liveTxn, namedRow}
+use Rattle.stations.proofs.Callers.{place-none, named-elim}
+use Rattle.storing.proofs.Parts.{length-right, sound-right, Placed}
 
 -- ── what Algorithm 1 chose, from the code's answer ──
 pub chosen-version : (x : Choice) (d : ℕ) → chosenAs x ≡ Version d → x ≡ version d
@@ -101,57 +74,70 @@ module _ (st : Station) (s : List ℕ) (t k : ℕ) where
     get-2 h = skipped 1 _ _ st _ (length-right s z) ∙ hit 2 _ _ st _ (not-of-false _ h)
 
     module _ (g : sound st ≡ true) where
-      pub get-3 : t ≡ 0 → get st s t k ≡ says (A.Refused 3 0) st
+      get-3 : t ≡ 0 → get st s t k ≡ says (A.Refused 3 0) st
       unfolding get
       get-3 h = skipped 1 _ _ st _ (length-right s z) ∙ (skipped 2 _ _ st _ (sound-right st g) ∙ hit 3 _ _ st _ (eq-eqb t 0 h))
 
-      module _ (n : t ≢ 0) where
-        pub get-4 : keys ≤ k → get st s t k ≡ says (A.Refused 4 0) st
-        unfolding get
-        get-4 h = skipped 1 _ _ st _ (length-right s z) ∙ (skipped 2 _ _ st _ (sound-right st g) ∙ (skipped 3 _ _ st _ (ne-eqb t 0 n) ∙ hit 4 _ _ st _ (le-leb keys k h)))
+      get-4 : t ≢ 0 → keys ≤ k → get st s t k ≡ says (A.Refused 4 0) st
+      unfolding get
+      get-4 n h = skipped 1 _ _ st _ (length-right s z) ∙ (skipped 2 _ _ st _ (sound-right st g) ∙ (skipped 3 _ _ st _ (ne-eqb t 0 n) ∙ hit 4 _ _ st _ (le-leb keys k h)))
 
-        module _ (o : k < keys) where
-          pub get-8 : isLive t st ≡ false → get st s t k ≡ says (A.Refused 8 0) st
-          unfolding get
-          get-8 h = skipped 1 _ _ st _ (length-right s z) ∙ (skipped 2 _ _ st _ (sound-right st g) ∙ (skipped 3 _ _ st _ (ne-eqb t 0 n) ∙ (skipped 4 _ _ st _ (lt-leb keys k o) ∙ hit 8 _ _ st _ (not-of-false _ h))))
+      get-8 : t ≢ 0 → k < keys → isLive t st ≡ false → get st s t k ≡ says (A.Refused 8 0) st
+      unfolding get
+      get-8 n o h = skipped 1 _ _ st _ (length-right s z) ∙ (skipped 2 _ _ st _ (sound-right st g) ∙ (skipped 3 _ _ st _ (ne-eqb t 0 n) ∙ (skipped 4 _ _ st _ (lt-leb keys k o) ∙ hit 8 _ _ st _ (not-of-false _ h))))
 
-          module _ (l : isLive t st ≡ true) (i : ℕ) (at : i ≡ placeOf t st) where
-            -- from row 9 on, at the transaction's place
-            rows : Effect
-            rows = refusals (9 when isClosing (liveAt st i .phase) ∷ 12 when noRoom (liveAt st i) k (choiceOf st (liveAt st i) k) ∷ 17 when notCarried st s k (choiceOf st (liveAt st i) k) ∷ []) st
-                (answered st s i k (choiceOf st (liveAt st i) k))
+      -- by the answers of `place_of` and `named_row`
+      pub get-named : (i r : ℕ) → i ≡ first (eqb t) (map liveTxn (st .live)) → length (st .live) ≡ 8 → r ≡ namedRow t k i → r ≢ 0 → get st s t k ≡ says (A.Refused r 0) st
+      get-named i r q y e = subst (λ (x : ℕ). x ≢ 0 → get st s t k ≡ says (A.Refused x 0) st) (sym e) (named-elim (λ (x : ℕ). x ≢ 0 → get st s t k ≡ says (A.Refused x 0) st) t k i
+          (λ h _. get-3 h)
+          (λ n h _. get-4 n h)
+          (λ n o h _. get-8 n o (place-none st t i q y h))
+          (λ _ _ _ h. absurd (h refl)))
 
-            get-rows : get st s t k ≡ rows
-            unfolding get rows
-            get-rows = skipped 1 _ _ st _ (length-right s z) ∙ (skipped 2 _ _ st _ (sound-right st g) ∙ (skipped 3 _ _ st _ (ne-eqb t 0 n) ∙ (skipped 4 _ _ st _ (lt-leb keys k o) ∙ (skipped 8 _ _ st _ (not-of-true _ l)
-                ∙ ap (λ (j : ℕ). refusals (9 when isClosing (liveAt st j .phase) ∷ 12 when noRoom (liveAt st j) k (choiceOf st (liveAt st j) k) ∷ 17 when notCarried st s k (choiceOf st (liveAt st j) k) ∷ []) st
-                (answered st s j k (choiceOf st (liveAt st j) k))) (sym at)))))
+  module _ (i : ℕ) (f : Placed st s t k i) where
+    -- from row 9 on, at the transaction's place
+    rows : ℕ → Effect
+    rows j = refusals (9 when isClosing (liveAt st j .phase) ∷ 12 when noRoom (liveAt st j) k (choiceOf st (liveAt st j) k) ∷ 17 when notCarried st s k (choiceOf st (liveAt st j) k) ∷ []) st
+        (answered st s j k (choiceOf st (liveAt st j) k))
 
-            pub get-9 : isClosing (liveAt st i .phase) ≡ true → get st s t k ≡ says (A.Refused 9 0) st
-            unfolding rows
-            get-9 h = get-rows ∙ hit 9 _ _ st _ h
+    get-rows : get st s t k ≡ rows i
+    unfolding get rows
+    get-rows = skipped 1 _ _ st _ (length-right s (f .size)) ∙ (skipped 2 _ _ st _ (sound-right st (f .right)) ∙ (skipped 3 _ _ st _ (ne-eqb t 0 (f .number)) ∙ (skipped 4 _ _ st _ (lt-leb keys k (f .key)) ∙ (skipped 8 _ _ st _ (not-of-true _ (f .live))
+        ∙ ap rows (sym (f .place))))))
 
-            module _ (p : isClosing (liveAt st i .phase) ≡ false) where
-              chosen-rows : (ch : Choice) → choiceOf st (liveAt st i) k ≡ ch → get st s t k ≡ refusals (12 when noRoom (liveAt st i) k ch ∷ 17 when notCarried st s k ch ∷ []) st (answered st s i k ch)
-              unfolding rows
-              chosen-rows ch h = get-rows ∙ (skipped 9 _ _ st _ p ∙ ap (λ (x : Choice). refusals (12 when noRoom (liveAt st i) k x ∷ 17 when notCarried st s k x ∷ []) st (answered st s i k x)) h)
+    pub get-9 : isClosing (liveAt st i .phase) ≡ true → get st s t k ≡ says (A.Refused 9 0) st
+    unfolding rows
+    get-9 h = get-rows ∙ hit 9 _ _ st _ h
 
-              pub get-own : (v : ℕ) → choiceOf st (liveAt st i) k ≡ own v → get st s t k ≡ says (A.Own v) st
-              unfolding noRoom notCarried answered refusals
-              get-own v h = chosen-rows (own v) h
+    module _ (p : isClosing (liveAt st i .phase) ≡ false) where
+      chosen-rows : (ch : Choice) → choiceOf st (liveAt st i) k ≡ ch → get st s t k ≡ refusals (12 when noRoom (liveAt st i) k ch ∷ 17 when notCarried st s k ch ∷ []) st (answered st s i k ch)
+      unfolding rows
+      chosen-rows ch h = get-rows ∙ (skipped 9 _ _ st _ p ∙ ap (λ (x : Choice). refusals (12 when noRoom (liveAt st i) k x ∷ 17 when notCarried st s k x ∷ []) st (answered st s i k x)) h)
 
-              pub get-none : choiceOf st (liveAt st i) k ≡ absent → get st s t k ≡ says A.None st
-              unfolding noRoom notCarried answered refusals
-              get-none h = chosen-rows absent h
+      pub get-own : (v : ℕ) → choiceOf st (liveAt st i) k ≡ own v → get st s t k ≡ says (A.Own v) st
+      unfolding noRoom notCarried answered refusals
+      get-own v h = chosen-rows (own v) h
 
-              pub get-nofit : choiceOf st (liveAt st i) k ≡ nofit → get st s t k ≡ says A.Nofit st
-              unfolding noRoom notCarried answered refusals
-              get-nofit h = chosen-rows nofit h
+      pub get-none : choiceOf st (liveAt st i) k ≡ absent → get st s t k ≡ says A.None st
+      unfolding noRoom notCarried answered refusals
+      get-none h = chosen-rows absent h
 
-              pub get-read : (d : ℕ) → choiceOf st (liveAt st i) k ≡ version d → get st s t k ≡ versionRead st s i k d
-              unfolding versionRead
-              get-read d h = chosen-rows (version d) h
+      pub get-nofit : choiceOf st (liveAt st i) k ≡ nofit → get st s t k ≡ says A.Nofit st
+      unfolding noRoom notCarried answered refusals
+      get-nofit h = chosen-rows nofit h
 
-            -- the place of the transaction has its number
-            pub place-numbered : liveAt st i .txn ≢ 0
-            place-numbered = subst (λ (j : ℕ). liveAt st j .txn ≢ 0) (sym at) (λ e. n (sym (place-hit st t l .1) ∙ e))
+      module _ (d : ℕ) (c : choiceOf st (liveAt st i) k ≡ version d) where
+        pub get-12 : noRoom (liveAt st i) k (version d) ≡ true → get st s t k ≡ says (A.Refused 12 0) st
+        get-12 h = chosen-rows (version d) c ∙ hit 12 _ _ st _ h
+
+        module _ (r : noRoom (liveAt st i) k (version d) ≡ false) where
+          pub get-17 : carriesVersion (versionAt st s k d) k (entryAt st d .id) ≡ false → get st s t k ≡ says (A.Refused 17 0) st
+          unfolding notCarried
+          get-17 h = chosen-rows (version d) c ∙ (skipped 12 _ _ st _ r ∙ hit 17 _ _ st _ (not-of-false _ h))
+
+          pub get-version : (v : ℕ) (m : Live) → carriesVersion (versionAt st s k d) k (entryAt st d .id) ≡ true → v ≡ valueIn (versionAt st s k d) → m ≡ withRead k (entryAt st d .id) (liveAt st i)
+              → record { answer = A.Version v (entryAt st d .id); station = record { live = set (st .live) i m; entries = st .entries } } ≡ outcomeOf (get st s t k)
+          unfolding notCarried answered outcomeOf says setLive
+          get-version v m h ev em =
+              ap₂ {B = Live} (λ (x : ℕ) (y : Live). outcomeOf (says (A.Version x (entryAt st d .id)) (setLive st i y))) ev em
+              ∙ sym (ap outcomeOf (chosen-rows (version d) c ∙ (skipped 12 _ _ st _ r ∙ (skipped 17 _ _ st _ (not-of-true _ h) ∙ refusals-none st _))))

@@ -1,22 +1,31 @@
--- A record as a part of a store, and what a call hands back.
+-- A record as a part of a store, what a call hands back, and the place of a call's transaction.
 use Prim.Native.Nat.{ℕ, _+_, _*_, _-_, _<_, _≤_}
-use mathlib.Core.Path.{_≡_, sym, ap, ap₂, _∙_}
+use mathlib.Core.Path.{_≡_, sym, ap, ap₂, subst, _∙_}
+use mathlib.Core.Logic.{_≢_}
 use mathlib.Core.Bool.{true, false}
-use mathlib.Core.List.{List, _++_}
+use mathlib.Core.List.{List, _++_, map}
+use lib.Dec.{eqb}
 use lib.ListN.{length, take, drop}
 use lib.Seq.{drop-drop}
 use native.Mathlib.Omega.{arith}
-use borrow.Rule.Slice.PartMut.{putMid, mid-len}
+use borrow.Rule.Slice.PartMut.{putMid}
 use borrow.Author.Tests.{eq-eqb}
 use Rattle.model.specs.declared.Station.{Station}
 use Rattle.model.specs.declared.Outcome.{Outcome}
 use Rattle.model.specs.declared.Answer.{Answer}
 use Rattle.model.specs.declared.Answer.the-variants as A
 use Rattle.model.specs.Effects.{Effect, stored, outcomeOf, says, saysStoring, wrongLength, unsound}
-use Rattle.model.specs.Limits.{slots, recordSize, width, slotSize, storeSize}
+use Rattle.model.specs.Limits.{keys, livePlaces, slots, recordSize, width, slotSize, storeSize}
+use Rattle.model.specs.Lists.{first}
 use Rattle.model.specs.Records.{recordPlace, recordAt, withRecord}
 use Rattle.model.specs.Sound.{sound}
+use Rattle.model.specs.Stations.{liveAt, isLive, placeOf}
+use Rattle.model.proofs.SoundFacts.{live-facts}
+use Rattle.model.proofs.SoundLaws.{Used}
+use Rattle.model.proofs.StationLaws.{place-hit}
 use Rattle.model.proofs.Tests.{not-of-true}
+use Rattle.stations.specs.Found.{liveTxn, namedRow}
+use Rattle.stations.proofs.Callers.{place-eq, place-live, named-elim}
 
 -- a record written into its place of a store
 pub record-written : (s y r : List ℕ) (d n at : ℕ) → at ≡ slotSize * d + recordSize * n → y ≡ r → putMid at (at + recordSize - at) s y ≡ withRecord s d n r
@@ -36,12 +45,6 @@ record-part s d n at q =
     let p : at ≡ recordPlace d n = omega arith in
     ap₂ (λ (x a : ℕ). take x (drop a s)) k p
 
--- it has 24 bytes
-pub record-part-length : (s : List ℕ) (d n at : ℕ) → at ≡ slotSize * d + recordSize * n → length s ≡ storeSize → d < slots → n < width → length (take (at + recordSize - at) (drop at s)) ≡ recordSize
-record-part-length s d n at q h o m =
-    let f : at + recordSize ≤ length s = omega arith in
-    mid-len at (at + recordSize) s f ∙ omega arith
-
 -- the answer and the station handed back, and the store at exit: with nothing stored, with one record stored
 pub handed : (e : Effect) (a : Answer) (st : Station) (s : List ℕ) → e ≡ says a st → (record { answer = a; station = st } ≡ outcomeOf e) × (s ≡ stored (e .stores) s)
 unfolding outcomeOf says stored
@@ -57,10 +60,6 @@ pub refusal : (e : Effect) (st : Station) (n : ℕ) (r : Outcome) (s : List ℕ)
 unfolding outcomeOf says stored
 refusal e st n r s h q = (h ∙ sym (ap outcomeOf q), sym (ap (λ (x : Effect). stored (x .stores) s) q))
 
--- what is handed back by the effect e′ is handed back by e, which is equal to it
-pub same-effect : (e e′ : Effect) (r : Outcome) (s z : List ℕ) → e ≡ e′ → (r ≡ outcomeOf e′) × (z ≡ stored (e′ .stores) s) → (r ≡ outcomeOf e) × (z ≡ stored (e .stores) s)
-same-effect e e′ r s z q h = (h .0 ∙ sym (ap outcomeOf q), h .1 ∙ sym (ap (λ (x : Effect). stored (x .stores) s) q))
-
 -- rows 1 and 2 do not apply
 pub length-right : (s : List ℕ) → length s ≡ storeSize → wrongLength s ≡ false
 unfolding wrongLength
@@ -69,3 +68,29 @@ length-right s z = not-of-true _ (eq-eqb _ _ z)
 pub sound-right : (st : Station) → sound st ≡ true → unsound st ≡ false
 unfolding unsound
 sound-right st g = not-of-true _ g
+
+-- the transaction t of a call, whose key is k, is live at place i; the station is sound and the store of its length
+pub record Placed (st : Station) (s : List ℕ) (t k i : ℕ) : Type 0 where
+  pub size : length s ≡ storeSize
+  pub right : sound st ≡ true
+  pub number : t ≢ 0
+  pub key : k < keys
+  pub low : i < livePlaces
+  pub place : i ≡ placeOf t st
+  pub live : isLive t st ≡ true
+
+-- from the answers of `place_of` and `named_row`
+pub placed : (st : Station) (s : List ℕ) (t k i : ℕ) → length s ≡ storeSize → sound st ≡ true → i ≡ first (eqb t) (map liveTxn (st .live)) → length (st .live) ≡ 8 → namedRow t k i ≡ 0 → Placed st s t k i
+placed st s t k i z g q y = named-elim (λ (r : ℕ). r ≡ 0 → Placed st s t k i) t k i
+    (λ _ (h : _≡_ {A = ℕ} 3 0). absurd (omega arith))
+    (λ _ _ (h : _≡_ {A = ℕ} 4 0). absurd (omega arith))
+    (λ _ _ _ (h : _≡_ {A = ℕ} 8 0). absurd (omega arith))
+    (λ n o p _. record { size = z; right = g; number = n; key = o; low = p; place = place-eq st t i q; live = place-live st t i q y p })
+
+-- the place's transaction keeps the rules of one in use
+module _ (st : Station) (s : List ℕ) (t k i : ℕ) (f : Placed st s t k i) where
+  pub place-numbered : liveAt st i .txn ≢ 0
+  place-numbered = subst (λ (j : ℕ). liveAt st j .txn ≢ 0) (sym (f .place)) (λ e. f .number (sym (place-hit st t (f .live) .1) ∙ e))
+
+  pub place-used : Used (st .entries) (liveAt st i)
+  place-used = live-facts st (f .right) i place-numbered

@@ -1,51 +1,59 @@
--- A step, test by test, and what each of its three kinds hands back.
+-- A step, test by test.
 use Prim.Native.Nat.{ℕ, _+_, _<_, _≤_}
-use mathlib.Core.Path.{_≡_, refl, ap, subst, _∙_}
+use mathlib.Core.Path.{_≡_, refl, sym, ap, ap₂, subst, _∙_}
 use mathlib.Core.Logic.{_≢_, _⊎_, ⊎-elim}
-use mathlib.Core.Bool.{Bool, true, false}
-use mathlib.Core.List.{List}
+use mathlib.Core.Bool.{Bool, true, false, not}
+use mathlib.Core.List.{List, [], _∷_, map}
+use lib.Dec.{eqb, ltb}
 use lib.ListN.{length, getD, set}
 use native.Mathlib.Nat.{lt-irrefl}
 use native.Mathlib.Omega.{arith}
-use borrow.Author.Tests.{lt-ltb, le-ltb, eq-eqb, ne-eqb}
+use borrow.Author.Tests.{ltb-false, lt-ltb, le-ltb, eq-eqb, ne-eqb}
 use Rattle.model.specs.declared.Live.{Live}
 use Rattle.model.specs.declared.Entry.{Entry}
 use Rattle.model.specs.declared.Station.{Station}
 use Rattle.model.specs.declared.Phase.{Phase}
 use Rattle.model.specs.declared.Phase.the-variants.{Unused, Open, Closing}
+use Rattle.model.specs.declared.Answer.{Answer}
 use Rattle.model.specs.declared.Answer.the-variants as A
 use Rattle.model.specs.Commit.{withPhase}
-use Rattle.model.specs.Effects.{Effect, stored, outcomeOf, says, wrongLength, unsound}
+use Rattle.model.specs.Effects.{Effect, stored, outcomeOf, says, saysStoring, _when_, refusals, wrongLength, unsound}
 use Rattle.model.specs.Limits.{storeSize}
+use Rattle.model.specs.Lists.{first}
 use Rattle.model.specs.Records.{commitRecord, versionRecord, withRecord}
 use Rattle.model.specs.Sound.{sound}
-use Rattle.model.specs.Stations.{noWrite, noLive, isClosing, closingSlot, recordsStored, liveAt, setLive, setEntry, isLive, placeOf}
+use Rattle.model.specs.Stations.{noWrite, noLive, isClosing, closingSlot, recordsStored, liveAt, setLive, setEntry, isLive}
 use Rattle.model.specs.Step.{entryFor, oneMore, stepped, step}
 use Rattle.model.proofs.RefusalLaws.{refusals-none, skipped, hit}
 use Rattle.model.proofs.Tests.{not-of-false, not-of-true}
-use Rattle.storing.proofs.Parts.{handed, handed-storing, length-right, sound-right}
+use Rattle.stations.specs.Found.{liveTxn, namedRow}
+use Rattle.stations.proofs.Callers.{place-none, named-elim}
+use Rattle.storing.specs.Parts.{recordAnswer, recordStored}
+use Rattle.storing.proofs.Parts.{handed, length-right, sound-right, Placed}
 
-module _ (st : Station) (i d c n : ℕ) where
-  -- the effect of a step of the transaction at place i, which is closing
-  abbrev pub closingStep : Effect
-  closingStep = stepped st i (liveAt st i) (Closing d c n)
+-- a step that stores a record, of either kind
+record-step : (st : Station) (s : List ℕ) (i d c n : ℕ) → n ≤ liveAt st i .«write_count»
+    → (outcomeOf (stepped st i (liveAt st i) (Closing d c n)) ≡ record { answer = recordAnswer (liveAt st i) d n; station = setLive st i (withPhase (Closing d c (n + 1)) (liveAt st i)) })
+    × (stored (stepped st i (liveAt st i) (Closing d c n) .stores) s ≡ recordStored (liveAt st i) (entryFor (liveAt st i)) d n s)
+unfolding stepped closingSlot recordsStored oneMore outcomeOf saysStoring stored recordAnswer recordStored
+record-step st s i d c n o = go (ltb n (liveAt st i .«write_count»)) refl
+  where
+    go : (b : Bool) → ltb n (liveAt st i .«write_count») ≡ b
+        → (outcomeOf (stepped st i (liveAt st i) (Closing d c n)) ≡ record { answer = recordAnswer (liveAt st i) d n; station = setLive st i (withPhase (Closing d c (n + 1)) (liveAt st i)) })
+        × (stored (stepped st i (liveAt st i) (Closing d c n) .stores) s ≡ recordStored (liveAt st i) (entryFor (liveAt st i)) d n s)
+    go true e = (rw e, rw e)
+    go false e = let h : n ≡ liveAt st i .«write_count» = omega (arith, ltb-false n (liveAt st i .«write_count») e) in (rw (e, eq-eqb n _ h), rw (e, eq-eqb n _ h))
 
-  pub step-version : (m : Live) (e : Entry) (s z : List ℕ) → n < liveAt st i .«write_count» → e ≡ entryFor (liveAt st i) → m ≡ withPhase (Closing d c (n + 1)) (liveAt st i)
-      → z ≡ withRecord s d (n + 1) (versionRecord (getD (liveAt st i .writes) n noWrite .key) (e .id) (getD (liveAt st i .writes) n noWrite .value))
-      → (record { answer = A.Stored (getD (liveAt st i .writes) n noWrite .key); station = record { live = set (st .live) i m; entries = st .entries } } ≡ outcomeOf closingStep) × (z ≡ stored (closingStep .stores) s)
-  unfolding stepped closingSlot recordsStored oneMore setLive
-  step-version m e s z o q p w = handed-storing _ _ _ d (n + 1) (versionRecord (getD (liveAt st i .writes) n noWrite .key) (e .id) (getD (liveAt st i .writes) n noWrite .value)) s z (rw (lt-ltb n _ o, p, q)) w
+-- the two kinds of record, as stored by the code
+module _ (l : Live) (e : Entry) (d n : ℕ) (s z : List ℕ) where
+  pub commit-stored : n ≡ l .«write_count» → z ≡ withRecord s d 0 (commitRecord e) → (A.Slipped d ≡ recordAnswer l d n) × (z ≡ recordStored l e d n s)
+  unfolding recordAnswer recordStored
+  commit-stored h w = let o : l .«write_count» ≤ n = omega arith in (rw (le-ltb n (l .«write_count») o), rw (le-ltb n (l .«write_count») o) w)
 
-  pub step-commit : (m : Live) (e : Entry) (s z : List ℕ) → n ≡ liveAt st i .«write_count» → e ≡ entryFor (liveAt st i) → m ≡ withPhase (Closing d c (n + 1)) (liveAt st i)
-      → z ≡ withRecord s d 0 (commitRecord e)
-      → (record { answer = A.Slipped d; station = record { live = set (st .live) i m; entries = st .entries } } ≡ outcomeOf closingStep) × (z ≡ stored (closingStep .stores) s)
-  unfolding stepped closingSlot recordsStored oneMore setLive
-  step-commit m e s z o q p w = let f : liveAt st i .«write_count» ≤ n = omega arith in handed-storing _ _ _ d 0 (commitRecord e) s z (rw (le-ltb n (liveAt st i .«write_count») f, eq-eqb n (liveAt st i .«write_count») o, p, q)) w
-
-  pub step-done : (m : Live) (e : Entry) (s : List ℕ) → liveAt st i .«write_count» < n → e ≡ entryFor (liveAt st i) → m ≡ noLive
-      → (record { answer = A.Done (e .id); station = record { live = set (st .live) i m; entries = set (st .entries) d e } } ≡ outcomeOf closingStep) × (s ≡ stored (closingStep .stores) s)
-  unfolding stepped closingSlot recordsStored oneMore setLive setEntry
-  step-done m e s o q p = let f : liveAt st i .«write_count» ≤ n = omega arith in handed _ _ _ s (rw (le-ltb n (liveAt st i .«write_count») f, ne-eqb n (liveAt st i .«write_count») (λ x. lt-irrefl n (omega arith)), p, q))
+  pub version-stored : n < l .«write_count» → z ≡ withRecord s d (n + 1) (versionRecord (getD (l .writes) n noWrite .key) (e .id) (getD (l .writes) n noWrite .value))
+      → (A.Stored (getD (l .writes) n noWrite .key) ≡ recordAnswer l d n) × (z ≡ recordStored l e d n s)
+  unfolding recordAnswer recordStored
+  version-stored o w = (rw (lt-ltb n (l .«write_count») o), rw (lt-ltb n (l .«write_count») o) w)
 
 -- ── the tests of a step, in their order ──
 module _ (st : Station) (s : List ℕ) (t : ℕ) where
@@ -59,28 +67,56 @@ module _ (st : Station) (s : List ℕ) (t : ℕ) where
     step-2 h = skipped 1 _ _ st _ (length-right s z) ∙ hit 2 _ _ st _ (not-of-false _ h)
 
     module _ (g : sound st ≡ true) where
-      pub step-3 : t ≡ 0 → step st s t ≡ says (A.Refused 3 0) st
+      step-3 : t ≡ 0 → step st s t ≡ says (A.Refused 3 0) st
       unfolding step
       step-3 h = skipped 1 _ _ st _ (length-right s z) ∙ (skipped 2 _ _ st _ (sound-right st g) ∙ hit 3 _ _ st _ (eq-eqb t 0 h))
 
-      pub step-8 : t ≢ 0 → isLive t st ≡ false → step st s t ≡ says (A.Refused 8 0) st
+      step-8 : t ≢ 0 → isLive t st ≡ false → step st s t ≡ says (A.Refused 8 0) st
       unfolding step
       step-8 n h = skipped 1 _ _ st _ (length-right s z) ∙ (skipped 2 _ _ st _ (sound-right st g) ∙ (skipped 3 _ _ st _ (ne-eqb t 0 n) ∙ hit 8 _ _ st _ (not-of-false _ h)))
 
-      module _ (n : t ≢ 0) (l : isLive t st ≡ true) where
-        module _ (i : ℕ) (at : i ≡ placeOf t st) where
-          closing-row : (b : Bool) → isClosing (liveAt st i .phase) ≡ b → isClosing (liveAt st (placeOf t st) .phase) ≡ b
-          closing-row b h = subst (λ (x : ℕ). isClosing (liveAt st x .phase) ≡ b) at h
+      -- by the answers of `place_of` and `named_row`, the latter for key 0
+      pub step-named : (i r : ℕ) → i ≡ first (eqb t) (map liveTxn (st .live)) → length (st .live) ≡ 8 → r ≡ namedRow t 0 i → r ≢ 0 → step st s t ≡ says (A.Refused r 0) st
+      step-named i r q y e = subst (λ (x : ℕ). x ≢ 0 → step st s t ≡ says (A.Refused x 0) st) (sym e) (named-elim (λ (x : ℕ). x ≢ 0 → step st s t ≡ says (A.Refused x 0) st) t 0 i
+          (λ h _. step-3 h)
+          (λ _ h _. absurd (omega arith))
+          (λ n _ h _. step-8 n (place-none st t i q y h))
+          (λ _ _ _ h. absurd (h refl)))
 
-          pub step-10 : isClosing (liveAt st i .phase) ≡ false → step st s t ≡ says (A.Refused 10 0) st
-          unfolding step
-          step-10 h = skipped 1 _ _ st _ (length-right s z) ∙ (skipped 2 _ _ st _ (sound-right st g) ∙ (skipped 3 _ _ st _ (ne-eqb t 0 n) ∙ (skipped 8 _ _ st _ (not-of-true _ l) ∙ hit 10 _ _ st _ (not-of-false _ (closing-row false h)))))
+  module _ (i : ℕ) (f : Placed st s t 0 i) where
+    -- row 10, at the transaction's place
+    rows : ℕ → Effect
+    rows j = refusals (10 when not (isClosing (liveAt st j .phase)) ∷ []) st (stepped st j (liveAt st j) (liveAt st j .phase))
 
-          pub step-on : (d c k : ℕ) → liveAt st i .phase ≡ Closing d c k → step st s t ≡ stepped st i (liveAt st i) (Closing d c k)
-          unfolding step isClosing
-          step-on d c k h = skipped 1 _ _ st _ (length-right s z) ∙ (skipped 2 _ _ st _ (sound-right st g) ∙ (skipped 3 _ _ st _ (ne-eqb t 0 n) ∙ (skipped 8 _ _ st _ (not-of-true _ l)
-              ∙ (skipped 10 _ _ st _ (not-of-true _ (closing-row true (ap isClosing h))) ∙ (refusals-none st _
-              ∙ subst (λ (x : ℕ). stepped st x (liveAt st x) (liveAt st x .phase) ≡ stepped st i (liveAt st i) (Closing d c k)) at (ap (stepped st i (liveAt st i)) h))))))
+    step-rows : step st s t ≡ rows i
+    unfolding step rows
+    step-rows = skipped 1 _ _ st _ (length-right s (f .size)) ∙ (skipped 2 _ _ st _ (sound-right st (f .right)) ∙ (skipped 3 _ _ st _ (ne-eqb t 0 (f .number)) ∙ (skipped 8 _ _ st _ (not-of-true _ (f .live)) ∙ ap rows (sym (f .place)))))
+
+    pub step-10 : isClosing (liveAt st i .phase) ≡ false → step st s t ≡ says (A.Refused 10 0) st
+    unfolding rows
+    step-10 h = step-rows ∙ hit 10 _ _ st _ (not-of-false _ h)
+
+    module _ (d c n : ℕ) (p : liveAt st i .phase ≡ Closing d c n) where
+      step-on : step st s t ≡ stepped st i (liveAt st i) (Closing d c n)
+      unfolding rows isClosing
+      step-on = step-rows ∙ (skipped 10 _ _ st _ (not-of-true _ (ap isClosing p)) ∙ (refusals-none st _ ∙ ap (stepped st i (liveAt st i)) p))
+
+      -- a record is stored
+      pub step-record : (a : Answer) (m : Live) (e : Entry) (z : List ℕ) → n ≤ liveAt st i .«write_count» → e ≡ entryFor (liveAt st i) → m ≡ withPhase (Closing d c (n + 1)) (liveAt st i)
+          → a ≡ recordAnswer (liveAt st i) d n → z ≡ recordStored (liveAt st i) e d n s
+          → (record { answer = a; station = record { live = set (st .live) i m; entries = st .entries } } ≡ outcomeOf (step st s t)) × (z ≡ stored (step st s t .stores) s)
+      unfolding setLive
+      step-record a m e z o q r ea ez =
+          let h = record-step st s i d c n o in (
+            ap₂ {B = Live} (λ (x : Answer) (y : Live). record { answer = x; station = setLive st i y }) ea r ∙ sym (ap outcomeOf step-on ∙ h .0),
+            ez ∙ (ap (λ (x : Entry). recordStored (liveAt st i) x d n s) q ∙ sym (ap (λ (x : Effect). stored (x .stores) s) step-on ∙ h .1)),
+          )
+
+      -- the entry is made
+      pub step-done : (m : Live) (e : Entry) → liveAt st i .«write_count» < n → e ≡ entryFor (liveAt st i) → m ≡ noLive
+          → (record { answer = A.Done (e .id); station = record { live = set (st .live) i m; entries = set (st .entries) d e } } ≡ outcomeOf (step st s t)) × (s ≡ stored (step st s t .stores) s)
+      unfolding stepped closingSlot recordsStored oneMore setLive setEntry
+      step-done m e o q r = let g : liveAt st i .«write_count» ≤ n = omega arith in handed _ _ _ s (step-on ∙ (rw (le-ltb n (liveAt st i .«write_count») g, ne-eqb n (liveAt st i .«write_count») (λ x. lt-irrefl n (omega arith)), r, q)))
 
 -- a phase that is none of the third kind
 pub not-closing : (p : Phase) → (denote.Enum.Declared.tagOf Rattle.model.proofs.Phase.the-type p ≡ 0) ⊎ (denote.Enum.Declared.tagOf Rattle.model.proofs.Phase.the-type p ≡ 1) → isClosing p ≡ false

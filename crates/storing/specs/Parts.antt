@@ -1,21 +1,21 @@
--- The last parts of a get and of a collect: what is left of their tests once a version, or an entry, is found.
-use Prim.Native.Nat.{ℕ}
-use mathlib.Core.Bool.{not}
-use mathlib.Core.List.{List, [], _∷_}
-use Rattle.model.specs.declared.Station.{Station}
+-- What a step that stores a record answers and stores, its transaction having n records stored.
+use Prim.Native.Nat.{ℕ, _+_}
+use mathlib.Core.Bool.{cond}
+use mathlib.Core.List.{List}
+use lib.Dec.{ltb}
+use lib.ListN.{getD}
+use Rattle.model.specs.declared.Write.{Write}
+use Rattle.model.specs.declared.Live.{Live}
+use Rattle.model.specs.declared.Entry.{Entry}
+use Rattle.model.specs.declared.Answer.{Answer}
 use Rattle.model.specs.declared.Answer.the-variants as A
-use Rattle.model.specs.Stations.{noEntry, liveAt, entryAt, setEntry}
-use Rattle.model.specs.Records.{zeroRecord, carriesEntry, recordAt}
-use Rattle.model.specs.Reading.{version}
-use Rattle.model.specs.Effects.{Effect, saysStoring, _when_, refusals}
-use Rattle.model.specs.Get.{noRoom, notCarried, answered}
+use Rattle.model.specs.Stations.{noWrite}
+use Rattle.model.specs.Records.{commitRecord, versionRecord, withRecord}
 
--- a get by the transaction at place i of key k, once the version in slot d is chosen
-unfoldable pub versionRead : Station → List ℕ → ℕ → ℕ → ℕ → Effect
-versionRead st s i k d = refusals (12 when noRoom (liveAt st i) k (version d) ∷ 17 when notCarried st s k (version d) ∷ []) st (answered st s i k (version d))
+unfoldable pub recordAnswer : Live → ℕ → ℕ → Answer
+recordAnswer l d n = cond (ltb n (l .«write_count»)) (A.Stored (getD (l .writes) n noWrite .key)) (A.Slipped d)
 
--- a collect of slot d, once its entry may go
-unfoldable pub entryFreed : Station → List ℕ → ℕ → Effect
-entryFreed st s d =
-    refusals (17 when not (carriesEntry (recordAt s d 0) (entryAt st d)) ∷ []) st
-    (saysStoring (A.Collected (entryAt st d .id)) (setEntry st d noEntry) d 0 zeroRecord)
+unfoldable pub recordStored : Live → Entry → ℕ → ℕ → List ℕ → List ℕ
+recordStored l e d n s =
+    let w : Write = getD (l .writes) n noWrite in
+    cond (ltb n (l .«write_count»)) (withRecord s d (n + 1) (versionRecord (w .key) (e .id) (w .value))) (withRecord s d 0 (commitRecord e))

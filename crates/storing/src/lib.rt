@@ -1,22 +1,21 @@
 // The calls over a store: get, step, collect (scan is in crate recovery). Each takes whatever comes and equals its definition (model's
 // specs/Get, Step, Collect): the tests in the order of the table of refusals, then the effect. A refusal hands the station back as
-// given and changes no byte; a record is written whole, into its own 24 bytes lent to the record writer.
+// given and changes no byte; a record is written whole, into its own 24 bytes lent to the record writer. What stands at a place or in a
+// slot is read from the copy that is changed: the station given is then never indexed, which would copy it once more.
 ghost use mathlib.Core.Path.{_≡_};
-ghost use mathlib.Core.Logic.{_≢_};
 ghost use mathlib.Core.Bool.{true, not};
 ghost use Prim.Native.Nat.{_<_, _≤_};
 ghost use lib.Dec.{leb};
 ghost use lib.ListN.{length};
 ghost use Rattle.model.specs.Limits.{slots, width, storeSize, readLimit};
 ghost use Rattle.model.specs.Lists.{_and_};
-ghost use Rattle.model.specs.Stations.{liveAt, entryAt, wrote, hasRead};
-ghost use Rattle.model.specs.Records.{commitRecord, versionRecord, zeroRecord, withRecord};
-ghost use Rattle.model.specs.Sound.{sound};
-ghost use Rattle.model.specs.Effects.{outcomeOf, stored};
+ghost use Rattle.model.specs.Stations.{wrote, hasRead};
+ghost use Rattle.model.specs.Records.{valueIn, commitRecord, versionRecord, zeroRecord, carriesVersion, recordAt, withRecord, recordOf};
+ghost use Rattle.model.specs.Effects.{outcomeOf, says, stored};
 ghost use Rattle.model.specs.Get.{get};
-ghost use Rattle.model.specs.Step.{stepped, step};
+ghost use Rattle.model.specs.Step.{step};
 ghost use Rattle.model.specs.Collect.{collect};
-ghost use Rattle.storing.specs.Parts.{versionRead, entryFreed};
+ghost use Rattle.storing.specs.Parts.{recordAnswer, recordStored};
 use model::Answer;
 use model::Entry;
 use model::Id;
@@ -39,6 +38,7 @@ use stations::entry_for;
 use stations::has_read;
 use stations::has_written;
 use stations::is_closing;
+use stations::named_row;
 use stations::no_entry;
 use stations::no_live;
 use stations::place_of;
@@ -55,9 +55,7 @@ const SLOT: usize = 216;
 
 const STORE: usize = SLOT * Station::SLOTS;
 
-// Keys are below the first; a read set has at most the second.
-const KEYS: u8 = 64;
-
+// A read set has at most this many keys.
 const READS: u8 = 16;
 
 // ---- one record of a slot, written whole
@@ -86,8 +84,8 @@ fn store_zero(store: &mut [u8], slot: usize)
     requires { ⌜ slot < slots ⌝ }
     ensures { λ _. ⌜ now (store .exit) ≡ withRecord (now (store .entry)) slot 0 zeroRecord ⌝ }
 {
-    let at = SLOT * slot;
-    write_zero(&mut store[at..at + RECORD]);
+    let commit = SLOT * slot;
+    write_zero(&mut store[commit..commit + RECORD]);
 }
 
 // ---- get
@@ -102,74 +100,33 @@ fn no_read_room(l: Live, key: u8) -> bool
     l.read_count >= READS
 }
 
-// The version of a key in a slot is read, and joins the read set.
-fn read_version(station: Station, store: &[u8], place: usize, key: u8, slot: u8) -> Outcome
+// A version record as read: whether it carries its key and id, and its value.
+struct VersionRead {
+    carried: bool,
+    value: u64,
+}
+
+// The version record of a key, in the slot of an entry that wrote it.
+fn read_version(store: &[u8], slot: usize, e: Entry, key: u8) -> VersionRead
     requires { ⌜ length (now store) ≡ storeSize ⌝ }
-    requires { ⌜ sound station ≡ true ⌝ }
-    requires { ⌜ (place < 8) × (liveAt station place .txn ≢ 0) ⌝ }
-    requires { ⌜ (slot < slots) × (wrote (entryAt station slot) key ≡ true) ⌝ }
-    ensures { λ r. ⌜ r ≡ outcomeOf (versionRead station (now (store .entry)) place key slot) ⌝ }
+    requires { ⌜ slot < slots ⌝ }
+    requires { ⌜ (e .count ≤ 8) × (wrote e key ≡ true) ⌝ }
+    ensures { λ r. ⌜ r .carried ≡ carriesVersion (recordAt (now (store .entry)) slot (recordOf e key)) key (e .id) ⌝ }
+    ensures { λ r. ⌜ r .value ≡ valueIn (recordAt (now (store .entry)) slot (recordOf e key)) ⌝ }
 {
-    let l = station.live[place];
-    if no_read_room(l, key) {
-        return refused(station, 12);
-    }
-    let d = slot as usize;
-    let e = station.entries[d];
     let id = e.id;
-    let at = SLOT * d + RECORD * record_of(e, key);
-    if !carries_version(&store[at..at + RECORD], key, id) {
-        return refused(station, 17);
-    }
-    let value = value_in(&store[at..at + RECORD]);
-    let mut next = station;
-    next.live[place] = with_read(l, key, id);
-    Outcome {
-        answer: Answer::Version(value, id),
-        station: next,
+    let at = SLOT * slot + RECORD * record_of(e, key);
+    VersionRead {
+        carried: carries_version(&store[at..at + RECORD], key, id),
+        value: value_in(&store[at..at + RECORD]),
     }
 }
 
-// A get of a sound station, over a store of its length.
-fn get_sound(station: Station, store: &[u8], txn: u32, key: u8) -> Outcome
-    requires { ⌜ length (now store) ≡ storeSize ⌝ }
-    requires { ⌜ sound station ≡ true ⌝ }
-    ensures { λ r. ⌜ r ≡ outcomeOf (get station (now (store .entry)) txn key) ⌝ }
+// An answer that changes nothing.
+fn unchanged(station: Station, answer: Answer) -> Outcome
+    ensures { λ r. ⌜ r ≡ outcomeOf (says answer station) ⌝ }
 {
-    if txn == 0 {
-        return refused(station, 3);
-    }
-    if key >= KEYS {
-        return refused(station, 4);
-    }
-    let live = station.live;
-    let place = place_of(live, txn);
-    if place >= Station::LIVE {
-        return refused(station, 8);
-    }
-    let l = live[place];
-    let phase = l.phase;
-    if is_closing(phase) {
-        return refused(station, 9);
-    }
-    if has_written(l, key) {
-        return Outcome {
-            answer: Answer::Own(value_under(l, key)),
-            station,
-        };
-    }
-    let chosen = choose_version(station, place, key);
-    match chosen {
-        Chosen::None => Outcome {
-            answer: Answer::None,
-            station,
-        },
-        Chosen::Nofit => Outcome {
-            answer: Answer::Nofit,
-            station,
-        },
-        Chosen::Version(slot) => read_version(station, store, place, key, slot),
-    }
+    Outcome { answer, station }
 }
 
 // Reads a key: the transaction's own value, or the version that Algorithm 1 chooses.
@@ -182,74 +139,62 @@ pub fn get(station: Station, store: &[u8], txn: u32, key: u8) -> Outcome
     if !is_sound(station) {
         return refused(station, 2);
     }
-    get_sound(station, store, txn, key)
-}
-
-// ---- step
-// A step of the closing transaction at a place: its next version record, then its commit record, then its entry.
-fn step_closing(
-    station: Station,
-    store: &mut [u8],
-    place: usize,
-    slot: u8,
-    clock: u64,
-    n: u8,
-) -> Outcome
-    requires { ⌜ length (now store) ≡ storeSize ⌝ }
-    requires { ⌜ sound station ≡ true ⌝ }
-    requires { ⌜ (place < 8) × (liveAt station place .phase ≡ Phase.Closing slot clock n) ⌝ }
-    ensures { λ r. ⌜ (r ≡ outcomeOf (stepped station place (liveAt station place) (Phase.Closing slot clock n))) × (now (store .exit) ≡ stored (stepped station place (liveAt station place) (Phase.Closing slot clock n) .stores) (now (store .entry))) ⌝ }
-{
-    let l = station.live[place];
-    let d = slot as usize;
-    let e = entry_for(l);
-    let id = e.id;
+    let live = station.live;
+    let place = place_of(live, txn);
+    let row = named_row(txn, key, place);
+    if row != 0 {
+        return refused(station, row);
+    }
     let mut next = station;
-    if n > l.write_count {
-        next.live[place] = no_live();
-        next.entries[d] = e;
-        return Outcome {
-            answer: Answer::Done(id),
-            station: next,
-        };
+    let l = next.live[place];
+    let phase = l.phase;
+    if is_closing(phase) {
+        return refused(station, 9);
     }
-    next.live[place] = with_phase(l, Phase::Closing(slot, clock, n + 1));
-    if n == l.write_count {
-        store_commit(store, d, e);
-        return Outcome {
-            answer: Answer::Slipped(slot),
-            station: next,
-        };
+    if has_written(l, key) {
+        return unchanged(station, Answer::Own(value_under(l, key)));
     }
-    let j = n as usize;
-    let w = l.writes[j];
-    store_version(store, d, j + 1, w.key, id, w.value);
+    let chosen = choose_version(station, place, key);
+    let d = match chosen {
+        Chosen::None => return unchanged(station, Answer::None),
+        Chosen::Nofit => return unchanged(station, Answer::Nofit),
+        Chosen::Version(slot) => slot as usize,
+    };
+    if no_read_room(l, key) {
+        return refused(station, 12);
+    }
+    let e = next.entries[d];
+    let id = e.id;
+    let version = read_version(store, d, e, key);
+    if !version.carried {
+        return refused(station, 17);
+    }
+    let joined = with_read(l, key, id);
+    next.live[place] = joined;
     Outcome {
-        answer: Answer::Stored(w.key),
+        answer: Answer::Version(version.value, id),
         station: next,
     }
 }
 
-// A step of a sound station, over a store of its length.
-fn step_sound(station: Station, store: &mut [u8], txn: u32) -> Outcome
+// ---- step
+// The next record of a closing transaction with n records stored: a version record, or after all of them the commit record.
+fn store_record(store: &mut [u8], l: Live, e: Entry, slot: u8, n: u8) -> Answer
     requires { ⌜ length (now store) ≡ storeSize ⌝ }
-    requires { ⌜ sound station ≡ true ⌝ }
-    ensures { λ r. ⌜ (r ≡ outcomeOf (step station (now (store .entry)) txn)) × (now (store .exit) ≡ stored (step station (now (store .entry)) txn .stores) (now (store .entry))) ⌝ }
+    requires { ⌜ slot < slots ⌝ }
+    requires { ⌜ (n ≤ l .«write_count») × (l .«write_count» ≤ 8) ⌝ }
+    ensures { λ r. ⌜ (r ≡ recordAnswer l slot n) × (now (store .exit) ≡ recordStored l e slot n (now (store .entry))) ⌝ }
 {
-    if txn == 0 {
-        return refused(station, 3);
+    let d = slot as usize;
+    if n == l.write_count {
+        store_commit(store, d, e);
+        return Answer::Slipped(slot);
     }
-    let live = station.live;
-    let place = place_of(live, txn);
-    if place >= Station::LIVE {
-        return refused(station, 8);
-    }
-    let l = live[place];
-    let phase = l.phase;
-    let Phase::Closing(slot, clock, n) = phase else {
-        return refused(station, 10);
-    };
-    step_closing(station, store, place, slot, clock, n)
+    let id = e.id;
+    let j = n as usize;
+    let w = l.writes[j];
+    store_version(store, d, j + 1, w.key, id, w.value);
+    Answer::Stored(w.key)
 }
 
 // Stores the next record of a closing transaction; after the commit record, acknowledges.
@@ -262,58 +207,40 @@ pub fn step(station: Station, store: &mut [u8], txn: u32) -> Outcome
     if !is_sound(station) {
         return refused(station, 2);
     }
-    step_sound(station, store, txn)
-}
-
-// ---- collect
-// The entry of a slot goes, once it may: its commit record becomes zeros.
-fn free_entry(station: Station, store: &mut [u8], slot: u8) -> Outcome
-    requires { ⌜ length (now store) ≡ storeSize ⌝ }
-    requires { ⌜ slot < slots ⌝ }
-    ensures { λ r. ⌜ (r ≡ outcomeOf (entryFreed station (now (store .entry)) slot)) × (now (store .exit) ≡ stored (entryFreed station (now (store .entry)) slot .stores) (now (store .entry))) ⌝ }
-{
-    let d = slot as usize;
-    let e = station.entries[d];
-    let id = e.id;
-    let at = SLOT * d;
-    if !carries_entry(&store[at..at + RECORD], e) {
-        return refused(station, 17);
+    let live = station.live;
+    let place = place_of(live, txn);
+    let row = named_row(txn, 0, place);
+    if row != 0 {
+        return refused(station, row);
     }
-    store_zero(store, d);
     let mut next = station;
-    next.entries[d] = no_entry();
+    let l = next.live[place];
+    let phase = l.phase;
+    let Phase::Closing(slot, clock, n) = phase else {
+        return refused(station, 10);
+    };
+    let d = slot as usize;
+    let e = entry_for(l);
+    if n > l.write_count {
+        let id = e.id;
+        let unused = no_live();
+        next.live[place] = unused;
+        next.entries[d] = e;
+        return Outcome {
+            answer: Answer::Done(id),
+            station: next,
+        };
+    }
+    let on = with_phase(l, Phase::Closing(slot, clock, n + 1));
+    next.live[place] = on;
+    let answer = store_record(store, l, e, slot, n);
     Outcome {
-        answer: Answer::Collected(id),
+        answer,
         station: next,
     }
 }
 
-// A collect of a sound station, over a store of its length.
-fn collect_sound(station: Station, store: &mut [u8], slot: u8) -> Outcome
-    requires { ⌜ length (now store) ≡ storeSize ⌝ }
-    requires { ⌜ sound station ≡ true ⌝ }
-    ensures { λ r. ⌜ (r ≡ outcomeOf (collect station (now (store .entry)) slot)) × (now (store .exit) ≡ stored (collect station (now (store .entry)) slot .stores) (now (store .entry))) ⌝ }
-{
-    let d = slot as usize;
-    if d >= Station::SLOTS {
-        return refused(station, 14);
-    }
-    let entries = station.entries;
-    let e = entries[d];
-    let id = e.id;
-    if id.txn == 0 {
-        return refused(station, 14);
-    }
-    if !is_superseded(entries, d) {
-        return refused(station, 15);
-    }
-    let live = station.live;
-    if is_read(live, id) {
-        return refused(station, 16);
-    }
-    free_entry(station, store, slot)
-}
-
+// ---- collect
 // Frees the slot of an entry that is superseded on every key it wrote and that no live transaction has read.
 pub fn collect(station: Station, store: &mut [u8], slot: u8) -> Outcome
     ensures { λ r. ⌜ (r ≡ outcomeOf (collect station (now (store .entry)) slot)) × (now (store .exit) ≡ stored (collect station (now (store .entry)) slot .stores) (now (store .entry))) ⌝ }
@@ -324,5 +251,33 @@ pub fn collect(station: Station, store: &mut [u8], slot: u8) -> Outcome
     if !is_sound(station) {
         return refused(station, 2);
     }
-    collect_sound(station, store, slot)
+    let d = slot as usize;
+    if d >= Station::SLOTS {
+        return refused(station, 14);
+    }
+    let mut next = station;
+    let e = next.entries[d];
+    let id = e.id;
+    if id.txn == 0 {
+        return refused(station, 14);
+    }
+    let entries = station.entries;
+    if !is_superseded(entries, d) {
+        return refused(station, 15);
+    }
+    let live = station.live;
+    if is_read(live, id) {
+        return refused(station, 16);
+    }
+    let at = SLOT * d;
+    if !carries_entry(&store[at..at + RECORD], e) {
+        return refused(station, 17);
+    }
+    store_zero(store, d);
+    let free = no_entry();
+    next.entries[d] = free;
+    Outcome {
+        answer: Answer::Collected(id),
+        station: next,
+    }
 }

@@ -8,8 +8,8 @@ use Rattle.storing.proofs.Parts.{record-written}
 use Rattle.storing.proofs.store_zero.Statement.{statement}
 use Rattle.storing.proofs.store_zero.Tie as tie
 
-mul-at : tie.Need-mul-at
-mul-at c = search needs
+mul-commit : tie.Need-mul-commit
+mul-commit c = search needs
 
 add-write-zero : tie.Need-add-write-zero
 add-write-zero c = search needs
@@ -39,7 +39,7 @@ pub store-zero-spec : {M : Type 1} → statement M
 store-zero-spec =
     tie.close
     (tie.spec
-    mul-at
+    mul-commit
     add-write-zero
     sub-write-zero
     part-write-zero-start
