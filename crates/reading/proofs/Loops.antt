@@ -2,17 +2,17 @@
 use Prim.Native.Nat.{ℕ, zero, suc, _+_, _<_, _≤_, min}
 use mathlib.Core.Path.{_≡_, refl, sym, ap, subst, _∙_}
 use mathlib.Core.Logic.{⊎-elim}
-use mathlib.Core.Bool.{Bool, true, false, true≢false, false≢true}
-use mathlib.Core.List.{List, [], _∷_}
-use lib.ListN.{length, take, getD, set, length-take, List·getD-eq-default}
+use mathlib.Core.Bool.{Bool, true, false, true≢false}
+use mathlib.Core.List.{List}
+use lib.ListN.{length, take, getD, set, length-take, length-set, List·getD-eq-default}
 use lib.Seq.{getD-take}
 use native.Mathlib.Nat.{not-suc-le-zero}
 use native.Mathlib.Decide.{ℕ-discrete, decLt}
 use native.Mathlib.Omega.{arith}
 use native.Mathlib.Numerals.{add-one}
-use Rattle.model.specs.Lists.{_or_, all, any, count, anyBelow}
+use Rattle.model.specs.Lists.{_or_, all, any, anyBelow}
 use Rattle.model.proofs.Tests.{or-none, or-intro-left, or-intro-right, bool-cases}
-use Rattle.model.proofs.ListLaws.{at-set, all-at, all-of, any-at, any-none-of, count-yes, count-no}
+use Rattle.model.proofs.ListLaws.{at-set, all-at, all-of, any-at, any-none-of}
 
 -- one more passed
 pub below-more : (P : ℕ → Type 0) (i : ℕ) → ((j : ℕ) → j < i → P j) → P i → (j : ℕ) → j < i + 1 → P j
@@ -41,12 +41,18 @@ module _ (p : ℕ → Bool) where
       go (yes e) ih = or-intro-left _ _ (ap p (sym e) ∙ h)
       go (no m) ih = or-intro-right _ _ (ih (omega arith) h)
 
+-- n elements, of which the first i are f's
+abbrev pub Filled : {A : Type 0} → (ℕ → A) → A → ℕ → ℕ → List A → Type 0
+Filled f z n i xs = (i ≤ n) × (length xs ≡ n) × ((j : ℕ) → j < i → getD xs j z ≡ f j)
+
 module _ {A : Type 0} where
-  -- an array filled so far with f, and its next element stored
-  pub filled-more : (f : ℕ → A) (xs : List A) (z x : A) (i n : ℕ) → length xs ≡ n → i < n → ((j : ℕ) → j < i → getD xs j z ≡ f j) → x ≡ f i
-      → (j : ℕ) → j < i + 1 → getD (set xs i x) j z ≡ f j
-  filled-more f xs z x i n l o h q j =
-      at-set (λ j y. j < i + 1 → y ≡ f j) xs i x z (omega arith) (λ u. q) (λ j m u. h j (omega arith)) j
+  -- an array of which the first i are f's, and its next element stored
+  pub filled-more : (f : ℕ → A) (z x : A) (n i : ℕ) (xs : List A) → Filled f z n i xs → i < n → x ≡ f i → Filled f z n (i + 1) (set xs i x)
+  filled-more f z x n i xs h o q = (
+    omega arith,
+    length-set xs i x ∙ h .1,
+    at-set (λ j y. j < i + 1 → y ≡ f j) xs i x z (omega (arith, h .1)) (λ u. q) (λ j m u. h .2 j (omega arith)),
+  )
 
   -- none of the first n passes, and there are no more
   pub any-below : (p : A → Bool) (l : List A) (d : A) (n : ℕ) → length l ≤ n → ((j : ℕ) → j < n → p (getD l j d) ≡ false) → any p l ≡ false
@@ -78,11 +84,3 @@ module _ {A : Type 0} where
   all-fails-take p l d n j o u h = ⊎-elim
       (λ t. absurd (true≢false (sym (all-at p (take n l) d t j (rw (length-take n l) (omega arith))) ∙ (ap p (getD-take n l j d o) ∙ h))))
       (λ f. f) (bool-cases (all p (take n l)))
-
--- a mark taken away
-pub marks-less : (ms : List Bool) (d : ℕ) → getD ms d false ≡ true → count (λ m. m) (set ms d false) < count (λ m. m) ms
-unfolding count
-marks-less [] d h = absurd (false≢true h)
-marks-less (m ∷ ms) zero h = let e : m ≡ true = h in rw (count-yes (λ x. x) m ms e, count-no (λ x. x) false ms refl) (omega arith)
-marks-less (true ∷ ms) (suc d) h = omega (arith, marks-less ms d h)
-marks-less (false ∷ ms) (suc d) h = marks-less ms d h

@@ -2,7 +2,7 @@
 use Prim.Native.Nat.{ℕ, _<_, _≤_}
 use mathlib.Core.Path.{_≡_, refl, sym, ap, _∙_}
 use mathlib.Core.Logic.{_≢_}
-use mathlib.Core.Bool.{Bool, true, false, true≢false}
+use mathlib.Core.Bool.{Bool, true, false}
 use mathlib.Core.List.{List}
 use lib.Dec.{eqb, ltb}
 use lib.ListN.{getD}
@@ -26,16 +26,11 @@ pub not-same : (i j : Id) → i .clock ≢ j .clock → sameId i j ≡ false
 unfolding sameId
 not-same i j n = and-none-left _ _ (ne-eqb (i .clock) (j .clock) n)
 
--- a test alone decides, where the other holds or fails
+-- a test alone decides, where the other holds
 pub and-when : (a b : Bool) → b ≡ true → a ≡ (a and b)
 unfolding _and_
 and-when true b e = sym e
 and-when false b e = refl
-
-pub or-when : (a b : Bool) → a ≡ false → b ≡ (a or b)
-unfolding _or_
-or-when true b e = absurd (true≢false e)
-or-when false b e = refl
 
 -- the version read of a key; w is the key as an index
 module _ (cs ts : List ℕ) (k : ℕ) (i : Id) where
