@@ -2,6 +2,7 @@
 //
 // What was read is answered and written before more is read. The memory is the same for an input of any length.
 use calls::Station;
+use calls::scan;
 use libc::STDERR_FILENO;
 use libc::STDIN_FILENO;
 use libc::STDOUT_FILENO;
@@ -144,10 +145,16 @@ fn run_end(
 }
 
 // Reads, answers and writes until the input ends.
-fn run_sheet(store: &mut [u8], part: &mut [u8], input: &mut [u8], out: &mut [u8]) -> Stop
+fn run_sheet(
+    started: Station,
+    store: &mut [u8],
+    part: &mut [u8],
+    input: &mut [u8],
+    out: &mut [u8],
+) -> Stop
     requires { ⌜ (length (now part) ≡ 65) × (length (now input) ≡ 65536) × (length (now out) ≡ 131072) ⌝ }
 {
-    let mut station = Station::empty();
+    let mut station = started;
     let mut len = 0;
     let mut number = 1;
     let mut turns = READS;
@@ -174,14 +181,20 @@ fn run_sheet(store: &mut [u8], part: &mut [u8], input: &mut [u8], out: &mut [u8]
 }
 
 // Prints the header, then runs the sheet.
-fn run_all(store: &mut [u8], part: &mut [u8], input: &mut [u8], out: &mut [u8]) -> Stop
+fn run_all(
+    started: Station,
+    store: &mut [u8],
+    part: &mut [u8],
+    input: &mut [u8],
+    out: &mut [u8],
+) -> Stop
     requires { ⌜ (length (now part) ≡ 65) × (length (now input) ≡ 65536) × (length (now out) ≡ 131072) ⌝ }
 {
     let n = print_header(out);
     if !io::write_all(STDOUT_FILENO, &out[..n]) {
         return Stop::Unwritten;
     }
-    run_sheet(store, part, input, out)
+    run_sheet(started, store, part, input, out)
 }
 
 // Says why the sheet was not run to its end. A program of this language has no exit status.
@@ -205,11 +218,14 @@ fn report(stop: Stop) {
     }
 }
 
+// The desk starts as it does after a cut: with a scan of its store, here of zeros.
 fn main() {
     let mut store = [0u8; STORE];
+    let scanned = scan(&store);
+    let station = scanned.station;
     let mut part = [0u8; KEPT];
     let mut input = [0u8; READ];
     let mut out = [0u8; OUT];
-    let stop = run_all(&mut store, &mut part, &mut input, &mut out);
+    let stop = run_all(station, &mut store, &mut part, &mut input, &mut out);
     report(stop);
 }

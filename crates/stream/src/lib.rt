@@ -72,8 +72,8 @@ fn run_line(station: Station, store: &mut [u8], line: &[u8], number: u64, out: &
     let command = parse_line(line);
     let outcome = act_once(station, store, Request { command });
     let answer = outcome.answer;
-    let next = outcome.station;
     let used = print_line(out, number, answer);
+    let next = outcome.station;
     Ran {
         station: next,
         used,

@@ -24,7 +24,7 @@ returns : tie.Need-returns
 returns c =
     let a = c .before .before .before .before .before .before .before .before .before .before .before .before .before .args in
     let o = c .before .before .before .before .before .before .before .act-once in
-    let w = c .before .before .print-line in
+    let w = c .before .before .before .print-line in
     let m = c .before .before .before .before .before .before .before .before .before .parse-line in (
       line-run (a .line .now) (a .station) (a .store .now) (a .number) (m .result) (m .ensures) (o .result) (o .last .1 .0) (o .ensures .0) (o .ensures .1),
       w .ensures .0,
