@@ -1,6 +1,6 @@
 -- A get, test by test.
 use Prim.Native.Nat.{ℕ, _<_, _≤_}
-use mathlib.Core.Path.{_≡_, refl, sym, ap, ap₂, subst, _∙_}
+use mathlib.Core.Path.{_≡_, refl, sym, ap, ap₂, _∙_}
 use mathlib.Core.Logic.{_≢_}
 use mathlib.Core.Bool.{Bool, true, false}
 use mathlib.Core.List.{List, [], _∷_, map}
@@ -88,7 +88,7 @@ module _ (st : Station) (s : List ℕ) (t k : ℕ) where
 
       -- by the answers of `place_of` and `named_row`
       pub get-named : (i r : ℕ) → i ≡ first (eqb t) (map liveTxn (st .live)) → length (st .live) ≡ 8 → r ≡ namedRow t k i → r ≢ 0 → get st s t k ≡ says (A.Refused r 0) st
-      get-named i r q y e = subst (λ (x : ℕ). x ≢ 0 → get st s t k ≡ says (A.Refused x 0) st) (sym e) (named-elim (λ (x : ℕ). x ≢ 0 → get st s t k ≡ says (A.Refused x 0) st) t k i
+      get-named i r q y e = rw e (named-elim (λ (x : ℕ). x ≢ 0 → get st s t k ≡ says (A.Refused x 0) st) t k i
           (λ h _. get-3 h)
           (λ n h _. get-4 n h)
           (λ n o h _. get-8 n o (place-none st t i q y h))

@@ -1,5 +1,5 @@
 -- A record as a part of a store, what a call hands back, and the place of a call's transaction.
-use Prim.Native.Nat.{ℕ, _+_, _*_, _-_, _<_, _≤_}
+use Prim.Native.Nat.{ℕ, _+_, _*_, _-_, _<_}
 use mathlib.Core.Path.{_≡_, sym, ap, ap₂, subst, _∙_}
 use mathlib.Core.Logic.{_≢_}
 use mathlib.Core.Bool.{true, false}
@@ -15,7 +15,7 @@ use Rattle.model.specs.declared.Outcome.{Outcome}
 use Rattle.model.specs.declared.Answer.{Answer}
 use Rattle.model.specs.declared.Answer.the-variants as A
 use Rattle.model.specs.Effects.{Effect, stored, outcomeOf, says, saysStoring, wrongLength, unsound}
-use Rattle.model.specs.Limits.{keys, livePlaces, slots, recordSize, width, slotSize, storeSize}
+use Rattle.model.specs.Limits.{keys, livePlaces, recordSize, slotSize, storeSize}
 use Rattle.model.specs.Lists.{first}
 use Rattle.model.specs.Records.{recordPlace, recordAt, withRecord}
 use Rattle.model.specs.Sound.{sound}

@@ -1,6 +1,6 @@
 -- A step, test by test.
 use Prim.Native.Nat.{ℕ, _+_, _<_, _≤_}
-use mathlib.Core.Path.{_≡_, refl, sym, ap, ap₂, subst, _∙_}
+use mathlib.Core.Path.{_≡_, refl, sym, ap, ap₂, _∙_}
 use mathlib.Core.Logic.{_≢_, _⊎_, ⊎-elim}
 use mathlib.Core.Bool.{Bool, true, false, not}
 use mathlib.Core.List.{List, [], _∷_, map}
@@ -32,17 +32,18 @@ use Rattle.storing.specs.Parts.{recordAnswer, recordStored}
 use Rattle.storing.proofs.Parts.{handed, length-right, sound-right, Placed}
 
 -- a step that stores a record, of either kind
-record-step : (st : Station) (s : List ℕ) (i d c n : ℕ) → n ≤ liveAt st i .«write_count»
-    → (outcomeOf (stepped st i (liveAt st i) (Closing d c n)) ≡ record { answer = recordAnswer (liveAt st i) d n; station = setLive st i (withPhase (Closing d c (n + 1)) (liveAt st i)) })
-    × (stored (stepped st i (liveAt st i) (Closing d c n) .stores) s ≡ recordStored (liveAt st i) (entryFor (liveAt st i)) d n s)
-unfolding stepped closingSlot recordsStored oneMore outcomeOf saysStoring stored recordAnswer recordStored
-record-step st s i d c n o = go (ltb n (liveAt st i .«write_count»)) refl
-  where
-    go : (b : Bool) → ltb n (liveAt st i .«write_count») ≡ b
-        → (outcomeOf (stepped st i (liveAt st i) (Closing d c n)) ≡ record { answer = recordAnswer (liveAt st i) d n; station = setLive st i (withPhase (Closing d c (n + 1)) (liveAt st i)) })
-        × (stored (stepped st i (liveAt st i) (Closing d c n) .stores) s ≡ recordStored (liveAt st i) (entryFor (liveAt st i)) d n s)
-    go true e = (rw e, rw e)
-    go false e = let h : n ≡ liveAt st i .«write_count» = omega (arith, ltb-false n (liveAt st i .«write_count») e) in (rw (e, eq-eqb n _ h), rw (e, eq-eqb n _ h))
+module _ (st : Station) (s : List ℕ) (i d c n : ℕ) where
+  abbrev RecordStep : Type 0
+  RecordStep = (outcomeOf (stepped st i (liveAt st i) (Closing d c n)) ≡ record { answer = recordAnswer (liveAt st i) d n; station = setLive st i (withPhase (Closing d c (n + 1)) (liveAt st i)) })
+      × (stored (stepped st i (liveAt st i) (Closing d c n) .stores) s ≡ recordStored (liveAt st i) (entryFor (liveAt st i)) d n s)
+
+  record-step : n ≤ liveAt st i .«write_count» → RecordStep
+  unfolding stepped closingSlot recordsStored oneMore outcomeOf saysStoring stored recordAnswer recordStored
+  record-step o = go (ltb n (liveAt st i .«write_count»)) refl
+    where
+      go : (b : Bool) → ltb n (liveAt st i .«write_count») ≡ b → RecordStep
+      go true e = (rw e, rw e)
+      go false e = let h : n ≡ liveAt st i .«write_count» = omega (arith, ltb-false n (liveAt st i .«write_count») e) in (rw (e, eq-eqb n _ h), rw (e, eq-eqb n _ h))
 
 -- the two kinds of record, as stored by the code
 module _ (l : Live) (e : Entry) (d n : ℕ) (s z : List ℕ) where
@@ -77,7 +78,7 @@ module _ (st : Station) (s : List ℕ) (t : ℕ) where
 
       -- by the answers of `place_of` and `named_row`, the latter for key 0
       pub step-named : (i r : ℕ) → i ≡ first (eqb t) (map liveTxn (st .live)) → length (st .live) ≡ 8 → r ≡ namedRow t 0 i → r ≢ 0 → step st s t ≡ says (A.Refused r 0) st
-      step-named i r q y e = subst (λ (x : ℕ). x ≢ 0 → step st s t ≡ says (A.Refused x 0) st) (sym e) (named-elim (λ (x : ℕ). x ≢ 0 → step st s t ≡ says (A.Refused x 0) st) t 0 i
+      step-named i r q y e = rw e (named-elim (λ (x : ℕ). x ≢ 0 → step st s t ≡ says (A.Refused x 0) st) t 0 i
           (λ h _. step-3 h)
           (λ _ h _. absurd (omega arith))
           (λ n _ h _. step-8 n (place-none st t i q y h))
