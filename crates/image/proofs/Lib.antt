@@ -1,0 +1,4 @@
+pub mod PartLaws
+pub mod LayoutLaws
+pub mod ImageLaws
+pub mod WriteLaws

@@ -1,0 +1,554 @@
+// The station as an image of fixed length in lent bytes, for hosts in other languages. Its layout is defined in specs/.
+use model::Entry;
+use model::Id;
+use model::Live;
+use model::Phase;
+use model::Read;
+use model::Station;
+use model::Write;
+ghost use mathlib.Core.Path.{_≡_};
+ghost use mathlib.Core.Bool.{cond};
+ghost use mathlib.Core.List.{map};
+ghost use Prim.Native.Nat.{_≤_, _<_, _^_};
+ghost use lib.Dec.{eqb};
+ghost use lib.ListN.{length};
+ghost use Rattle.model.specs.Limits.{livePlaces, slots, writeLimit, readLimit, recordSize, byteRange};
+ghost use Rattle.model.specs.Lists.{all};
+ghost use Rattle.model.specs.Records.{bytes, number, idIn};
+ghost use Rattle.model.specs.Stations.{emptyStation, closingSlot, closingClock, recordsStored};
+ghost use Rattle.image.specs.Layout.{headSize, itemSize, writesSize, readsSize, placeSize, placesSize, entriesSize, imageSize, flat, parts, writeBytes, writeIn, startBytes, readBytes, readIn, entryBytes, entryIn, phaseMark, headBytes, phaseIn};
+ghost use Rattle.image.specs.Images.{placeBytes, placeIn, stationBytes, stationIn, isWrite, isRead, isEntry, isHead, isPlace, isImage};
+
+// The bytes of a write or a read, of what stands before a place's sets, and where its reads begin.
+const ITEM: usize = 16;
+
+const HEAD: usize = 24;
+
+const READS_AT: usize = HEAD + ITEM * Station::WRITES;
+
+// The bytes of a place, of an entry, of all places, and of the image.
+const PLACE: usize = READS_AT + ITEM * Station::READS;
+
+const ENTRY: usize = 24;
+
+const ENTRIES_AT: usize = PLACE * Station::LIVE;
+
+pub const IMAGE: usize = ENTRIES_AT + ENTRY * Station::SLOTS;
+
+// A phase's number.
+const UNUSED: u8 = 0;
+
+const OPEN: u8 = 1;
+
+const CLOSING: u8 = 2;
+
+// What bytes are read as: the station is the empty one where they are no image.
+pub struct Image {
+    pub whole: bool,
+    pub station: Station,
+}
+
+// A phase as it stands in a place's bytes.
+struct Marked {
+    mark: u8,
+    slot: u8,
+    stored: u8,
+    clock: u64,
+}
+
+// ---- numbers
+// The number that bytes make, least byte first: from the last byte down, so that no power of 256 is kept.
+fn number_in(part: &[u8]) -> u64
+    requires { ⌜ length (now part) ≤ 8 ⌝ }
+    ensures { λ r. ⌜ (r ≡ number (now (part .entry))) × (r < byteRange ^ length (now (part .entry))) ⌝ }
+{
+    let mut sum: u64 = 0;
+    let mut i = part.len();
+    while 0 < i {
+        i -= 1;
+        sum = sum * 256 + part[i] as u64;
+    }
+    sum
+}
+
+// A number's bytes, least byte first, over the part lent.
+fn write_number(part: &mut [u8], x: u64)
+    ensures { λ _. ⌜ now (part .exit) ≡ bytes (length (now (part .entry))) x ⌝ }
+{
+    let mut rest = x;
+    let mut i = 0;
+    while i < part.len() {
+        part[i] = (rest % 256) as u8;
+        rest = rest / 256;
+        i += 1;
+    }
+}
+
+// All bytes are zero.
+fn is_zero(part: &[u8]) -> bool
+    ensures { λ r. ⌜ r ≡ all (eqb 0) (now (part .entry)) ⌝ }
+{
+    let mut i = 0;
+    while i < part.len() {
+        if part[i] != 0 {
+            return false;
+        }
+        i += 1;
+    }
+    true
+}
+
+// ---- whether bytes are those of a part
+fn is_write(b: &[u8]) -> bool
+    requires { ⌜ length (now b) ≡ itemSize ⌝ }
+    ensures { λ r. ⌜ r ≡ isWrite (now (b .entry)) ⌝ }
+{
+    is_zero(&b[1..8])
+}
+
+fn is_read(b: &[u8]) -> bool
+    requires { ⌜ length (now b) ≡ itemSize ⌝ }
+    ensures { λ r. ⌜ r ≡ isRead (now (b .entry)) ⌝ }
+{
+    is_zero(&b[1..4])
+}
+
+fn is_entry(b: &[u8]) -> bool
+    requires { ⌜ length (now b) ≡ recordSize ⌝ }
+    ensures { λ r. ⌜ r ≡ isEntry (now (b .entry)) ⌝ }
+{
+    is_zero(&b[1..4])
+}
+
+// A place's first 24 bytes: slot, records stored and clock are zero unless it is closing.
+fn is_head(h: &[u8]) -> bool
+    requires { ⌜ length (now h) ≡ headSize ⌝ }
+    ensures { λ r. ⌜ r ≡ isHead (now (h .entry)) ⌝ }
+{
+    if !is_zero(&h[17..24]) {
+        return false;
+    }
+    let mark = h[0];
+    if mark == CLOSING {
+        return true;
+    }
+    if mark > CLOSING {
+        return false;
+    }
+    if !is_zero(&h[1..3]) {
+        return false;
+    }
+    is_zero(&h[8..16])
+}
+
+fn are_writes(b: &[u8]) -> bool
+    requires { ⌜ length (now b) ≡ writesSize ⌝ }
+    ensures { λ r. ⌜ r ≡ all isWrite (parts itemSize writeLimit (now (b .entry))) ⌝ }
+{
+    let mut i = 0;
+    while i < Station::WRITES {
+        let at = ITEM * i;
+        if !is_write(&b[at..at + ITEM]) {
+            return false;
+        }
+        i += 1;
+    }
+    true
+}
+
+fn are_reads(b: &[u8]) -> bool
+    requires { ⌜ length (now b) ≡ readsSize ⌝ }
+    ensures { λ r. ⌜ r ≡ all isRead (parts itemSize readLimit (now (b .entry))) ⌝ }
+{
+    let mut i = 0;
+    while i < Station::READS {
+        let at = ITEM * i;
+        if !is_read(&b[at..at + ITEM]) {
+            return false;
+        }
+        i += 1;
+    }
+    true
+}
+
+fn is_place(b: &[u8]) -> bool
+    requires { ⌜ length (now b) ≡ placeSize ⌝ }
+    ensures { λ r. ⌜ r ≡ isPlace (now (b .entry)) ⌝ }
+{
+    if !is_head(&b[0..HEAD]) {
+        return false;
+    }
+    if !are_writes(&b[HEAD..READS_AT]) {
+        return false;
+    }
+    are_reads(&b[READS_AT..PLACE])
+}
+
+fn are_places(b: &[u8]) -> bool
+    requires { ⌜ length (now b) ≡ placesSize ⌝ }
+    ensures { λ r. ⌜ r ≡ all isPlace (parts placeSize livePlaces (now (b .entry))) ⌝ }
+{
+    let mut i = 0;
+    while i < Station::LIVE {
+        let at = PLACE * i;
+        if !is_place(&b[at..at + PLACE]) {
+            return false;
+        }
+        i += 1;
+    }
+    true
+}
+
+fn are_entries(b: &[u8]) -> bool
+    requires { ⌜ length (now b) ≡ entriesSize ⌝ }
+    ensures { λ r. ⌜ r ≡ all isEntry (parts recordSize slots (now (b .entry))) ⌝ }
+{
+    let mut i = 0;
+    while i < Station::SLOTS {
+        let at = ENTRY * i;
+        if !is_entry(&b[at..at + ENTRY]) {
+            return false;
+        }
+        i += 1;
+    }
+    true
+}
+
+// Bytes of any length are an image.
+pub fn is_image(bytes: &[u8]) -> bool
+    ensures { λ r. ⌜ r ≡ isImage (now (bytes .entry)) ⌝ }
+{
+    if bytes.len() != IMAGE {
+        return false;
+    }
+    if !are_places(&bytes[0..ENTRIES_AT]) {
+        return false;
+    }
+    are_entries(&bytes[ENTRIES_AT..IMAGE])
+}
+
+// ---- parts read off
+fn write_in(b: &[u8]) -> Write
+    requires { ⌜ length (now b) ≡ itemSize ⌝ }
+    ensures { λ r. ⌜ r ≡ writeIn (now (b .entry)) ⌝ }
+{
+    let value = number_in(&b[8..16]);
+    Write { key: b[0], value }
+}
+
+// The id of a read, of an entry, and of a closing transaction.
+fn id_in(b: &[u8]) -> Id
+    requires { ⌜ 16 ≤ length (now b) ⌝ }
+    ensures { λ r. ⌜ r ≡ idIn (now (b .entry)) ⌝ }
+{
+    let txn = number_in(&b[4..8]) as u32;
+    let clock = number_in(&b[8..16]);
+    Id { clock, txn }
+}
+
+fn read_in(b: &[u8]) -> Read
+    requires { ⌜ length (now b) ≡ itemSize ⌝ }
+    ensures { λ r. ⌜ r ≡ readIn (now (b .entry)) ⌝ }
+{
+    let id = id_in(b);
+    Read { key: b[0], id }
+}
+
+fn entry_in(b: &[u8]) -> Entry
+    requires { ⌜ length (now b) ≡ recordSize ⌝ }
+    ensures { λ r. ⌜ r ≡ entryIn (now (b .entry)) ⌝ }
+{
+    let id = id_in(b);
+    Entry {
+        id,
+        count: b[0],
+        keys: [b[16], b[17], b[18], b[19], b[20], b[21], b[22], b[23]],
+    }
+}
+
+// The phase of a place, by its first 24 bytes and the clock among them.
+fn phase_in(h: &[u8], clock: u64) -> Phase
+    requires { ⌜ length (now h) ≡ headSize ⌝ }
+    requires { ⌜ clock ≡ idIn (now h) .clock ⌝ }
+    ensures { λ r. ⌜ r ≡ phaseIn (now (h .entry)) ⌝ }
+{
+    let mark = h[0];
+    if mark == UNUSED {
+        return Phase::Unused;
+    }
+    if mark == OPEN {
+        return Phase::Open;
+    }
+    Phase::Closing(h[1], clock, h[2])
+}
+
+fn writes_in(b: &[u8]) -> [Write; Station::WRITES]
+    requires { ⌜ length (now b) ≡ writesSize ⌝ }
+    ensures { λ r. ⌜ r ≡ map writeIn (parts itemSize writeLimit (now (b .entry))) ⌝ }
+{
+    let first = write_in(&b[0..ITEM]);
+    let mut writes = [first; Station::WRITES];
+    let mut i = 1;
+    while i < Station::WRITES {
+        let at = ITEM * i;
+        let w = write_in(&b[at..at + ITEM]);
+        writes[i] = w;
+        i += 1;
+    }
+    writes
+}
+
+fn reads_in(b: &[u8]) -> [Read; Station::READS]
+    requires { ⌜ length (now b) ≡ readsSize ⌝ }
+    ensures { λ r. ⌜ r ≡ map readIn (parts itemSize readLimit (now (b .entry))) ⌝ }
+{
+    let first = read_in(&b[0..ITEM]);
+    let mut reads = [first; Station::READS];
+    let mut i = 1;
+    while i < Station::READS {
+        let at = ITEM * i;
+        let r = read_in(&b[at..at + ITEM]);
+        reads[i] = r;
+        i += 1;
+    }
+    reads
+}
+
+fn place_in(b: &[u8]) -> Live
+    requires { ⌜ length (now b) ≡ placeSize ⌝ }
+    ensures { λ r. ⌜ r ≡ placeIn (now (b .entry)) ⌝ }
+{
+    let id = id_in(&b[0..HEAD]);
+    let phase = phase_in(&b[0..HEAD], id.clock);
+    let writes = writes_in(&b[HEAD..READS_AT]);
+    let reads = reads_in(&b[READS_AT..PLACE]);
+    Live {
+        txn: id.txn,
+        phase,
+        write_count: b[3],
+        writes,
+        read_count: b[16],
+        reads,
+    }
+}
+
+fn places_in(b: &[u8]) -> [Live; Station::LIVE]
+    requires { ⌜ length (now b) ≡ placesSize ⌝ }
+    ensures { λ r. ⌜ r ≡ map placeIn (parts placeSize livePlaces (now (b .entry))) ⌝ }
+{
+    let first = place_in(&b[0..PLACE]);
+    let mut live = [first; Station::LIVE];
+    let mut i = 1;
+    while i < Station::LIVE {
+        let at = PLACE * i;
+        let l = place_in(&b[at..at + PLACE]);
+        live[i] = l;
+        i += 1;
+    }
+    live
+}
+
+fn entries_in(b: &[u8]) -> [Entry; Station::SLOTS]
+    requires { ⌜ length (now b) ≡ entriesSize ⌝ }
+    ensures { λ r. ⌜ r ≡ map entryIn (parts recordSize slots (now (b .entry))) ⌝ }
+{
+    let first = entry_in(&b[0..ENTRY]);
+    let mut entries = [first; Station::SLOTS];
+    let mut i = 1;
+    while i < Station::SLOTS {
+        let at = ENTRY * i;
+        let e = entry_in(&b[at..at + ENTRY]);
+        entries[i] = e;
+        i += 1;
+    }
+    entries
+}
+
+// Bytes of any length, read; each is looked at before a station is made of them.
+pub fn read_image(bytes: &[u8]) -> Image
+    ensures { λ r. ⌜ (r .whole ≡ isImage (now (bytes .entry))) × (r .station ≡ cond (isImage (now (bytes .entry))) (stationIn (now (bytes .entry))) emptyStation) ⌝ }
+{
+    if !is_image(bytes) {
+        let empty = Station::empty();
+        return Image {
+            whole: false,
+            station: empty,
+        };
+    }
+    let live = places_in(&bytes[0..ENTRIES_AT]);
+    let entries = entries_in(&bytes[ENTRIES_AT..IMAGE]);
+    Image {
+        whole: true,
+        station: Station { live, entries },
+    }
+}
+
+// ---- parts written
+fn write_write(part: &mut [u8], w: Write)
+    requires { ⌜ length (now part) ≡ itemSize ⌝ }
+    ensures { λ _. ⌜ now (part .exit) ≡ writeBytes w ⌝ }
+{
+    write_number(&mut part[0..8], w.key as u64);
+    write_number(&mut part[8..16], w.value);
+}
+
+// Four bytes and an id: what begins a place, a read and an entry.
+fn write_start(part: &mut [u8], a: u8, b: u8, c: u8, d: u8, id: Id)
+    requires { ⌜ length (now part) ≡ itemSize ⌝ }
+    ensures { λ _. ⌜ now (part .exit) ≡ startBytes a b c d id ⌝ }
+{
+    part[0] = a;
+    part[1] = b;
+    part[2] = c;
+    part[3] = d;
+    write_number(&mut part[4..8], id.txn as u64);
+    write_number(&mut part[8..16], id.clock);
+}
+
+fn write_read(part: &mut [u8], r: Read)
+    requires { ⌜ length (now part) ≡ itemSize ⌝ }
+    ensures { λ _. ⌜ now (part .exit) ≡ readBytes r ⌝ }
+{
+    let id = r.id;
+    write_start(part, r.key, 0, 0, 0, id);
+}
+
+fn write_keys(part: &mut [u8], keys: [u8; Station::WRITES])
+    requires { ⌜ length (now part) ≡ writeLimit ⌝ }
+    ensures { λ _. ⌜ now (part .exit) ≡ keys ⌝ }
+{
+    let mut i = 0;
+    while i < Station::WRITES {
+        part[i] = keys[i];
+        i += 1;
+    }
+}
+
+fn write_entry(part: &mut [u8], e: Entry)
+    requires { ⌜ length (now part) ≡ recordSize ⌝ }
+    ensures { λ _. ⌜ now (part .exit) ≡ entryBytes e ⌝ }
+{
+    let id = e.id;
+    let keys = e.keys;
+    write_start(&mut part[0..16], e.count, 0, 0, 0, id);
+    write_keys(&mut part[16..24], keys);
+}
+
+fn phase_marks(p: Phase) -> Marked
+    ensures { λ r. ⌜ (r .mark ≡ phaseMark p) × (r .slot ≡ closingSlot p) × (r .stored ≡ recordsStored p) × (r .clock ≡ closingClock p) ⌝ }
+{
+    match p {
+        Phase::Unused => Marked {
+            mark: UNUSED,
+            slot: 0,
+            stored: 0,
+            clock: 0,
+        },
+        Phase::Open => Marked {
+            mark: OPEN,
+            slot: 0,
+            stored: 0,
+            clock: 0,
+        },
+        Phase::Closing(d, c, n) => Marked {
+            mark: CLOSING,
+            slot: d,
+            stored: n,
+            clock: c,
+        },
+    }
+}
+
+fn write_head(part: &mut [u8], p: Phase, txn: u32, writes: u8, reads: u8)
+    requires { ⌜ length (now part) ≡ headSize ⌝ }
+    ensures { λ _. ⌜ now (part .exit) ≡ headBytes p txn writes reads ⌝ }
+{
+    let m = phase_marks(p);
+    let id = Id {
+        clock: m.clock,
+        txn,
+    };
+    write_start(&mut part[0..16], m.mark, m.slot, m.stored, writes, id);
+    write_number(&mut part[16..24], reads as u64);
+}
+
+fn write_writes(part: &mut [u8], writes: [Write; Station::WRITES])
+    requires { ⌜ length (now part) ≡ writesSize ⌝ }
+    ensures { λ _. ⌜ now (part .exit) ≡ flat writeBytes writes ⌝ }
+{
+    let mut i = 0;
+    while i < Station::WRITES {
+        let at = ITEM * i;
+        let w = writes[i];
+        write_write(&mut part[at..at + ITEM], w);
+        i += 1;
+    }
+}
+
+fn write_reads(part: &mut [u8], reads: [Read; Station::READS])
+    requires { ⌜ length (now part) ≡ readsSize ⌝ }
+    ensures { λ _. ⌜ now (part .exit) ≡ flat readBytes reads ⌝ }
+{
+    let mut i = 0;
+    while i < Station::READS {
+        let at = ITEM * i;
+        let r = reads[i];
+        write_read(&mut part[at..at + ITEM], r);
+        i += 1;
+    }
+}
+
+fn write_place(part: &mut [u8], l: Live)
+    requires { ⌜ length (now part) ≡ placeSize ⌝ }
+    ensures { λ _. ⌜ now (part .exit) ≡ placeBytes l ⌝ }
+{
+    let phase = l.phase;
+    let writes = l.writes;
+    let reads = l.reads;
+    write_head(
+        &mut part[0..HEAD],
+        phase,
+        l.txn,
+        l.write_count,
+        l.read_count,
+    );
+    write_writes(&mut part[HEAD..READS_AT], writes);
+    write_reads(&mut part[READS_AT..PLACE], reads);
+}
+
+fn write_places(part: &mut [u8], live: [Live; Station::LIVE])
+    requires { ⌜ length (now part) ≡ placesSize ⌝ }
+    ensures { λ _. ⌜ now (part .exit) ≡ flat placeBytes live ⌝ }
+{
+    let mut i = 0;
+    while i < Station::LIVE {
+        let at = PLACE * i;
+        let l = live[i];
+        write_place(&mut part[at..at + PLACE], l);
+        i += 1;
+    }
+}
+
+fn write_entries(part: &mut [u8], entries: [Entry; Station::SLOTS])
+    requires { ⌜ length (now part) ≡ entriesSize ⌝ }
+    ensures { λ _. ⌜ now (part .exit) ≡ flat entryBytes entries ⌝ }
+{
+    let mut i = 0;
+    while i < Station::SLOTS {
+        let at = ENTRY * i;
+        let e = entries[i];
+        write_entry(&mut part[at..at + ENTRY], e);
+        i += 1;
+    }
+}
+
+// The station's image over the bytes lent.
+pub fn write_image(bytes: &mut [u8], station: Station)
+    requires { ⌜ length (now bytes) ≡ imageSize ⌝ }
+    ensures { λ _. ⌜ now (bytes .exit) ≡ stationBytes station ⌝ }
+{
+    let live = station.live;
+    let entries = station.entries;
+    write_places(&mut bytes[0..ENTRIES_AT], live);
+    write_entries(&mut bytes[ENTRIES_AT..IMAGE], entries);
+}
