@@ -1,8 +1,8 @@
 -- Laws of a part's bytes (specs/Layout, specs/Images): when they are a part's own, and what is written over a part.
-use Prim.Native.Nat.{ℕ, zero, suc, _+_, _-_, _<_, _≤_}
-use mathlib.Core.Path.{_≡_, refl, sym, ap, ap₂, subst, _∙_}
+use Prim.Native.Nat.{ℕ, zero, suc, _+_, _<_, _≤_}
+use mathlib.Core.Path.{_≡_, refl, sym, ap, ap₂, _∙_}
 use mathlib.Core.Logic.{_≢_}
-use mathlib.Core.Bool.{Bool, true, false, true≢false, false≢true}
+use mathlib.Core.Bool.{Bool, true, false, true≢false}
 use mathlib.Core.List.{List, [], _∷_, _++_}
 use lib.Dec.{eqb}
 use lib.ListN.{length, take, drop, getD, replicate, length-drop}
@@ -10,11 +10,10 @@ use lib.Seq.{length-take-le}
 use native.Mathlib.Nat.{suc-ne-zero}
 use native.Mathlib.Omega.{arith}
 use borrow.Author.Tests.{eqb-true}
-use Rattle.model.specs.declared.Id.{Id}
 use Rattle.model.specs.declared.Phase.{Phase}
 use Rattle.model.specs.declared.Phase.the-variants.{Unused, Open, Closing}
 use Rattle.model.specs.Limits.{recordSize}
-use Rattle.model.specs.Lists.{_and_, all, same}
+use Rattle.model.specs.Lists.{all, same}
 use Rattle.model.specs.Records.{bytes, number, idIn}
 use Rattle.model.specs.Stations.{closingSlot, closingClock, recordsStored}
 use Rattle.model.proofs.ListLaws.{all-head, all-tail}

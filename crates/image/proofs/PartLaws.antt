@@ -1,15 +1,15 @@
 -- Laws of parts that lie one after the other (specs/Layout): a loop that tests them, one that reads them, one that writes them.
 use Prim.Native.Nat.{ℕ, zero, suc, _+_, _*_, _-_, _<_, _≤_}
-use mathlib.Core.Path.{_≡_, refl, sym, ap, ap₂, _∙_}
+use mathlib.Core.Path.{_≡_, refl, sym, ap, _∙_}
 use mathlib.Core.Bool.{Bool, true, false}
 use mathlib.Core.List.{List, [], _∷_, _++_, map, append-nil, append-assoc}
 use lib.Dec.{eqb}
-use lib.ListN.{length, take, drop, getD, replicate, set, length-append, length-drop, length-map, take-append-drop, drop-of-length-le}
-use lib.Seq.{take-all, take-suc-set, take-at, drop-at, take-append-add, drop-cons, drop-drop, length-take-le}
+use lib.ListN.{length, take, drop, getD, replicate, set, length-drop, take-append-drop, drop-of-length-le}
+use lib.Seq.{take-all, take-suc-set, take-at, take-append-add, drop-cons, drop-drop, length-take-le}
 use native.Mathlib.Nat.{mul-zero, mul-suc, mul-one, suc-ne-zero}
 use native.Mathlib.Omega.{arith}
 use native.Mathlib.Numerals.{add-one}
-use borrow.Rule.Slice.PartMut.{putMid, mid-len}
+use borrow.Rule.Slice.PartMut.{putMid}
 use Rattle.model.specs.Lists.{_and_, all, same}
 use Rattle.model.proofs.RecordLaws.{same-refl}
 use Rattle.image.specs.Layout.{flat, parts}
@@ -22,9 +22,6 @@ pub part-is : (b : List ℕ) (a k : ℕ) → take (a + k - a) (drop a b) ≡ tak
 part-is b a k =
     let e : a + k - a ≡ k = omega arith in
     ap (λ (m : ℕ). take m (drop a b)) e
-
-pub part-length : (b : List ℕ) (a k : ℕ) → a + k ≤ length b → length (take (a + k - a) (drop a b)) ≡ k
-part-length b a k h = mid-len a (a + k) b h ∙ omega arith
 
 pub parts-length : (k n : ℕ) (b : List ℕ) → length (parts k n b) ≡ n
 unfolding parts

@@ -1,7 +1,7 @@
 -- Parts written over lent bytes, one after the other, and the four bytes and the id that begin a part.
-use Prim.Native.Nat.{ℕ, zero, suc, _+_, _-_, _/_, _%_, _<_, _≤_}
-use mathlib.Core.Path.{_≡_, refl, sym, ap, ap₂, _∙_}
-use mathlib.Core.List.{List, [], _∷_, _++_, append-assoc}
+use Prim.Native.Nat.{ℕ, _+_, _-_, _/_, _%_, _<_, _≤_}
+use mathlib.Core.Path.{_≡_, sym, ap, ap₂, _∙_}
+use mathlib.Core.List.{List, _∷_, _++_, append-assoc}
 use lib.ListN.{length, take, drop, set, replicate, length-append, length-drop, length-set}
 use lib.Seq.{take-at, drop-at, length-take-le}
 use native.Mathlib.Omega.{arith}

@@ -1,2 +1,3 @@
 pub mod Layout
 pub mod Images
+pub mod Ranges

@@ -7,7 +7,7 @@ use model::Read;
 use model::Station;
 use model::Write;
 ghost use mathlib.Core.Path.{_≡_};
-ghost use mathlib.Core.Bool.{cond};
+ghost use mathlib.Core.Bool.{true, cond};
 ghost use mathlib.Core.List.{map};
 ghost use Prim.Native.Nat.{_≤_, _<_, _^_};
 ghost use lib.Dec.{eqb};
@@ -542,10 +542,11 @@ fn write_entries(part: &mut [u8], entries: [Entry; Station::SLOTS])
     }
 }
 
-// The station's image over the bytes lent.
+// The station's image over the bytes lent: they are then an image, and the station is read off them.
 pub fn write_image(bytes: &mut [u8], station: Station)
     requires { ⌜ length (now bytes) ≡ imageSize ⌝ }
     ensures { λ _. ⌜ now (bytes .exit) ≡ stationBytes station ⌝ }
+    ensures { λ _. ⌜ (isImage (now (bytes .exit)) ≡ true) × (stationIn (now (bytes .exit)) ≡ station) ⌝ }
 {
     let live = station.live;
     let entries = station.entries;

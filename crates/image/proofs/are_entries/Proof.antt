@@ -7,9 +7,10 @@ use borrow.Author.Needs.{needs}
 use borrow.Author.Tests.{not-true, not-false}
 use Rattle.model.specs.Limits.{slots, recordSize}
 use Rattle.model.specs.Lists.{all}
+use Rattle.records.proofs.SlotSteps.{part-length}
 use Rattle.image.specs.Layout.{parts}
 use Rattle.image.specs.Images.{isEntry}
-use Rattle.image.proofs.PartLaws.{part-length, test-next, test-stop, test-end}
+use Rattle.image.proofs.PartLaws.{test-next, test-stop, test-end}
 use Rattle.image.proofs.are_entries.Statement.{statement}
 use Rattle.image.proofs.are_entries.Tie as tie
 

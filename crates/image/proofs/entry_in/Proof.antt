@@ -1,8 +1,8 @@
 -- `image::entry_in` meets its contract.
 use lib.ListN.{getD}
+use borrow.Author.Needs.{needs}
 use Rattle.records.proofs.ByteLaws.{keys-read}
 use Rattle.image.specs.Layout.{entryIn}
-use borrow.Author.Needs.{needs}
 use Rattle.image.proofs.entry_in.Statement.{statement}
 use Rattle.image.proofs.entry_in.Tie as tie
 

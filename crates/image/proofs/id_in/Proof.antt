@@ -4,9 +4,9 @@ use mathlib.Core.Path.{_≡_, subst}
 use lib.ListN.{length, take, drop}
 use native.Mathlib.Omega.{arith}
 use borrow.Rule.Slice.PartMut.{mid-len}
+use borrow.Author.Needs.{needs}
 use Rattle.model.specs.Limits.{byteRange}
 use Rattle.model.specs.Records.{idIn}
-use borrow.Author.Needs.{needs}
 use Rattle.image.proofs.id_in.Statement.{statement}
 use Rattle.image.proofs.id_in.Tie as tie
 

@@ -1,6 +1,6 @@
 -- `image::is_head` meets its contract.
-use native.Mathlib.Omega.{arith}
 use mathlib.Core.Path.{sym, _∙_}
+use native.Mathlib.Omega.{arith}
 use borrow.Author.Tests.{not-true, not-false}
 use borrow.Author.Needs.{needs}
 use Rattle.image.proofs.LayoutLaws.{head-rest, head-closing, head-high, head-slot, head-open}

@@ -1,9 +1,9 @@
 -- `image::is_image` meets its contract.
 use mathlib.Core.Path.{sym, _∙_}
 use borrow.Author.Tests.{not-true, not-false}
+use borrow.Author.Needs.{needs}
 use Rattle.model.proofs.Tests.{and-none-left}
 use Rattle.image.proofs.ImageLaws.{and-true, no-image, image-is}
-use borrow.Author.Needs.{needs}
 use Rattle.image.proofs.is_image.Statement.{statement}
 use Rattle.image.proofs.is_image.Tie as tie
 

@@ -1,9 +1,9 @@
 -- `image::is_place` meets its contract.
 use mathlib.Core.Path.{sym, _∙_}
 use borrow.Author.Tests.{not-true, not-false}
+use borrow.Author.Needs.{needs}
 use Rattle.model.proofs.Tests.{and-none-left, and-none-right}
 use Rattle.image.proofs.ImageLaws.{and-true, place-is}
-use borrow.Author.Needs.{needs}
 use Rattle.image.proofs.is_place.Statement.{statement}
 use Rattle.image.proofs.is_place.Tie as tie
 

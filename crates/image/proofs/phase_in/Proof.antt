@@ -1,8 +1,8 @@
 -- `image::phase_in` meets its contract.
 use mathlib.Core.Path.{sym}
+use borrow.Author.Needs.{needs}
 use Rattle.image.specs.Layout.{phaseOf}
 use Rattle.image.proofs.LayoutLaws.{phase-at, phase-closing}
-use borrow.Author.Needs.{needs}
 use Rattle.image.proofs.phase_in.Statement.{statement}
 use Rattle.image.proofs.phase_in.Tie as tie
 

@@ -1,8 +1,8 @@
 -- `image::phase_marks` meets its contract.
 use mathlib.Core.Path.{refl}
+use borrow.Author.Needs.{needs}
 use Rattle.model.specs.Stations.{closingSlot, closingClock, recordsStored}
 use Rattle.image.specs.Layout.{phaseMark}
-use borrow.Author.Needs.{needs}
 use Rattle.image.proofs.phase_marks.Statement.{statement}
 use Rattle.image.proofs.phase_marks.Tie as tie
 

@@ -3,11 +3,11 @@ use mathlib.Core.Path.{sym, ap}
 use lib.Dec.{lit<}
 use lib.Seq.{getD-take}
 use native.Mathlib.Omega.{arith}
+use borrow.Author.Needs.{needs}
 use Rattle.model.specs.declared.Id.{Id}
+use Rattle.records.proofs.SlotSteps.{part-length}
 use Rattle.image.specs.Layout.{headSize}
 use Rattle.image.specs.Images.{placeIn}
-use Rattle.image.proofs.PartLaws.{part-length}
-use borrow.Author.Needs.{needs}
 use Rattle.image.proofs.place_in.Statement.{statement}
 use Rattle.image.proofs.place_in.Tie as tie
 

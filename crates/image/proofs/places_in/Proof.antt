@@ -5,9 +5,10 @@ use lib.ListN.{length-set}
 use native.Mathlib.Omega.{arith}
 use borrow.Author.Needs.{needs}
 use Rattle.model.specs.Limits.{livePlaces}
+use Rattle.records.proofs.SlotSteps.{part-length}
 use Rattle.image.specs.Layout.{placeSize}
 use Rattle.image.specs.Images.{placeIn}
-use Rattle.image.proofs.PartLaws.{part-length, Reads, reads-start, reads-more, reads-end}
+use Rattle.image.proofs.PartLaws.{Reads, reads-start, reads-more, reads-end}
 use Rattle.image.proofs.places_in.Statement.{statement}
 use Rattle.image.proofs.places_in.Tie as tie
 

@@ -3,12 +3,12 @@ use mathlib.Core.Path.{_≡_, sym, ap, _∙_}
 use mathlib.Core.Bool.{Bool, true, false, cond}
 use native.Mathlib.Omega.{arith}
 use borrow.Author.Tests.{not-true, not-false}
+use borrow.Author.Needs.{needs}
 use Rattle.model.specs.Stations.{emptyStation}
+use Rattle.records.proofs.SlotSteps.{part-length}
 use Rattle.image.specs.Layout.{placesSize, entriesSize}
 use Rattle.image.specs.Images.{stationIn, isImage}
-use Rattle.image.proofs.PartLaws.{part-length}
 use Rattle.image.proofs.ImageLaws.{image-length}
-use borrow.Author.Needs.{needs}
 use Rattle.image.proofs.read_image.Statement.{statement}
 use Rattle.image.proofs.read_image.Tie as tie
 

@@ -1,7 +1,7 @@
 -- `image::read_in` meets its contract.
 use lib.ListN.{getD}
-use Rattle.image.specs.Layout.{readIn}
 use borrow.Author.Needs.{needs}
+use Rattle.image.specs.Layout.{readIn}
 use Rattle.image.proofs.read_in.Statement.{statement}
 use Rattle.image.proofs.read_in.Tie as tie
 

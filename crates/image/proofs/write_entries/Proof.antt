@@ -7,8 +7,9 @@ use native.Mathlib.Omega.{arith}
 use borrow.Rule.Slice.PartMut.{same-len-mid}
 use borrow.Author.Needs.{needs}
 use Rattle.model.specs.Limits.{slots, recordSize}
+use Rattle.records.proofs.SlotSteps.{part-length}
 use Rattle.image.specs.Layout.{flat, entryBytes}
-use Rattle.image.proofs.PartLaws.{part-length, writes-more, writes-end}
+use Rattle.image.proofs.PartLaws.{writes-more, writes-end}
 use Rattle.image.proofs.write_entries.Statement.{statement}
 use Rattle.image.proofs.write_entries.Tie as tie
 

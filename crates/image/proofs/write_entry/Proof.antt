@@ -1,7 +1,7 @@
 -- `image::write_entry` meets its contract.
+use borrow.Author.Needs.{needs}
 use Rattle.image.specs.Layout.{startBytes, entryBytes}
 use Rattle.image.proofs.WriteLaws.{put-two}
-use borrow.Author.Needs.{needs}
 use Rattle.image.proofs.write_entry.Statement.{statement}
 use Rattle.image.proofs.write_entry.Tie as tie
 

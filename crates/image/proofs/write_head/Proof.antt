@@ -4,11 +4,11 @@ use mathlib.Core.List.{_∷_}
 use lib.ListN.{replicate}
 use native.Mathlib.Omega.{arith}
 use borrow.Rule.Slice.PartMut.{putMid, same-len-mid}
+use borrow.Author.Needs.{needs}
 use Rattle.model.specs.declared.Id.{Id}
 use Rattle.model.specs.Stations.{closingSlot, closingClock, recordsStored}
 use Rattle.image.specs.Layout.{startBytes, phaseMark, headBytes}
 use Rattle.image.proofs.WriteLaws.{put-two, byte-bytes, number-written, start-phase}
-use borrow.Author.Needs.{needs}
 use Rattle.image.proofs.write_head.Statement.{statement}
 use Rattle.image.proofs.write_head.Tie as tie
 

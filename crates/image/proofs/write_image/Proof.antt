@@ -1,8 +1,12 @@
 -- `image::write_image` meets its contract.
+use mathlib.Core.Path.{_≡_}
+use borrow.Rule.Slice.PartMut.{putMid}
+use borrow.Author.Needs.{needs}
 use Rattle.image.specs.Layout.{placesSize, entriesSize, flat, entryBytes}
 use Rattle.image.specs.Images.{placeBytes, stationBytes}
 use Rattle.image.proofs.WriteLaws.{put-two}
-use borrow.Author.Needs.{needs}
+use Rattle.image.proofs.Round.{image-of}
+use Rattle.image.proofs.Handed.{station-handed}
 use Rattle.image.proofs.write_image.Statement.{statement}
 use Rattle.image.proofs.write_image.Tie as tie
 
@@ -36,10 +40,13 @@ same-length c = search needs
 returns : tie.Need-returns
 unfolding stationBytes
 returns c =
-    let a = c .before .before .before .before .before .before .before .before .before .before .before .args in
+    let s = c .before .before .before .before .before .before .before .before .before .before .before in
+    let a = s .args in
     let p = c .before .before .before .before .before .before .write-places in
     let e = c .before .before .write-entries in
-    put-two (a .bytes .now) (p .last .0) (e .last .0) (flat placeBytes (a .station .live)) (flat entryBytes (a .station .entries)) placesSize entriesSize (c .before .before .before .before .before .before .before .before .before .before .before .pre) (p .kept .0) (p .ensures) (e .ensures)
+    let b = putMid placesSize entriesSize (putMid 0 placesSize (a .bytes .now) (p .last .0)) (e .last .0) in
+    let w : b ≡ stationBytes (a .station) = put-two (a .bytes .now) (p .last .0) (e .last .0) (flat placeBytes (a .station .live)) (flat entryBytes (a .station .entries)) placesSize entriesSize (s .pre) (p .kept .0) (p .ensures) (e .ensures) in
+    (w, image-of (a .station) b (station-handed (a .station) _ (s .good .1 .0)) w)
 
 pub write-image-spec : {M : Type 1} → statement M
 write-image-spec =

@@ -1,7 +1,7 @@
 -- `image::write_in` meets its contract.
 use lib.ListN.{getD}
-use Rattle.image.specs.Layout.{writeIn}
 use borrow.Author.Needs.{needs}
+use Rattle.image.specs.Layout.{writeIn}
 use Rattle.image.proofs.write_in.Statement.{statement}
 use Rattle.image.proofs.write_in.Tie as tie
 

@@ -1,8 +1,8 @@
 -- `image::write_place` meets its contract.
+use borrow.Author.Needs.{needs}
 use Rattle.image.specs.Layout.{headSize, writesSize, readsSize, flat, writeBytes, readBytes, headBytes}
 use Rattle.image.specs.Images.{placeBytes}
 use Rattle.image.proofs.WriteLaws.{put-three}
-use borrow.Author.Needs.{needs}
 use Rattle.image.proofs.write_place.Statement.{statement}
 use Rattle.image.proofs.write_place.Tie as tie
 

@@ -7,9 +7,10 @@ use native.Mathlib.Omega.{arith}
 use borrow.Rule.Slice.PartMut.{same-len-mid}
 use borrow.Author.Needs.{needs}
 use Rattle.model.specs.Limits.{livePlaces}
+use Rattle.records.proofs.SlotSteps.{part-length}
 use Rattle.image.specs.Layout.{placeSize, flat}
 use Rattle.image.specs.Images.{placeBytes}
-use Rattle.image.proofs.PartLaws.{part-length, writes-more, writes-end}
+use Rattle.image.proofs.PartLaws.{writes-more, writes-end}
 use Rattle.image.proofs.write_places.Statement.{statement}
 use Rattle.image.proofs.write_places.Tie as tie
 

@@ -1,6 +1,6 @@
 -- `image::write_read` meets its contract.
-use Rattle.image.specs.Layout.{readBytes}
 use borrow.Author.Needs.{needs}
+use Rattle.image.specs.Layout.{readBytes}
 use Rattle.image.proofs.write_read.Statement.{statement}
 use Rattle.image.proofs.write_read.Tie as tie
 

@@ -7,8 +7,9 @@ use native.Mathlib.Omega.{arith}
 use borrow.Rule.Slice.PartMut.{same-len-mid}
 use borrow.Author.Needs.{needs}
 use Rattle.model.specs.Limits.{readLimit}
+use Rattle.records.proofs.SlotSteps.{part-length}
 use Rattle.image.specs.Layout.{itemSize, flat, readBytes}
-use Rattle.image.proofs.PartLaws.{part-length, writes-more, writes-end}
+use Rattle.image.proofs.PartLaws.{writes-more, writes-end}
 use Rattle.image.proofs.write_reads.Statement.{statement}
 use Rattle.image.proofs.write_reads.Tie as tie
 

@@ -1,10 +1,10 @@
 -- `image::write_start` meets its contract.
 use mathlib.Core.Path.{sym, _∙_}
-use borrow.Rule.Slice.PartMut.{putMid, same-len-mid}
-use Rattle.image.proofs.WriteLaws.{four, start-length, start-written}
-use native.Mathlib.Omega.{arith}
 use lib.ListN.{length-set}
+use native.Mathlib.Omega.{arith}
+use borrow.Rule.Slice.PartMut.{putMid, same-len-mid}
 use borrow.Author.Needs.{needs}
+use Rattle.image.proofs.WriteLaws.{four, start-length, start-written}
 use Rattle.image.proofs.write_start.Statement.{statement}
 use Rattle.image.proofs.write_start.Tie as tie
 

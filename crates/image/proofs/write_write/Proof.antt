@@ -2,12 +2,12 @@
 use mathlib.Core.Path.{_∙_}
 use mathlib.Core.List.{_∷_}
 use lib.ListN.{replicate}
-use Rattle.model.specs.Records.{bytes}
-use Rattle.image.specs.Layout.{writeBytes}
-use Rattle.image.proofs.WriteLaws.{put-two, byte-bytes, number-written}
 use native.Mathlib.Omega.{arith}
 use borrow.Rule.Slice.PartMut.{putMid, same-len-mid}
 use borrow.Author.Needs.{needs}
+use Rattle.model.specs.Records.{bytes}
+use Rattle.image.specs.Layout.{writeBytes}
+use Rattle.image.proofs.WriteLaws.{put-two, byte-bytes, number-written}
 use Rattle.image.proofs.write_write.Statement.{statement}
 use Rattle.image.proofs.write_write.Tie as tie
 

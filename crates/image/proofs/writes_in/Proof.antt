@@ -5,8 +5,9 @@ use lib.ListN.{length-set}
 use native.Mathlib.Omega.{arith}
 use borrow.Author.Needs.{needs}
 use Rattle.model.specs.Limits.{writeLimit}
+use Rattle.records.proofs.SlotSteps.{part-length}
 use Rattle.image.specs.Layout.{itemSize, writeIn}
-use Rattle.image.proofs.PartLaws.{part-length, Reads, reads-start, reads-more, reads-end}
+use Rattle.image.proofs.PartLaws.{Reads, reads-start, reads-more, reads-end}
 use Rattle.image.proofs.writes_in.Statement.{statement}
 use Rattle.image.proofs.writes_in.Tie as tie
 

@@ -1,0 +1,52 @@
+-- Parts of an image, computed, and bytes that are none.
+use Prim.Native.Nat.{ℕ}
+use mathlib.Core.Path.{_≡_, refl}
+use mathlib.Core.Bool.{true, false}
+use mathlib.Core.List.{List, _∷_, _++_}
+use lib.ListN.{replicate}
+use Rattle.model.specs.declared.Live.{Live}
+use Rattle.model.specs.declared.Phase.the-variants.{Closing}
+use Rattle.model.specs.Lists.{_and_, same}
+use Rattle.model.specs.Records.{bytes, number, idIn}
+use Rattle.model.specs.Stations.{noWrite, noRead, emptyStation, closingSlot, closingClock, recordsStored}
+use Rattle.image.specs.Layout.{flat, parts, writeBytes, writeIn, startBytes, readBytes, readIn, entryBytes, entryIn, phaseMark, phaseOf, headBytes, phaseIn, imageSize}
+use Rattle.image.specs.Images.{placeBytes, placeIn, stationBytes, stationIn, isImage}
+
+-- a transaction that is closing: slot 5, clock 3, one record stored; a write of value 300 and a read
+abbrev pub place : Live
+place = record {
+  txn = 258;
+  phase = Closing 5 3 1;
+  «write_count» = 1;
+  writes = record { key = 7; value = 300 } ∷ replicate 7 noWrite;
+  «read_count» = 1;
+  reads = record { key = 9; id = record { clock = 4; txn = 2 } } ∷ replicate 15 noRead;
+}
+
+abbrev pub bytes-of-place : List ℕ
+bytes-of-place =
+    (2 ∷ 5 ∷ 1 ∷ 1 ∷ 2 ∷ 1 ∷ 0 ∷ 0 ∷ 3 ∷ 0 ∷ 0 ∷ 0 ∷ 0 ∷ 0 ∷ 0 ∷ 0 ∷ 1 ∷ replicate 7 0)
+    ++ ((7 ∷ replicate 7 0) ++ (44 ∷ 1 ∷ replicate 6 0) ++ replicate 112 0)
+    ++ ((9 ∷ 0 ∷ 0 ∷ 0 ∷ 2 ∷ 0 ∷ 0 ∷ 0 ∷ 4 ∷ replicate 7 0) ++ replicate 240 0)
+
+pub place-written : placeBytes place ≡ bytes-of-place
+unfolding placeBytes headBytes startBytes phaseMark closingSlot closingClock recordsStored flat writeBytes readBytes bytes
+place-written = refl
+
+pub place-read : placeIn bytes-of-place ≡ place
+unfolding placeIn phaseIn phaseOf idIn number parts writeIn readIn
+place-read = refl
+
+-- the empty station's image is all zero
+pub empty-written : same (stationBytes emptyStation) (replicate imageSize 0) ≡ true
+unfolding stationBytes emptyStation placeBytes headBytes startBytes phaseMark closingSlot closingClock recordsStored flat writeBytes readBytes entryBytes bytes same
+empty-written = refl
+
+-- a first byte that is no phase; bytes that are one too few
+pub phase-three : isImage (3 ∷ replicate 4799 0) ≡ false
+unfolding isImage _and_ stationBytes stationIn placeBytes placeIn headBytes startBytes phaseMark phaseIn phaseOf closingSlot closingClock recordsStored flat parts writeBytes writeIn readBytes readIn entryBytes entryIn idIn number bytes same
+phase-three = refl
+
+pub one-short : isImage (replicate 4799 0) ≡ false
+unfolding isImage _and_
+one-short = refl

@@ -1,0 +1,63 @@
+-- The numbers of a station are in the ranges of their types, and its arrays have their lengths: so it is with every station that a
+-- function is handed (proofs/Handed).
+use Prim.Native.Nat.{ℕ, _<_}
+use mathlib.Core.Path.{_≡_}
+use mathlib.Core.List.{List, [], _∷_}
+use lib.ListN.{length}
+use Rattle.model.specs.declared.Id.{Id}
+use Rattle.model.specs.declared.Write.{Write}
+use Rattle.model.specs.declared.Read.{Read}
+use Rattle.model.specs.declared.Live.{Live}
+use Rattle.model.specs.declared.Entry.{Entry}
+use Rattle.model.specs.declared.Station.{Station}
+use Rattle.model.specs.declared.Phase.{Phase}
+use Rattle.model.specs.Limits.{livePlaces, slots, writeLimit, readLimit, txnRange, numberRange, byteRange}
+use Rattle.model.specs.Stations.{closingSlot, closingClock, recordsStored}
+
+module _ {A : Type 0} where
+  -- all elements have a property
+  abbrev pub Every : (A → Type 0) → List A → Type 0
+  Every P [] = Unit {0}
+  Every P (x ∷ xs) = P x × Every P xs
+
+abbrev pub IsByte : ℕ → Type 0
+IsByte x = x < byteRange
+
+pub record IdFits (i : Id) : Type 0 where
+  pub clock64 : i .clock < numberRange
+  pub txn32 : i .txn < txnRange
+
+pub record WriteFits (w : Write) : Type 0 where
+  pub key8 : IsByte (w .key)
+  pub value64 : w .value < numberRange
+
+pub record ReadFits (r : Read) : Type 0 where
+  pub key8 : IsByte (r .key)
+  pub id : IdFits (r .id)
+
+pub record PhaseFits (p : Phase) : Type 0 where
+  pub slot8 : IsByte (closingSlot p)
+  pub clock64 : closingClock p < numberRange
+  pub stored8 : IsByte (recordsStored p)
+
+pub record LiveFits (l : Live) : Type 0 where
+  pub txn32 : l .txn < txnRange
+  pub phase : PhaseFits (l .phase)
+  pub writes8 : IsByte (l .«write_count»)
+  pub write-places : length (l .writes) ≡ writeLimit
+  pub writes : Every WriteFits (l .writes)
+  pub reads8 : IsByte (l .«read_count»)
+  pub read-places : length (l .reads) ≡ readLimit
+  pub reads : Every ReadFits (l .reads)
+
+pub record EntryFits (e : Entry) : Type 0 where
+  pub id : IdFits (e .id)
+  pub count8 : IsByte (e .count)
+  pub key-places : length (e .keys) ≡ writeLimit
+  pub keys : Every IsByte (e .keys)
+
+pub record StationFits (st : Station) : Type 0 where
+  pub live-places : length (st .live) ≡ livePlaces
+  pub live : Every LiveFits (st .live)
+  pub entry-places : length (st .entries) ≡ slots
+  pub entries : Every EntryFits (st .entries)
