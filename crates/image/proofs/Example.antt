@@ -9,7 +9,7 @@ use Rattle.model.specs.declared.Phase.the-variants.{Closing}
 use Rattle.model.specs.Lists.{_and_, same}
 use Rattle.model.specs.Records.{bytes, number, idIn}
 use Rattle.model.specs.Stations.{noWrite, noRead, emptyStation, closingSlot, closingClock, recordsStored}
-use Rattle.image.specs.Layout.{flat, parts, writeBytes, writeIn, startBytes, readBytes, readIn, entryBytes, entryIn, phaseMark, phaseOf, headBytes, phaseIn, imageSize}
+use Rattle.image.specs.Layout.{flat, parts, writeBytes, writeIn, startBytes, readBytes, readIn, entryBytes, entryIn, phaseMark, phaseOf, placeHead, phaseIn, placeSize, placesSize, imageSize}
 use Rattle.image.specs.Images.{placeBytes, placeIn, stationBytes, stationIn, isImage}
 
 -- a transaction that is closing: slot 5, clock 3, one record stored; a write of value 300 and a read
@@ -30,21 +30,29 @@ bytes-of-place =
     ++ ((9 ∷ 0 ∷ 0 ∷ 0 ∷ 2 ∷ 0 ∷ 0 ∷ 0 ∷ 4 ∷ replicate 7 0) ++ replicate 240 0)
 
 pub place-written : placeBytes place ≡ bytes-of-place
-unfolding placeBytes headBytes startBytes phaseMark closingSlot closingClock recordsStored flat writeBytes readBytes bytes
+unfolding placeBytes placeHead startBytes phaseMark closingSlot closingClock recordsStored flat writeBytes readBytes bytes
 place-written = refl
 
 pub place-read : placeIn bytes-of-place ≡ place
 unfolding placeIn phaseIn phaseOf idIn number parts writeIn readIn
 place-read = refl
 
+-- an entry of two keys
+pub entry-written : entryBytes (record { id = record { clock = 256; txn = 9 }; count = 2; keys = 4 ∷ 63 ∷ replicate 6 0 }) ≡ 2 ∷ 0 ∷ 0 ∷ 0 ∷ 9 ∷ 0 ∷ 0 ∷ 0 ∷ 0 ∷ 1 ∷ replicate 6 0 ++ (4 ∷ 63 ∷ replicate 6 0)
+unfolding entryBytes startBytes bytes
+entry-written = refl
+
+pub sizes : (placeSize ≡ 408) × (placesSize ≡ 3264) × (imageSize ≡ 4800)
+sizes = (refl, refl, refl)
+
 -- the empty station's image is all zero
 pub empty-written : same (stationBytes emptyStation) (replicate imageSize 0) ≡ true
-unfolding stationBytes emptyStation placeBytes headBytes startBytes phaseMark closingSlot closingClock recordsStored flat writeBytes readBytes entryBytes bytes same
+unfolding stationBytes emptyStation placeBytes placeHead startBytes phaseMark closingSlot closingClock recordsStored flat writeBytes readBytes entryBytes bytes same
 empty-written = refl
 
 -- a first byte that is no phase; bytes that are one too few
 pub phase-three : isImage (3 ∷ replicate 4799 0) ≡ false
-unfolding isImage _and_ stationBytes stationIn placeBytes placeIn headBytes startBytes phaseMark phaseIn phaseOf closingSlot closingClock recordsStored flat parts writeBytes writeIn readBytes readIn entryBytes entryIn idIn number bytes same
+unfolding isImage _and_ stationBytes stationIn placeBytes placeIn placeHead startBytes phaseMark phaseIn phaseOf closingSlot closingClock recordsStored flat parts writeBytes writeIn readBytes readIn entryBytes entryIn idIn number bytes same
 phase-three = refl
 
 pub one-short : isImage (replicate 4799 0) ≡ false

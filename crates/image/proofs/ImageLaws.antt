@@ -18,7 +18,7 @@ use Rattle.model.specs.Limits.{livePlaces, slots, writeLimit, readLimit, record
 use Rattle.model.specs.Lists.{_and_, all, same}
 use Rattle.model.specs.Records.{bytes, idIn}
 use Rattle.model.proofs.Tests.{and-left}
-use Rattle.image.specs.Layout.{headSize, itemSize, writesSize, readsSize, placeSize, placesSize, entriesSize, imageSize, flat, parts, writeBytes, writeIn, startBytes, readBytes, readIn, entryBytes, entryIn, headBytes, phaseIn}
+use Rattle.image.specs.Layout.{headSize, itemSize, writesSize, readsSize, placeSize, placesSize, entriesSize, imageSize, flat, parts, writeBytes, writeIn, startBytes, readBytes, readIn, entryBytes, entryIn, placeHead, phaseIn}
 use Rattle.image.specs.Images.{placeBytes, placeIn, stationBytes, stationIn, isWrite, isRead, isEntry, isHead, isPlace, isImage}
 use Rattle.image.proofs.PartLaws.{parts-length, same-append, same-flat}
 
@@ -40,8 +40,8 @@ pub length-entry : (e : Entry) → length (e .keys) ≡ writeLimit → length (e
 unfolding entryBytes startBytes bytes
 length-entry e h = simp h
 
-pub length-head : (p : Phase) (t w r : ℕ) → length (headBytes p t w r) ≡ headSize
-unfolding headBytes startBytes bytes
+pub length-head : (p : Phase) (t w r : ℕ) → length (placeHead p t w r) ≡ headSize
+unfolding placeHead startBytes bytes
 length-head p t w r = refl
 
 pub length-flat : {A : Type 0} (f : A → List ℕ) (k : ℕ) → ((x : A) → length (f x) ≡ k) → (xs : List A) → length (flat f xs) ≡ k * length xs
@@ -58,7 +58,7 @@ length-flat-in f g k h (x ∷ xs) = length-append (f (g x)) (flat f (map g xs)) 
 pub length-place : (l : Live) → length (l .writes) ≡ writeLimit → length (l .reads) ≡ readLimit → length (placeBytes l) ≡ placeSize
 unfolding placeBytes
 length-place l hw hr =
-    length-append (headBytes (l .phase) (l .txn) (l .«write_count») (l .«read_count»)) (flat writeBytes (l .writes) ++ flat readBytes (l .reads))
+    length-append (placeHead (l .phase) (l .txn) (l .«write_count») (l .«read_count»)) (flat writeBytes (l .writes) ++ flat readBytes (l .reads))
     ∙ omega (arith, length-head (l .phase) (l .txn) (l .«write_count») (l .«read_count»), length-append (flat writeBytes (l .writes)) (flat readBytes (l .reads)), length-flat writeBytes itemSize length-write (l .writes), length-flat readBytes itemSize length-read (l .reads))
 
 -- what is read off a part, written again, is as long as it
@@ -94,7 +94,7 @@ module _ (b : List ℕ) (l : length b ≡ placeSize) where
   unfolding isPlace placeBytes placeIn isHead isWrite isRead
   place-is =
       ap (same (placeBytes (placeIn b))) (cut b headSize writesSize readsSize l)
-      ∙ same-append (headBytes (phaseIn head) (idIn head .txn) (getD head 3 0) (getD head 16 0)) head (flat writeBytes (map writeIn (parts itemSize writeLimit writesPart)) ++ flat readBytes (map readIn (parts itemSize readLimit readsPart))) (writesPart ++ readsPart)
+      ∙ same-append (placeHead (phaseIn head) (idIn head .txn) (getD head 3 0) (getD head 16 0)) head (flat writeBytes (map writeIn (parts itemSize writeLimit writesPart)) ++ flat readBytes (map readIn (parts itemSize readLimit readsPart))) (writesPart ++ readsPart)
       (length-head (phaseIn head) (idIn head .txn) (getD head 3 0) (getD head 16 0) ∙ sym (length-take-le headSize b (omega arith)))
       ∙ ap (λ (x : Bool). isHead head and x) (
       same-append (flat writeBytes (map writeIn (parts itemSize writeLimit writesPart))) writesPart (flat readBytes (map readIn (parts itemSize readLimit readsPart))) readsPart

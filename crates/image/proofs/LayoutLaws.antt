@@ -18,7 +18,7 @@ use Rattle.model.specs.Records.{bytes, number, idIn}
 use Rattle.model.specs.Stations.{closingSlot, closingClock, recordsStored}
 use Rattle.model.proofs.ListLaws.{all-head, all-tail}
 use Rattle.model.proofs.RecordLaws.{Bytes, bytes-take, bytes-drop, bytes-number, same-refl, same-true}
-use Rattle.image.specs.Layout.{headSize, itemSize, writeBytes, writeIn, startBytes, readBytes, readIn, entryBytes, entryIn, phaseMark, phaseOf, headBytes, phaseIn}
+use Rattle.image.specs.Layout.{headSize, itemSize, writeBytes, writeIn, startBytes, readBytes, readIn, entryBytes, entryIn, phaseMark, phaseOf, placeHead, phaseIn}
 use Rattle.image.specs.Images.{isWrite, isRead, isEntry, isHead}
 use Rattle.image.proofs.PartLaws.{same-gap}
 
@@ -115,17 +115,17 @@ mark-low Open = omega arith
 mark-low (Closing d c n) = omega arith
 
 -- the bytes of a phase that is closing, and of one that is not
-closing-bytes : (d c n t w r : ℕ) → headBytes (Closing d c n) t w r ≡ (2 ∷ d ∷ n ∷ w ∷ (bytes 4 t ++ bytes 8 c)) ++ (r ∷ replicate 7 0)
-unfolding headBytes startBytes phaseMark closingSlot recordsStored closingClock
+closing-bytes : (d c n t w r : ℕ) → placeHead (Closing d c n) t w r ≡ (2 ∷ d ∷ n ∷ w ∷ (bytes 4 t ++ bytes 8 c)) ++ (r ∷ replicate 7 0)
+unfolding placeHead startBytes phaseMark closingSlot recordsStored closingClock
 closing-bytes d c n t w r = refl
 
-open-bytes : (m : ℕ) (p : Phase) (t w r : ℕ) → Unclosed m p → headBytes p t w r ≡ (m ∷ 0 ∷ 0 ∷ w ∷ bytes 4 t) ++ (replicate 8 0 ++ (r ∷ replicate 7 0))
-unfolding headBytes startBytes bytes
+open-bytes : (m : ℕ) (p : Phase) (t w r : ℕ) → Unclosed m p → placeHead p t w r ≡ (m ∷ 0 ∷ 0 ∷ w ∷ bytes 4 t) ++ (replicate 8 0 ++ (r ∷ replicate 7 0))
+unfolding placeHead startBytes bytes
 open-bytes m p t w r u = rw (u .mark, u .slot, u .stored, u .clock)
 
 module _ (h : List ℕ) (l : length h ≡ headSize) (y : Bytes h) where
   abbrev written : List ℕ
-  written = headBytes (phaseIn h) (idIn h .txn) (getD h 3 0) (getD h 16 0)
+  written = placeHead (phaseIn h) (idIn h .txn) (getD h 3 0) (getD h 16 0)
 
   -- what is read off a part that is a head's own
   at-place : (n : ℕ) → written ≡ h → getD written n 0 ≡ getD h n 0
@@ -142,7 +142,7 @@ module _ (h : List ℕ) (l : length h ≡ headSize) (y : Bytes h) where
   txn-part = number-part h 4 4 (omega arith) y
 
   pub head-rest : all (eqb 0) (take 7 (drop 17 h)) ≡ false → isHead h ≡ false
-  unfolding isHead headBytes startBytes bytes all
+  unfolding isHead placeHead startBytes bytes all
   head-rest z = not-same written h (λ e. true≢false (ap (λ (x : List ℕ). all (eqb 0) (take 7 (drop 17 x))) e ∙ z))
 
   module _ (z : all (eqb 0) (take 7 (drop 17 h)) ≡ true) where
@@ -151,12 +151,12 @@ module _ (h : List ℕ) (l : length h ≡ headSize) (y : Bytes h) where
 
     pub head-closing : getD h 0 0 ≡ 2 → isHead h ≡ true
     unfolding isHead
-    head-closing m = ap (λ (x : List ℕ). same x h) (ap (λ (p : Phase). headBytes p (idIn h .txn) (getD h 3 0) (getD h 16 0)) closing ∙ closed ∙ sym head-parts) ∙ same-refl h
+    head-closing m = ap (λ (x : List ℕ). same x h) (ap (λ (p : Phase). placeHead p (idIn h .txn) (getD h 3 0) (getD h 16 0)) closing ∙ closed ∙ sym head-parts) ∙ same-refl h
       where
         closing : phaseIn h ≡ Closing (getD h 1 0) (idIn h .clock) (getD h 2 0)
         closing = unfold phaseIn in unfold phaseOf in ap (λ (k : ℕ). phaseOf k (getD h 1 0) (idIn h .clock) (getD h 2 0)) m
 
-        closed : headBytes (Closing (getD h 1 0) (idIn h .clock) (getD h 2 0)) (idIn h .txn) (getD h 3 0) (getD h 16 0)
+        closed : placeHead (Closing (getD h 1 0) (idIn h .clock) (getD h 2 0)) (idIn h .txn) (getD h 3 0) (getD h 16 0)
             ≡ (getD h 0 0 ∷ getD h 1 0 ∷ getD h 2 0 ∷ getD h 3 0 ∷ idPart h) ++ (getD h 16 0 ∷ take 7 (drop 17 h))
         closed =
             closing-bytes (getD h 1 0) (idIn h .clock) (getD h 2 0) (idIn h .txn) (getD h 3 0) (getD h 16 0)
@@ -164,7 +164,7 @@ module _ (h : List ℕ) (l : length h ≡ headSize) (y : Bytes h) where
             ∙ ap₂ (λ (k : ℕ) (x : List ℕ). (k ∷ getD h 1 0 ∷ getD h 2 0 ∷ getD h 3 0 ∷ idPart h) ++ (getD h 16 0 ∷ x)) (sym m) (sym rest)
 
     pub head-high : 2 < getD h 0 0 → isHead h ≡ false
-    unfolding isHead headBytes startBytes
+    unfolding isHead placeHead startBytes
     head-high m = not-same written h (λ e. omega (arith, m, at-place 0 e, mark-low (phaseIn h)))
 
     module _ (m : getD h 0 0 < 2) where
@@ -173,7 +173,7 @@ module _ (h : List ℕ) (l : length h ≡ headSize) (y : Bytes h) where
       shut = unclosed (getD h 0 0) (getD h 1 0) (idIn h .clock) (getD h 2 0) m
 
       pub head-slot : all (eqb 0) (take 2 (drop 1 h)) ≡ false → isHead h ≡ false
-      unfolding isHead headBytes startBytes all
+      unfolding isHead placeHead startBytes all
       head-slot s = not-same written h (λ e. true≢false (sym (ap₂ (λ (a b : ℕ). all (eqb 0) (a ∷ b ∷ [])) (shut .slot) (shut .stored)) ∙ ap (λ (x : List ℕ). all (eqb 0) (take 2 (drop 1 x))) e ∙ s))
 
       pub head-open : all (eqb 0) (take 2 (drop 1 h)) ≡ true → isHead h ≡ all (eqb 0) (take 8 (drop 8 h))

@@ -23,7 +23,7 @@ use Rattle.model.specs.Records.{bytes, idIn}
 use Rattle.model.specs.Stations.{emptyStation, closingSlot, closingClock, recordsStored}
 use Rattle.model.proofs.Tests.{and-right, and-intro}
 use Rattle.model.proofs.RecordLaws.{number-bytes, same-refl, same-true}
-use Rattle.image.specs.Layout.{headSize, itemSize, writesSize, readsSize, placeSize, placesSize, entriesSize, imageSize, flat, parts, writeBytes, writeIn, startBytes, readBytes, readIn, entryBytes, entryIn, phaseMark, phaseOf, headBytes, phaseIn}
+use Rattle.image.specs.Layout.{headSize, itemSize, writesSize, readsSize, placeSize, placesSize, entriesSize, imageSize, flat, parts, writeBytes, writeIn, startBytes, readBytes, readIn, entryBytes, entryIn, phaseMark, phaseOf, placeHead, phaseIn}
 use Rattle.image.specs.Images.{placeBytes, placeIn, stationBytes, stationIn, isImage}
 use Rattle.image.specs.Ranges.{Every, IsByte, IdFits, WriteFits, ReadFits, PhaseFits, LiveFits, EntryFits, StationFits}
 use Rattle.image.proofs.ImageLaws.{length-write, length-read, length-entry, length-head, length-place}
@@ -79,16 +79,16 @@ phase-back Open = refl
 phase-back (Closing d c n) = refl
 
 module _ (p : Phase) (t w r : ℕ) (f : PhaseFits p) (ft : t < txnRange) where
-  head-id : idIn (headBytes p t w r) ≡ record { clock = closingClock p; txn = t }
-  unfolding headBytes
+  head-id : idIn (placeHead p t w r) ≡ record { clock = closingClock p; txn = t }
+  unfolding placeHead
   head-id = start-id (phaseMark p) (closingSlot p) (recordsStored p) w (record { clock = closingClock p; txn = t }) (r ∷ replicate 7 0) (record { clock64 = f .clock64; txn32 = ft })
 
-  head-phase : phaseIn (headBytes p t w r) ≡ p
-  unfolding phaseIn headBytes startBytes
+  head-phase : phaseIn (placeHead p t w r) ≡ p
+  unfolding phaseIn placeHead startBytes
   head-phase = ap (λ (i : Id). phaseOf (phaseMark p) (closingSlot p) (i .clock) (recordsStored p)) head-id ∙ phase-back p
 
-head-counts : (p : Phase) (t w r : ℕ) → (getD (headBytes p t w r) 3 0 ≡ w) × (getD (headBytes p t w r) 16 0 ≡ r)
-unfolding headBytes startBytes bytes
+head-counts : (p : Phase) (t w r : ℕ) → (getD (placeHead p t w r) 3 0 ≡ w) × (getD (placeHead p t w r) 16 0 ≡ r)
+unfolding placeHead startBytes bytes
 head-counts p t w r = (refl, refl)
 
 -- three parts, taken apart
@@ -102,7 +102,7 @@ apart x y z n m k lx ly lz = (
 
 module _ (l : Live) (f : LiveFits l) where
   abbrev head : List ℕ
-  head = headBytes (l .phase) (l .txn) (l .«write_count») (l .«read_count»)
+  head = placeHead (l .phase) (l .txn) (l .«write_count») (l .«read_count»)
 
   each-write : Every (Coded writeBytes writeIn itemSize) (l .writes)
   each-write = every-by WriteFits (Coded writeBytes writeIn itemSize) write-round (l .writes) (f .writes)
@@ -227,11 +227,11 @@ mark-is Open = omega arith
 mark-is (Closing d c n) = omega arith
 
 place-are : (l : Live) → LiveFits l → Every IsByte (placeBytes l)
-unfolding placeBytes headBytes
+unfolding placeBytes placeHead
 place-are l f =
     let p : Phase = l .phase in
     let i : Id = record { clock = closingClock p; txn = l .txn } in
-    every-append (headBytes p (l .txn) (l .«write_count») (l .«read_count»)) (flat writeBytes (l .writes) ++ flat readBytes (l .reads))
+    every-append (placeHead p (l .txn) (l .«write_count») (l .«read_count»)) (flat writeBytes (l .writes) ++ flat readBytes (l .reads))
     (every-append (startBytes (phaseMark p) (closingSlot p) (recordsStored p) (l .«write_count») i) (l .«read_count» ∷ replicate 7 0)
     (start-are (phaseMark p) (closingSlot p) (recordsStored p) (l .«write_count») i (mark-is p) (f .phase .slot8) (f .phase .stored8) (f .writes8)) (f .reads8, zeros-are 7))
     (every-append (flat writeBytes (l .writes)) (flat readBytes (l .reads))

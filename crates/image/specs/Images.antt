@@ -9,11 +9,11 @@ use Rattle.model.specs.declared.Station.{Station}
 use Rattle.model.specs.Limits.{livePlaces, slots, writeLimit, readLimit, recordSize}
 use Rattle.model.specs.Lists.{_and_, same}
 use Rattle.model.specs.Records.{idIn}
-use Rattle.image.specs.Layout.{headSize, itemSize, writesSize, readsSize, placeSize, placesSize, entriesSize, imageSize, flat, parts, writeBytes, writeIn, readBytes, readIn, entryBytes, entryIn, headBytes, phaseIn}
+use Rattle.image.specs.Layout.{headSize, itemSize, writesSize, readsSize, placeSize, placesSize, entriesSize, imageSize, flat, parts, writeBytes, writeIn, readBytes, readIn, entryBytes, entryIn, placeHead, phaseIn}
 
 -- ── "then 8 writes of 16 bytes ..; then 16 reads of 16 bytes" ──
 unfoldable pub placeBytes : Live → List ℕ
-placeBytes l = headBytes (l .phase) (l .txn) (l .«write_count») (l .«read_count») ++ (flat writeBytes (l .writes) ++ flat readBytes (l .reads))
+placeBytes l = placeHead (l .phase) (l .txn) (l .«write_count») (l .«read_count») ++ (flat writeBytes (l .writes) ++ flat readBytes (l .reads))
 
 unfoldable pub placeIn : List ℕ → Live
 placeIn b = record {
@@ -46,7 +46,7 @@ unfoldable pub isEntry : List ℕ → Bool
 isEntry b = same (entryBytes (entryIn b)) b
 
 unfoldable pub isHead : List ℕ → Bool
-isHead h = same (headBytes (phaseIn h) (idIn h .txn) (getD h 3 0) (getD h 16 0)) h
+isHead h = same (placeHead (phaseIn h) (idIn h .txn) (getD h 3 0) (getD h 16 0)) h
 
 unfoldable pub isPlace : List ℕ → Bool
 isPlace b = same (placeBytes (placeIn b)) b

@@ -1,5 +1,9 @@
--- The station as an image of fixed length in lent bytes, for hosts in other languages: sizes, and what each part's bytes are.
--- "all numbers least byte first; 4,800 bytes"
+-- The station as an image of fixed length in lent bytes, for hosts in other languages: sizes, and the bytes of each part.
+-- "All numbers are least byte first; 4,800 bytes.
+-- Live place, 408 bytes, eight of them: byte 0 phase (0 unused, 1 open, 2 closing), byte 1 slot, byte 2 records stored (both 0 unless
+-- closing), byte 3 count of writes, bytes 4 to 7 transaction, bytes 8 to 15 clock (0 unless closing), byte 16 count of reads, bytes 17
+-- to 23 zero; then 8 writes of 16 bytes (key, seven zeros, value 8); then 16 reads of 16 bytes (key, three zeros, transaction 4, clock 8).
+-- Entry, 24 bytes, 64 of them after the places: count, three zeros, transaction 4, clock 8, keys 8."
 use Prim.Native.Nat.{ℕ, zero, suc, _+_, _*_}
 use mathlib.Core.List.{List, [], _∷_, _++_}
 use lib.ListN.{take, drop, getD, replicate}
@@ -87,10 +91,10 @@ phaseOf zero d c n = Unused
 phaseOf (suc zero) d c n = Open
 phaseOf (suc (suc m)) d c n = Closing d c n
 
--- ── what stands before a place's sets: "byte 0 phase, byte 1 slot, byte 2 records stored (both 0 unless closing), byte 3 count of writes, bytes 4 to 7 transaction, bytes 8 to 15 clock (0 unless closing), byte 16 count of reads, bytes 17 to 23 zero" ──
+-- ── what stands before a place's sets: "byte 0 phase .., bytes 17 to 23 zero" ──
 -- of a phase, a transaction, and the counts of its writes and reads
-unfoldable pub headBytes : Phase → ℕ → ℕ → ℕ → List ℕ
-headBytes p t w r = startBytes (phaseMark p) (closingSlot p) (recordsStored p) w (record { clock = closingClock p; txn = t }) ++ (r ∷ replicate 7 0)
+unfoldable pub placeHead : Phase → ℕ → ℕ → ℕ → List ℕ
+placeHead p t w r = startBytes (phaseMark p) (closingSlot p) (recordsStored p) w (record { clock = closingClock p; txn = t }) ++ (r ∷ replicate 7 0)
 
 unfoldable pub phaseIn : List ℕ → Phase
 phaseIn h = phaseOf (getD h 0 0) (getD h 1 0) (idIn h .clock) (getD h 2 0)

@@ -16,7 +16,7 @@ ghost use Rattle.model.specs.Limits.{livePlaces, slots, writeLimit, readLimit, 
 ghost use Rattle.model.specs.Lists.{all};
 ghost use Rattle.model.specs.Records.{bytes, number, idIn};
 ghost use Rattle.model.specs.Stations.{emptyStation, closingSlot, closingClock, recordsStored};
-ghost use Rattle.image.specs.Layout.{headSize, itemSize, writesSize, readsSize, placeSize, placesSize, entriesSize, imageSize, flat, parts, writeBytes, writeIn, startBytes, readBytes, readIn, entryBytes, entryIn, phaseMark, headBytes, phaseIn};
+ghost use Rattle.image.specs.Layout.{headSize, itemSize, writesSize, readsSize, placeSize, placesSize, entriesSize, imageSize, flat, parts, writeBytes, writeIn, startBytes, readBytes, readIn, entryBytes, entryIn, phaseMark, placeHead, phaseIn};
 ghost use Rattle.image.specs.Images.{placeBytes, placeIn, stationBytes, stationIn, isWrite, isRead, isEntry, isHead, isPlace, isImage};
 
 // The bytes of a write or a read, of what stands before a place's sets, and where its reads begin.
@@ -236,7 +236,7 @@ fn write_in(b: &[u8]) -> Write
     Write { key: b[0], value }
 }
 
-// The id of a read, of an entry, and of a closing transaction.
+// The transaction and clock of a read, an entry or a place.
 fn id_in(b: &[u8]) -> Id
     requires { ⌜ 16 ≤ length (now b) ⌝ }
     ensures { λ r. ⌜ r ≡ idIn (now (b .entry)) ⌝ }
@@ -364,7 +364,7 @@ fn entries_in(b: &[u8]) -> [Entry; Station::SLOTS]
     entries
 }
 
-// Bytes of any length, read; each is looked at before a station is made of them.
+// Bytes of any length, read: the station that they are the image of, the empty one where they are none.
 pub fn read_image(bytes: &[u8]) -> Image
     ensures { λ r. ⌜ (r .whole ≡ isImage (now (bytes .entry))) × (r .station ≡ cond (isImage (now (bytes .entry))) (stationIn (now (bytes .entry))) emptyStation) ⌝ }
 {
@@ -461,7 +461,7 @@ fn phase_marks(p: Phase) -> Marked
 
 fn write_head(part: &mut [u8], p: Phase, txn: u32, writes: u8, reads: u8)
     requires { ⌜ length (now part) ≡ headSize ⌝ }
-    ensures { λ _. ⌜ now (part .exit) ≡ headBytes p txn writes reads ⌝ }
+    ensures { λ _. ⌜ now (part .exit) ≡ placeHead p txn writes reads ⌝ }
 {
     let m = phase_marks(p);
     let id = Id {

@@ -7,7 +7,7 @@ use borrow.Rule.Slice.PartMut.{putMid, same-len-mid}
 use borrow.Author.Needs.{needs}
 use Rattle.model.specs.declared.Id.{Id}
 use Rattle.model.specs.Stations.{closingSlot, closingClock, recordsStored}
-use Rattle.image.specs.Layout.{startBytes, phaseMark, headBytes}
+use Rattle.image.specs.Layout.{startBytes, phaseMark, placeHead}
 use Rattle.image.proofs.WriteLaws.{put-two, byte-bytes, number-written, start-phase}
 use Rattle.image.proofs.write_head.Statement.{statement}
 use Rattle.image.proofs.write_head.Tie as tie
@@ -43,7 +43,7 @@ same-length : tie.Need-same-length
 same-length c = search needs
 
 returns : tie.Need-returns
-unfolding headBytes
+unfolding placeHead
 returns c =
     let a = c .before .before .before .before .before .before .before .before .before .before .args in
     let m = c .before .before .before .before .before .before .before .before .phase-marks in

@@ -1,6 +1,6 @@
 -- `image::write_place` meets its contract.
 use borrow.Author.Needs.{needs}
-use Rattle.image.specs.Layout.{headSize, writesSize, readsSize, flat, writeBytes, readBytes, headBytes}
+use Rattle.image.specs.Layout.{headSize, writesSize, readsSize, flat, writeBytes, readBytes, placeHead}
 use Rattle.image.specs.Images.{placeBytes}
 use Rattle.image.proofs.WriteLaws.{put-three}
 use Rattle.image.proofs.write_place.Statement.{statement}
@@ -52,7 +52,7 @@ returns c =
     let h = c .before .before .before .before .before .before .before .before .before .before .write-head in
     let w = c .before .before .before .before .before .before .write-writes in
     let r = c .before .before .write-reads in
-    put-three (a .part .now) (h .last .0) (w .last .0) (r .last .0) (headBytes (a .l .phase) (a .l .txn) (a .l .«write_count») (a .l .«read_count»)) (flat writeBytes (a .l .writes)) (flat readBytes (a .l .reads)) headSize writesSize readsSize
+    put-three (a .part .now) (h .last .0) (w .last .0) (r .last .0) (placeHead (a .l .phase) (a .l .txn) (a .l .«write_count») (a .l .«read_count»)) (flat writeBytes (a .l .writes)) (flat readBytes (a .l .reads)) headSize writesSize readsSize
     (c .before .before .before .before .before .before .before .before .before .before .before .before .before .before .before .pre) (h .kept .0) (w .kept .0) (h .ensures) (w .ensures) (r .ensures)
 
 pub write-place-spec : {M : Type 1} → statement M
