@@ -28,7 +28,7 @@ unfolding parts
 parts-length k zero b = refl
 parts-length k (suc n) b = ap suc (parts-length k n (drop k b))
 
-parts-next : (k n i : ℕ) (b : List ℕ) → i < n → parts k (n - i) (drop (k * i) b) ≡ take k (drop (k * i) b) ∷ parts k (n - (i + 1)) (drop (k * (i + 1)) b)
+pub parts-next : (k n i : ℕ) (b : List ℕ) → i < n → parts k (n - i) (drop (k * i) b) ≡ take k (drop (k * i) b) ∷ parts k (n - (i + 1)) (drop (k * (i + 1)) b)
 unfolding parts
 parts-next k n i b o =
     let e : n - i ≡ suc (n - (i + 1)) = omega arith in
@@ -73,7 +73,7 @@ unfolding parts
 reads-start f k n b x h = rw (h, mul-one k)
 
 -- ── written one by one ──
-put-front : (w y : List ℕ) (a k : ℕ) → a + k ≤ length w → length y ≡ k → take (a + k) (putMid a (a + k - a) w y) ≡ take a w ++ y
+pub put-front : (w y : List ℕ) (a k : ℕ) → a + k ≤ length w → length y ≡ k → take (a + k) (putMid a (a + k - a) w y) ≡ take a w ++ y
 put-front w y a k h l =
     let t : length (take a w) ≡ a = length-take-le a w (omega arith) in
     ap (λ (m : ℕ). take m (putMid a (a + k - a) w y)) (sym (ap (λ (m : ℕ). m + k) t))

@@ -72,7 +72,7 @@ fn number_in(part: &[u8]) -> u64
 }
 
 // A number's bytes, least byte first, over the part lent.
-fn write_number(part: &mut [u8], x: u64)
+pub fn write_number(part: &mut [u8], x: u64)
     ensures { λ _. ⌜ now (part .exit) ≡ bytes (length (now (part .entry))) x ⌝ }
 {
     let mut rest = x;
@@ -237,7 +237,7 @@ fn write_in(b: &[u8]) -> Write
 }
 
 // The transaction and clock of a read, an entry or a place.
-fn id_in(b: &[u8]) -> Id
+pub fn id_in(b: &[u8]) -> Id
     requires { ⌜ 16 ≤ length (now b) ⌝ }
     ensures { λ r. ⌜ r ≡ idIn (now (b .entry)) ⌝ }
 {

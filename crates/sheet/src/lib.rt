@@ -67,7 +67,7 @@ pub enum Command {
 }
 
 // A line's first field.
-enum Word {
+pub enum Word {
     Start,
     Put,
     Get,
@@ -92,10 +92,10 @@ struct Part {
 }
 
 // The values a, b, c of an answer.
-struct Values {
-    a: u64,
-    b: u64,
-    c: u64,
+pub struct Values {
+    pub a: u64,
+    pub b: u64,
+    pub c: u64,
 }
 
 // The place of the first comma; the length where there is none.
@@ -230,7 +230,7 @@ fn only_if(unused: bool, c: Command) -> Command
 }
 
 // The fields of a line put together.
-fn command_for(word: Word, t: u32, k: u8, n: u64) -> Command
+pub fn command_for(word: Word, t: u32, k: u8, n: u64) -> Command
     ensures { λ r. ⌜ r ≡ commandOf (ofFields (verbOf word) (some t) (some k) (some n)) ⌝ }
 {
     match word {
@@ -440,7 +440,7 @@ fn three(a: u64, b: u64, c: u64) -> Values
 }
 
 // The values of an answer.
-fn values_in(answer: Answer) -> Values
+pub fn values_in(answer: Answer) -> Values
     ensures { λ r. ⌜ (r .a ≡ valuesOf answer .a) × (r .b ≡ valuesOf answer .b) × (r .c ≡ valuesOf answer .c) ⌝ }
 {
     match answer {

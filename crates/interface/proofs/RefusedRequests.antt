@@ -1,0 +1,150 @@
+-- A refused request that is no scan leaves the image's bytes and the store as they were. Over an image that is no station's, every request
+-- but a scan is refused.
+use Prim.Native.Nat.{ℕ}
+use mathlib.Core.Path.{_≡_, refl, sym, ap, subst, _∙_}
+use mathlib.Core.Logic.{_≢_, _⊎_, inl, inr, ⊎-elim}
+use mathlib.Core.Bool.{Bool, true, false, not, true≢false}
+use mathlib.Core.List.{List, [], _∷_}
+use mathlib.Core.Option.{Option, some, none}
+use lib.ListN.{length}
+use lib.Seq.{take-all}
+use native.Mathlib.Omega.{arith}
+use Rattle.model.specs.declared.Station.{Station}
+use Rattle.model.specs.Lists.{_and_, _or_, all}
+use Rattle.model.specs.Ids.{sameId}
+use Rattle.model.specs.Records.{entryRules}
+use Rattle.model.specs.Stations.{emptyStation, setEntry}
+use Rattle.model.specs.Sound.{isNoEntry, entryRight, sound}
+use Rattle.model.specs.Effects.{RecordWrite, Effect, Row, says, stored, _when_, refusals, unsound}
+use Rattle.model.specs.Start.{start}
+use Rattle.model.specs.Put.{put}
+use Rattle.model.specs.Get.{get}
+use Rattle.model.specs.Commit.{commit}
+use Rattle.model.specs.Step.{step}
+use Rattle.model.specs.Abort.{abort}
+use Rattle.model.specs.Collect.{collect}
+use Rattle.model.specs.Calls.{Call, Start, Put, Get, Commit, Step, Abort, Collect, Scan, does}
+use Rattle.model.specs.Answers.{refusedWith}
+use Rattle.model.proofs.Tests.{or-left, or-right, or-intro-left}
+use Rattle.model.proofs.RefusalLaws.{guard, hit}
+use Rattle.image.specs.Layout.{parts}
+use Rattle.image.specs.Images.{isImage}
+use Rattle.image.proofs.Round.{image-only}
+use Rattle.sheet.specs.Sheets.{lineEffect}
+use Rattle.interface.specs.Exchange.{requestSize, requestCall, isScan, Held, unsoundStation, heldIn, effectOf, afterRequest, afterRequests, imageAfter, requestsIn, afterRun}
+use Rattle.interface.proofs.RefusedLaws.{Unaltered, refused-unaltered}
+use Rattle.interface.proofs.ByteLaws.{or-false}
+
+-- ── where nothing was done the image stays as it was ──
+pub image-held : (image s : List ℕ) → imageAfter image (heldIn image s) ≡ image
+unfolding imageAfter heldIn
+image-held image s = go (isImage image) refl
+  where
+    go : (b : Bool) → isImage image ≡ b → imageAfter image (heldIn image s) ≡ image
+    go true e = rw e (image-only image e)
+    go false e = rw e
+
+-- ── a refused request ──
+module _ (image s q : List ℕ) (n : isScan (requestCall q) ≡ false) (r : refusedWith (effectOf q (heldIn image s) .answer) ≢ 0) where
+  unaltered : Unaltered (heldIn image s .station) (effectOf q (heldIn image s))
+  unfolding effectOf
+  unaltered = refused-unaltered (requestCall q) (heldIn image s .station) (heldIn image s .store) n r
+
+  pub refused-held : afterRequest q (heldIn image s) ≡ heldIn image s
+  unfolding afterRequest stored
+  refused-held = λ i. record {
+    whole = (ap (λ (b : Bool). heldIn image s .whole or b) n ∙ or-false (heldIn image s .whole)) i;
+    station = unaltered .station-same i;
+    store = ap (λ (w : List RecordWrite). stored w (heldIn image s .store)) (unaltered .none-stored) i;
+  }
+
+  pub refused-image : imageAfter image (afterRequest q (heldIn image s)) ≡ image
+  refused-image = ap (imageAfter image) refused-held ∙ image-held image s
+
+  pub refused-store : afterRequest q (heldIn image s) .store ≡ s
+  unfolding heldIn
+  refused-store = ap (λ (h : Held). h .store) refused-held
+
+  -- as bytes handed over
+  pub refused-run : length q ≡ requestSize → (imageAfter image (afterRun image s q) ≡ image) × (afterRun image s q .store ≡ s)
+  refused-run l = (ap (imageAfter image) one ∙ refused-image, ap (λ (h : Held). h .store) one ∙ refused-store)
+    where
+      one : afterRun image s q ≡ afterRequest q (heldIn image s)
+      one = unfold afterRun in unfold requestsIn in unfold parts in unfold afterRequests in rw (l, take-all requestSize q (omega (arith, l)))
+
+-- ── the station that is held where the image is none is not sound ──
+pub unsound-station : sound unsoundStation ≡ false
+unfolding sound unsoundStation setEntry emptyStation all entryRight isNoEntry entryRules sameId _and_ _or_
+unsound-station = refl
+
+record Barred (e : Effect) : Type 0 where
+  barred : (refusedWith (e .answer) ≡ 1) ⊎ (refusedWith (e .answer) ≡ 2)
+
+-- so that every call but a scan is refused, with 1 or 2
+module _ (st : Station) (h : sound st ≡ false) where
+  second : (rs : List Row) (e : Effect) → Barred (refusals (2 when unsound st ∷ rs) st e)
+  unfolding unsound
+  second rs e = subst Barred (sym (hit 2 (unsound st) rs st e (ap not h))) (unfold says in unfold refusedWith in record { barred = inr refl })
+
+  first : (b : Bool) (rs : List Row) (e : Effect) → Barred (refusals (1 when b ∷ 2 when unsound st ∷ rs) st e)
+  unfolding says refusedWith
+  first b rs e = guard Barred 1 b _ st e (record { barred = inl refl }) (λ _. second rs e)
+
+  call-barred : (c : Call) (s : List ℕ) → isScan (some c) ≡ false → Barred (does c st s)
+  unfolding isScan does start put get commit step abort collect
+  call-barred (Start t) s n = second _ _
+  call-barred (Put t k v) s n = second _ _
+  call-barred (Get t k) s n = first _ _ _
+  call-barred (Commit t c) s n = second _ _
+  call-barred (Step t) s n = first _ _ _
+  call-barred (Abort t) s n = second _ _
+  call-barred (Collect d) s n = first _ _ _
+  call-barred Scan s n = absurd (true≢false n)
+
+pub no-station : (image s q : List ℕ) (c : Call) → isImage image ≡ false → requestCall q ≡ some c → isScan (some c) ≡ false
+    → (refusedWith (effectOf q (heldIn image s) .answer) ≡ 1) ⊎ (refusedWith (effectOf q (heldIn image s) .answer) ≡ 2)
+unfolding effectOf heldIn lineEffect
+no-station image s q c e f n = rw (f, e) (call-barred unsoundStation unsound-station c s n .barred)
+
+one-two : _≡_ {A = ℕ} 1 0 → ⊥
+one-two z = absurd (omega arith)
+
+two-one : _≡_ {A = ℕ} 2 0 → ⊥
+two-one z = absurd (omega arith)
+
+-- ── an image that is no station's, and the store, stay as they were until a scan ──
+module _ (image s q : List ℕ) (e : isImage image ≡ false) where
+  always-refused : isScan (requestCall q) ≡ false → refusedWith (effectOf q (heldIn image s) .answer) ≢ 0
+  always-refused n = go (requestCall q) refl n
+    where
+      go : (c : Option Call) → requestCall q ≡ c → isScan c ≡ false → refusedWith (effectOf q (heldIn image s) .answer) ≢ 0
+      go none f m = unfold effectOf in unfold lineEffect in unfold says in unfold refusedWith in rw f (λ (z : _≡_ {A = ℕ} 19 0). absurd (omega arith))
+      go (some c) f m = λ z. ⊎-elim (λ x. one-two (sym x ∙ z)) (λ x. two-one (sym x ∙ z)) (no-station image s q c e f m)
+
+-- once the image is to be the station's it stays so
+pub whole-stays : (qs : List (List ℕ)) (h : Held) → h .whole ≡ true → afterRequests qs h .whole ≡ true
+unfolding afterRequests afterRequest
+whole-stays [] h e = e
+whole-stays (q ∷ qs) h e = whole-stays qs (afterRequest q h) (or-intro-left _ _ e)
+
+pub untouched : (image s : List ℕ) (qs : List (List ℕ)) → afterRequests qs (heldIn image s) .whole ≡ false → afterRequests qs (heldIn image s) ≡ heldIn image s
+unfolding afterRequests
+untouched image s [] e = refl
+untouched image s (q ∷ qs) e = go (afterRequest q (heldIn image s) .whole) refl (untouched image s qs)
+  where
+    go : (b : Bool) → afterRequest q (heldIn image s) .whole ≡ b → (afterRequests qs (heldIn image s) .whole ≡ false → afterRequests qs (heldIn image s) ≡ heldIn image s)
+        → afterRequests qs (afterRequest q (heldIn image s)) ≡ heldIn image s
+    go true f ih = absurd (true≢false (sym (whole-stays qs (afterRequest q (heldIn image s)) f) ∙ e))
+    go false f ih = ap (afterRequests qs) k ∙ ih (sym (ap (λ (h : Held). afterRequests qs h .whole) k) ∙ e)
+      where
+        either : (heldIn image s .whole or isScan (requestCall q)) ≡ false
+        either = unfold afterRequest in f
+
+        n : isScan (requestCall q) ≡ false
+        n = or-right _ _ either
+
+        none-there : isImage image ≡ false
+        none-there = unfold heldIn in or-left _ _ either
+
+        k : afterRequest q (heldIn image s) ≡ heldIn image s
+        k = refused-held image s q n (always-refused image s q none-there n)

@@ -1,0 +1,33 @@
+-- `interface::gorehimu_empty` meets its contract.
+use mathlib.Core.Path.{ap, _∙_}
+use lib.ListN.{length}
+use borrow.Author.Tests.{eq-eqb, ne-eqb}
+use borrow.Author.Needs.{needs}
+use Rattle.image.specs.Layout.{imageSize}
+use Rattle.image.specs.Images.{stationBytes}
+use Rattle.interface.proofs.LengthLaws.{cond-yes, cond-no}
+use Rattle.interface.proofs.gorehimu_empty.Statement.{statement}
+use Rattle.interface.proofs.gorehimu_empty.Tie as tie
+
+returns : tie.Need-returns
+returns c =
+    let e = ne-eqb (length (c .before .before .args .image .now)) imageSize (c .if1 .taken) in
+    (cond-no _ _ _ e, cond-no _ _ _ e)
+
+empty-requires : tie.Need-empty-requires
+empty-requires c κs = search needs
+
+write-image-requires : tie.Need-write-image-requires
+write-image-requires c κs = search needs
+
+same-length : tie.Need-same-length
+same-length c = search needs
+
+returns-2 : tie.Need-returns-2
+returns-2 c =
+    let e = eq-eqb (length (c .before .before .before .before .before .before .before .args .image .now)) imageSize (c .before .before .before .before .before .if1 .left) in
+    (cond-yes _ _ _ e, c .before .before .write-image .ensures .0 ∙ ap stationBytes (c .before .before .before .before .empty .ensures) ∙ cond-yes _ _ _ e)
+
+pub gorehimu-empty-spec : {M : Type 1} → statement M
+gorehimu-empty-spec =
+    tie.close (tie.spec returns empty-requires write-image-requires same-length returns-2)

@@ -1,0 +1,137 @@
+-- The store for hosts in other languages: requests and answers as bytes, and what an exchange of them comes to. Numbers are least byte first.
+use Prim.Native.Nat.{ℕ, _*_, _/_, _%_}
+use mathlib.Core.Bool.{Bool, true, false, cond}
+use mathlib.Core.List.{List, [], _∷_, _++_}
+use mathlib.Core.Option.{Option, some, none}
+use lib.Dec.{eqb}
+use lib.ListN.{length, getD, replicate}
+use Rattle.model.specs.declared.Station.{Station}
+use Rattle.model.specs.declared.Answer.{Answer}
+use Rattle.model.specs.declared.Answer.the-variants as A
+use Rattle.model.specs.Limits.{writeLimit}
+use Rattle.model.specs.Lists.{_and_, _or_}
+use Rattle.model.specs.Ids.{noId}
+use Rattle.model.specs.Stations.{emptyStation, setEntry}
+use Rattle.model.specs.Records.{bytes, idIn}
+use Rattle.model.specs.Effects.{Effect, stored}
+use Rattle.model.specs.Calls.{Call, Start, Put, Get, Commit, Step, Abort, Collect, Scan}
+use Rattle.model.specs.Answers.{valuesOf}
+use Rattle.sheet.specs.Words.{Verb, isStart, isPut, isGet, isCommit, isStep, isAbort, isCollect, isCut}
+use Rattle.sheet.specs.Lines.{ofFields}
+use Rattle.sheet.specs.Sheets.{lineEffect}
+use Rattle.image.specs.Layout.{imageSize, parts}
+use Rattle.image.specs.Images.{stationBytes, stationIn, isImage}
+
+-- ── sizes ──
+abbrev pub requestSize : ℕ
+requestSize = 16
+
+abbrev pub answerSize : ℕ
+answerSize = 32
+
+-- ── a request: verb, key (or slot), two zeros, transaction 4, number 8 (value or clock) ──
+-- 1 start, 2 put, 3 get, 4 commit, 5 step, 6 abort, 7 collect, 8 scan, which a sheet calls cut
+unfoldable pub verbNumbered : ℕ → Option Verb
+verbNumbered n =
+    getD (
+    none
+    ∷ some isStart
+    ∷ some isPut
+    ∷ some isGet
+    ∷ some isCommit
+    ∷ some isStep
+    ∷ some isAbort
+    ∷ some isCollect
+    ∷ some isCut
+    ∷ []
+    ) n none
+
+-- the call; none where the verb is unknown, or one of the two zeros or a field that the call does not use is not 0
+unfoldable pub requestCall : List ℕ → Option Call
+requestCall q =
+    cond (eqb (getD q 2 0) 0 and eqb (getD q 3 0) 0) (ofFields (verbNumbered (getD q 0 0)) (some (idIn q .txn)) (some (getD q 1 0)) (some (idIn q .clock))) none
+
+unfoldable pub isScan : Option Call → Bool
+isScan none = false
+isScan (some (Start t)) = false
+isScan (some (Put t k v)) = false
+isScan (some (Get t k)) = false
+isScan (some (Commit t c)) = false
+isScan (some (Step t)) = false
+isScan (some (Abort t)) = false
+isScan (some (Collect d)) = false
+isScan (some Scan) = true
+
+-- ── an answer: its kind, then a, b and c as a sheet prints them, 8 bytes each ──
+unfoldable pub kindOf : Answer → ℕ
+kindOf A.Started = 1
+kindOf A.Kept = 2
+kindOf (A.Own v) = 3
+kindOf (A.Version v i) = 4
+kindOf A.None = 5
+kindOf A.Nofit = 6
+kindOf (A.Closing d) = 7
+kindOf A.Empty = 8
+kindOf (A.Done i) = 9
+kindOf (A.Stored k) = 10
+kindOf (A.Slipped d) = 11
+kindOf A.Dropped = 12
+kindOf (A.Collected i) = 13
+kindOf (A.Found n) = 14
+kindOf (A.Refused n d) = 15
+
+unfoldable pub answerBytes : Answer → List ℕ
+answerBytes x = bytes 8 (kindOf x) ++ (bytes 8 (valuesOf x .a) ++ (bytes 8 (valuesOf x .b) ++ bytes 8 (valuesOf x .c)))
+
+-- ── between two requests: the station with whether the image is to be its own, and the store ──
+pub record Held : Type 0 where
+  pub whole : Bool
+  pub station : Station
+  pub store : List ℕ
+
+-- an entry with a count and no id: every call but a scan is refused with 2, or with 1
+unfoldable pub unsoundStation : Station
+unsoundStation = setEntry emptyStation 0 (record { id = noId; count = 1; keys = replicate writeLimit 0 })
+
+-- at first: the station of the image; where the image is none, a station that is not sound
+unfoldable pub heldIn : List ℕ → List ℕ → Held
+heldIn image s = record { whole = isImage image; station = cond (isImage image) (stationIn image) unsoundStation; store = s }
+
+-- a request comes to what a sheet's line does: its call's effect, or 19 where it asks for none
+unfoldable pub effectOf : List ℕ → Held → Effect
+effectOf q h = lineEffect (requestCall q) (h .station) (h .store)
+
+-- a scan's station is its own, whatever the image was
+unfoldable pub afterRequest : List ℕ → Held → Held
+afterRequest q h = record { whole = h .whole or isScan (requestCall q); station = effectOf q h .station; store = stored (effectOf q h .stores) (h .store) }
+
+-- requests one after the other, and their answers
+unfoldable pub afterRequests : List (List ℕ) → Held → Held
+afterRequests [] h = h
+afterRequests (q ∷ qs) h = afterRequests qs (afterRequest q h)
+
+unfoldable pub answersTo : List (List ℕ) → Held → List ℕ
+answersTo [] h = []
+answersTo (q ∷ qs) h = answerBytes (effectOf q h .answer) ++ answersTo qs (afterRequest q h)
+
+-- afterwards: an image that is no station's stays as it was until a scan
+unfoldable pub imageAfter : List ℕ → Held → List ℕ
+imageAfter image h = cond (h .whole) (stationBytes (h .station)) image
+
+-- ── bytes handed over ──
+unfoldable pub requestsIn : List ℕ → List (List ℕ)
+requestsIn b = parts requestSize (length b / requestSize) b
+
+unfoldable pub afterRun : List ℕ → List ℕ → List ℕ → Held
+afterRun image s requests = afterRequests (requestsIn requests) (heldIn image s)
+
+unfoldable pub answersIn : List ℕ → List ℕ → List ℕ → List ℕ
+answersIn image s requests = answersTo (requestsIn requests) (heldIn image s)
+
+-- the lengths of image, requests and answers: an image, whole requests, and 32 bytes for the answer to each; else nothing is done
+unfoldable pub fits : ℕ → ℕ → ℕ → Bool
+fits image requests answers = eqb image imageSize and eqb (requests % requestSize) 0 and eqb answers (answerSize * (requests / requestSize))
+
+-- the same for one request
+unfoldable pub fitsOne : ℕ → ℕ → ℕ → Bool
+fitsOne image request answer = eqb image imageSize and eqb request requestSize and eqb answer answerSize

@@ -1,0 +1,306 @@
+// The store for hosts in other languages: requests, answers, the station and the store are lent bytes, and nothing is kept between two
+// calls. What the bytes mean is defined in specs/.
+use calls::Answer;
+use calls::Station;
+use calls::scan;
+use desk::Request;
+use desk::act;
+use image::IMAGE;
+use image::id_in;
+use image::read_image;
+use image::write_image;
+use image::write_number;
+use sheet::Command;
+use sheet::Word;
+use sheet::command_for;
+use sheet::values_in;
+ghost use mathlib.Core.Path.{_≡_};
+ghost use mathlib.Core.Bool.{true, cond};
+ghost use Prim.Native.Nat.{_*_, _/_, _%_};
+ghost use lib.Dec.{eqb};
+ghost use lib.ListN.{length};
+ghost use Rattle.model.specs.Lists.{_or_};
+ghost use Rattle.model.specs.Stations.{emptyStation};
+ghost use Rattle.model.specs.Scan.{scan};
+ghost use Rattle.sheet.specs.Commands.{commandOf};
+ghost use Rattle.sheet.specs.Parts.{verbOf};
+ghost use Rattle.desk.specs.Acts.{callOf};
+ghost use Rattle.image.specs.Layout.{imageSize};
+ghost use Rattle.image.specs.Images.{stationBytes, stationIn, isImage};
+ghost use Rattle.interface.specs.Exchange.{requestSize, answerSize, verbNumbered, requestCall, isScan, kindOf, answerBytes, unsoundStation, heldIn, effectOf, afterRequest, afterRequests, answersTo, imageAfter, requestsIn, afterRun, answersIn, fits, fitsOne};
+ghost use Rattle.interface.specs.Parts.{heldOf};
+
+// The bytes of a request and of an answer.
+const REQUEST: usize = 16;
+
+const ANSWER: usize = 32;
+
+// The station between two requests, and whether the image is to be its own.
+struct Current {
+    whole: bool,
+    station: Station,
+}
+
+// The verb of a request.
+fn word_for(verb: u8) -> Word
+    ensures { λ r. ⌜ verbOf r ≡ verbNumbered verb ⌝ }
+{
+    match verb {
+        1 => Word::Start,
+        2 => Word::Put,
+        3 => Word::Get,
+        4 => Word::Commit,
+        5 => Word::Step,
+        6 => Word::Abort,
+        7 => Word::Collect,
+        8 => Word::Cut,
+        _ => Word::Unknown,
+    }
+}
+
+// What a request asks, whatever its bytes are.
+pub fn command_in(request: &[u8]) -> Command
+    requires { ⌜ length (now request) ≡ requestSize ⌝ }
+    ensures { λ r. ⌜ r ≡ commandOf (requestCall (now (request .entry))) ⌝ }
+{
+    if request[2] != 0 {
+        return Command::Malformed;
+    }
+    if request[3] != 0 {
+        return Command::Malformed;
+    }
+    let id = id_in(request);
+    let word = word_for(request[0]);
+    command_for(word, id.txn, request[1], id.clock)
+}
+
+// The kind of an answer.
+fn kind_of(answer: Answer) -> u64
+    ensures { λ r. ⌜ r ≡ kindOf answer ⌝ }
+{
+    match answer {
+        Answer::Started => 1,
+        Answer::Kept => 2,
+        Answer::Own(_) => 3,
+        Answer::Version(_, _) => 4,
+        Answer::None => 5,
+        Answer::Nofit => 6,
+        Answer::Closing(_) => 7,
+        Answer::Empty => 8,
+        Answer::Done(_) => 9,
+        Answer::Stored(_) => 10,
+        Answer::Slipped(_) => 11,
+        Answer::Dropped => 12,
+        Answer::Collected(_) => 13,
+        Answer::Found(_) => 14,
+        Answer::Refused(_, _) => 15,
+    }
+}
+
+// An answer's bytes over the part lent.
+pub fn write_answer(out: &mut [u8], answer: Answer)
+    requires { ⌜ length (now out) ≡ answerSize ⌝ }
+    ensures { λ _. ⌜ now (out .exit) ≡ answerBytes answer ⌝ }
+{
+    let kind = kind_of(answer);
+    let v = values_in(answer);
+    write_number(&mut out[0..8], kind);
+    write_number(&mut out[8..16], v.a);
+    write_number(&mut out[16..24], v.b);
+    write_number(&mut out[24..32], v.c);
+}
+
+// The image is to be the station's after a scan, else as before.
+fn whole_after(whole: bool, command: Command) -> bool
+    ensures { λ r. ⌜ r ≡ (whole or isScan (callOf command)) ⌝ }
+{
+    match command {
+        Command::Cut => true,
+        _ => whole,
+    }
+}
+
+// A request carried out and answered.
+fn run_request(current: Current, store: &mut [u8], request: &[u8], out: &mut [u8]) -> Current
+    requires { ⌜ (length (now request) ≡ requestSize) × (length (now out) ≡ answerSize) ⌝ }
+    ensures { λ r. ⌜ (heldOf r (now (store .exit)) ≡ afterRequest (now (request .entry)) (heldOf current (now (store .entry)))) × (now (out .exit) ≡ answerBytes (effectOf (now (request .entry)) (heldOf current (now (store .entry))) .answer)) ⌝ }
+{
+    let command = command_in(request);
+    let whole = whole_after(current.whole, command);
+    let station = current.station;
+    let outcome = act(station, store, Request { command });
+    let answer = outcome.answer;
+    write_answer(out, answer);
+    let next = outcome.station;
+    Current {
+        whole,
+        station: next,
+    }
+}
+
+// Requests one after the other.
+fn run_requests(first: Current, store: &mut [u8], requests: &[u8], answers: &mut [u8]) -> Current
+    requires { ⌜ (length (now requests) % requestSize ≡ 0) × (length (now answers) ≡ answerSize * (length (now requests) / requestSize)) ⌝ }
+    ensures { λ r. ⌜ (heldOf r (now (store .exit)) ≡ afterRequests (requestsIn (now (requests .entry))) (heldOf first (now (store .entry)))) × (now (answers .exit) ≡ answersTo (requestsIn (now (requests .entry))) (heldOf first (now (store .entry)))) ⌝ }
+{
+    let count = requests.len() / REQUEST;
+    let mut current = first;
+    let mut i = 0;
+    while i < count {
+        let from = REQUEST * i;
+        let to = ANSWER * i;
+        let next = run_request(
+            current,
+            store,
+            &requests[from..from + REQUEST],
+            &mut answers[to..to + ANSWER],
+        );
+        current = next;
+        i += 1;
+    }
+    current
+}
+
+// A station that is not sound: an entry with a count and no id.
+fn unsound_station() -> Station
+    ensures { λ r. ⌜ r ≡ unsoundStation ⌝ }
+{
+    let mut station = Station::empty();
+    let mut entry = station.entries[0];
+    entry.count = 1;
+    station.entries[0] = entry;
+    station
+}
+
+// What is held at first: the image's station, or where it has none one that every call but a scan refuses.
+fn current_in(image: &[u8]) -> Current
+    ensures { λ r. ⌜ (r .whole ≡ isImage (now (image .entry))) × (r .station ≡ cond (isImage (now (image .entry))) (stationIn (now (image .entry))) unsoundStation) ⌝ }
+{
+    let read = read_image(image);
+    let whole = read.whole;
+    if whole {
+        let station = read.station;
+        return Current { whole, station };
+    }
+    let station = unsound_station();
+    Current { whole, station }
+}
+
+// The image afterwards: the station's own, or as it was.
+fn keep(image: &mut [u8], last: Current)
+    requires { ⌜ length (now image) ≡ imageSize ⌝ }
+    ensures { λ _. ⌜ now (image .exit) ≡ cond (last .whole) (stationBytes (last .station)) (now (image .entry)) ⌝ }
+    ensures { λ _. ⌜ (last .whole ≡ true → (isImage (now (image .exit)) ≡ true) × (stationIn (now (image .exit)) ≡ last .station)) ⌝ }
+{
+    if !last.whole {
+        return;
+    }
+    let station = last.station;
+    write_image(image, station);
+}
+
+// The lengths of image, requests and answers fit. Numbers are divided, since a product might wrap.
+fn lengths_fit(image: usize, requests: usize, answers: usize) -> bool
+    ensures { λ r. ⌜ r ≡ fits image requests answers ⌝ }
+{
+    if image != IMAGE {
+        return false;
+    }
+    if requests % REQUEST != 0 {
+        return false;
+    }
+    if answers % ANSWER != 0 {
+        return false;
+    }
+    answers / ANSWER == requests / REQUEST
+}
+
+// Carries out requests over a station's image and a store, and answers each: 0. Where a length is wrong: 1, and nothing is written.
+// What is held afterwards is all in the image and the store, so that requests may come in one call or in several.
+#[no_mangle]
+pub extern "C" fn gorehimu_run(
+    image: &mut [u8],
+    store: &mut [u8],
+    requests: &[u8],
+    answers: &mut [u8],
+) -> u32
+    ensures { λ r. ⌜ r ≡ cond (fits (length (now (image .entry))) (length (now (requests .entry))) (length (now (answers .entry)))) 0 1 ⌝ }
+    ensures { λ _. ⌜ now (image .exit) ≡ cond (fits (length (now (image .entry))) (length (now (requests .entry))) (length (now (answers .entry)))) (imageAfter (now (image .entry)) (afterRun (now (image .entry)) (now (store .entry)) (now (requests .entry)))) (now (image .entry)) ⌝ }
+    ensures { λ _. ⌜ now (store .exit) ≡ cond (fits (length (now (image .entry))) (length (now (requests .entry))) (length (now (answers .entry)))) (afterRun (now (image .entry)) (now (store .entry)) (now (requests .entry)) .store) (now (store .entry)) ⌝ }
+    ensures { λ _. ⌜ now (answers .exit) ≡ cond (fits (length (now (image .entry))) (length (now (requests .entry))) (length (now (answers .entry)))) (answersIn (now (image .entry)) (now (store .entry)) (now (requests .entry))) (now (answers .entry)) ⌝ }
+    ensures { λ _. ⌜ (fits (length (now (image .entry))) (length (now (requests .entry))) (length (now (answers .entry))) ≡ true → heldIn (now (image .exit)) (now (store .exit)) ≡ afterRun (now (image .entry)) (now (store .entry)) (now (requests .entry))) ⌝ }
+{
+    if !lengths_fit(image.len(), requests.len(), answers.len()) {
+        return 1;
+    }
+    let first = current_in(image);
+    let last = run_requests(first, store, requests, answers);
+    keep(image, last);
+    0
+}
+
+// Writes the image of the empty station: 0. Where the length is wrong: 1, and nothing is written.
+#[no_mangle]
+pub extern "C" fn gorehimu_empty(image: &mut [u8]) -> u32
+    ensures { λ r. ⌜ r ≡ cond (eqb (length (now (image .entry))) imageSize) 0 1 ⌝ }
+    ensures { λ _. ⌜ now (image .exit) ≡ cond (eqb (length (now (image .entry))) imageSize) (stationBytes emptyStation) (now (image .entry)) ⌝ }
+{
+    if image.len() != IMAGE {
+        return 1;
+    }
+    let station = Station::empty();
+    write_image(image, station);
+    0
+}
+
+fn one_fits(image: usize, request: usize, answer: usize) -> bool
+    ensures { λ r. ⌜ r ≡ fitsOne image request answer ⌝ }
+{
+    if image != IMAGE {
+        return false;
+    }
+    if request != REQUEST {
+        return false;
+    }
+    answer == ANSWER
+}
+
+// One request over a station's image and a store, answered: 0. Where a length is wrong: 1, and nothing is written.
+#[no_mangle]
+pub extern "C" fn gorehimu_call(
+    image: &mut [u8],
+    store: &mut [u8],
+    request: &[u8],
+    answer: &mut [u8],
+) -> u32
+    ensures { λ r. ⌜ r ≡ cond (fitsOne (length (now (image .entry))) (length (now (request .entry))) (length (now (answer .entry)))) 0 1 ⌝ }
+    ensures { λ _. ⌜ now (image .exit) ≡ cond (fitsOne (length (now (image .entry))) (length (now (request .entry))) (length (now (answer .entry)))) (imageAfter (now (image .entry)) (afterRequest (now (request .entry)) (heldIn (now (image .entry)) (now (store .entry))))) (now (image .entry)) ⌝ }
+    ensures { λ _. ⌜ now (store .exit) ≡ cond (fitsOne (length (now (image .entry))) (length (now (request .entry))) (length (now (answer .entry)))) (afterRequest (now (request .entry)) (heldIn (now (image .entry)) (now (store .entry))) .store) (now (store .entry)) ⌝ }
+    ensures { λ _. ⌜ now (answer .exit) ≡ cond (fitsOne (length (now (image .entry))) (length (now (request .entry))) (length (now (answer .entry)))) (answerBytes (effectOf (now (request .entry)) (heldIn (now (image .entry)) (now (store .entry))) .answer)) (now (answer .entry)) ⌝ }
+{
+    if !one_fits(image.len(), request.len(), answer.len()) {
+        return 1;
+    }
+    let first = current_in(image);
+    let last = run_request(first, store, request, answer);
+    keep(image, last);
+    0
+}
+
+// The station read off a store, as after a cut: its image and the scan's answer, 0. Where a length is wrong: 1, and nothing is written.
+#[no_mangle]
+pub extern "C" fn gorehimu_recover(image: &mut [u8], store: &[u8], answer: &mut [u8]) -> u32
+    ensures { λ r. ⌜ r ≡ cond (fitsOne (length (now (image .entry))) requestSize (length (now (answer .entry)))) 0 1 ⌝ }
+    ensures { λ _. ⌜ now (image .exit) ≡ cond (fitsOne (length (now (image .entry))) requestSize (length (now (answer .entry)))) (stationBytes (scan (now (store .entry)) .station)) (now (image .entry)) ⌝ }
+    ensures { λ _. ⌜ now (answer .exit) ≡ cond (fitsOne (length (now (image .entry))) requestSize (length (now (answer .entry)))) (answerBytes (scan (now (store .entry)) .answer)) (now (answer .entry)) ⌝ }
+{
+    if !one_fits(image.len(), REQUEST, answer.len()) {
+        return 1;
+    }
+    let scanned = scan(store);
+    let said = scanned.answer;
+    let station = scanned.station;
+    write_answer(answer, said);
+    write_image(image, station);
+    0
+}

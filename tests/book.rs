@@ -1,0 +1,103 @@
+//! The book of the scope document's cut rule, and the rule's check: pages, standing jobs and past jobs, fed each call with its answer. Written from
+//! that section's text alone.
+
+use crate::model::*;
+use std::collections::BTreeMap;
+
+#[derive(Clone, Debug, Default)]
+struct Page {
+    values: BTreeMap<u8, u64>,
+    reads: Vec<(u8, Id)>,
+    clock: u64,
+}
+
+#[derive(Clone, Debug, PartialEq)]
+struct Job {
+    id: Id,
+    values: BTreeMap<u8, u64>,
+}
+
+#[derive(Clone, Default)]
+pub struct Book {
+    pages: BTreeMap<u32, Page>,
+    standing: Vec<Job>,
+    past: Vec<Job>,
+}
+
+/// A call with what it was handed: transaction, key or slot, value or clock.
+#[derive(Clone, Copy, Debug)]
+pub struct Call {
+    pub verb: u8,
+    pub txn: u32,
+    pub key: u8,
+    pub number: u64,
+}
+
+impl Book {
+    pub fn feed(&mut self, call: Call, answer: Answer) {
+        match answer {
+            Answer::Started => {
+                self.pages.insert(call.txn, Page::default());
+            }
+            Answer::Kept => {
+                self.pages.get_mut(&call.txn).unwrap().values.insert(call.key, call.number);
+            }
+            Answer::Version(_, id) => self.pages.get_mut(&call.txn).unwrap().reads.push((call.key, id)),
+            Answer::Closing(_) => self.pages.get_mut(&call.txn).unwrap().clock = call.number,
+            Answer::Slipped(_) => {
+                let page = &self.pages[&call.txn];
+                let job = Job { id: Id { clock: page.clock, txn: call.txn }, values: page.values.clone() };
+                self.standing.push(job.clone());
+                self.past.push(job);
+            }
+            Answer::Empty | Answer::Dropped | Answer::Done(_) => {
+                self.pages.remove(&call.txn);
+            }
+            Answer::Collected(id) => self.standing.retain(|j| j.id.txn != id.txn),
+            Answer::Found(_) => self.pages.clear(),
+            _ => {}
+        }
+    }
+
+    /// The cut rule, of a store and this book; what is wrong, where something is.
+    pub fn check(&self, store: &[u8]) -> Result<(), String> {
+        let (station, answer) = Station::scan(store);
+        if answer != Answer::Found(self.standing.len() as u8) {
+            return Err(format!("the scan answers {answer:?}, {} jobs stand", self.standing.len()));
+        }
+        let mut found: Vec<Job> = station
+            .held()
+            .map(|(d, e)| {
+                let value = |n: usize| u64::from_le_bytes(store[d * SLOT + (n + 1) * RECORD + 16..][..8].try_into().unwrap());
+                Job { id: e.id, values: e.keys().iter().enumerate().map(|(n, k)| (*k, value(n))).collect() }
+            })
+            .collect();
+        let mut standing = self.standing.clone();
+        found.sort_by_key(|j| j.id);
+        standing.sort_by_key(|j| j.id);
+        if found != standing {
+            return Err(format!("found {found:?}, standing {standing:?}"));
+        }
+        for key in 0..64 {
+            let newest = self.past.iter().filter(|j| j.values.contains_key(&key)).max_by_key(|j| j.id);
+            if let Some(j) = newest {
+                if !self.standing.iter().any(|s| s.id == j.id && s.values.contains_key(&key)) {
+                    return Err(format!("key {key}: the newest past job {j:?} does not stand"));
+                }
+            }
+        }
+        for (txn, page) in &self.pages {
+            for (key, id) in &page.reads {
+                let Some(job) = self.standing.iter().find(|j| j.id == *id && j.values.contains_key(key)) else {
+                    return Err(format!("{txn} read {key} of {id:?}, which does not stand"));
+                };
+                for (other, seen) in &page.reads {
+                    if job.values.contains_key(other) && *seen < *id {
+                        return Err(format!("{txn} read {key} of {id:?}, and {other} of the older {seen:?}"));
+                    }
+                }
+            }
+        }
+        Ok(())
+    }
+}

@@ -1,0 +1,531 @@
+//! The proved library through its C interface, against the model in plain Rust: random call lists with cuts, retries, collections, full slots and
+//! places, equal and backward clocks and the greatest numbers; images and stores with bytes changed; wrong lengths; batches. Answers, images and
+//! stores are compared byte for byte, and every undisturbed history is held to the cut rule. Arguments: the first seed, how many histories.
+
+mod book;
+mod model;
+
+use book::{Book, Call};
+use model::*;
+use std::collections::BTreeMap;
+
+const IMAGE: usize = 4800;
+const REQUEST: usize = 16;
+const ANSWER: usize = 32;
+
+extern "C" {
+    fn gorehimu_empty(image: *mut u8, image_len: usize) -> u32;
+    fn gorehimu_recover(image: *mut u8, image_len: usize, store: *const u8, store_len: usize, answer: *mut u8, answer_len: usize) -> u32;
+    fn gorehimu_call(
+        image: *mut u8,
+        image_len: usize,
+        store: *mut u8,
+        store_len: usize,
+        request: *const u8,
+        request_len: usize,
+        answer: *mut u8,
+        answer_len: usize,
+    ) -> u32;
+    fn gorehimu_run(
+        image: *mut u8,
+        image_len: usize,
+        store: *mut u8,
+        store_len: usize,
+        requests: *const u8,
+        requests_len: usize,
+        answers: *mut u8,
+        answers_len: usize,
+    ) -> u32;
+}
+
+fn run(image: &mut [u8], store: &mut [u8], requests: &[u8], answers: &mut [u8]) -> u32 {
+    unsafe {
+        gorehimu_run(image.as_mut_ptr(), image.len(), store.as_mut_ptr(), store.len(), requests.as_ptr(), requests.len(), answers.as_mut_ptr(), answers.len())
+    }
+}
+
+fn one(image: &mut [u8], store: &mut [u8], request: &[u8], answer: &mut [u8]) -> u32 {
+    unsafe {
+        gorehimu_call(image.as_mut_ptr(), image.len(), store.as_mut_ptr(), store.len(), request.as_ptr(), request.len(), answer.as_mut_ptr(), answer.len())
+    }
+}
+
+fn recover(image: &mut [u8], store: &[u8], answer: &mut [u8]) -> u32 {
+    unsafe { gorehimu_recover(image.as_mut_ptr(), image.len(), store.as_ptr(), store.len(), answer.as_mut_ptr(), answer.len()) }
+}
+
+// ── the image, from the header's page ──
+
+fn encode(s: &Station) -> Vec<u8> {
+    let mut b = Vec::with_capacity(IMAGE);
+    for l in &s.live {
+        let (mark, slot, clock, stored) = match l.phase {
+            Phase::Unused => (0, 0, 0, 0),
+            Phase::Open => (1, 0, 0, 0),
+            Phase::Closing { slot, clock, stored } => (2, slot, clock, stored),
+        };
+        b.extend([mark, slot, stored, l.write_count]);
+        b.extend(l.txn.to_le_bytes());
+        b.extend(clock.to_le_bytes());
+        b.extend([l.read_count, 0, 0, 0, 0, 0, 0, 0]);
+        for w in &l.writes {
+            b.extend([w.key, 0, 0, 0, 0, 0, 0, 0]);
+            b.extend(w.value.to_le_bytes());
+        }
+        for r in &l.reads {
+            b.extend([r.key, 0, 0, 0]);
+            b.extend(r.id.txn.to_le_bytes());
+            b.extend(r.id.clock.to_le_bytes());
+        }
+    }
+    for e in &s.entries {
+        b.extend([e.count, 0, 0, 0]);
+        b.extend(e.id.txn.to_le_bytes());
+        b.extend(e.id.clock.to_le_bytes());
+        b.extend(e.keys);
+    }
+    assert_eq!(b.len(), IMAGE);
+    b
+}
+
+/// The station of an image; none where the bytes are no station's.
+fn decode(b: &[u8]) -> Option<Station> {
+    let four = |at: usize| u32::from_le_bytes(b[at..at + 4].try_into().unwrap());
+    let eight = |at: usize| u64::from_le_bytes(b[at..at + 8].try_into().unwrap());
+    let mut s = Station::empty();
+    for (i, l) in s.live.iter_mut().enumerate() {
+        let at = 408 * i;
+        l.phase = match b[at] {
+            0 => Phase::Unused,
+            1 => Phase::Open,
+            2 => Phase::Closing { slot: b[at + 1], clock: eight(at + 8), stored: b[at + 2] },
+            _ => return None,
+        };
+        (l.write_count, l.txn, l.read_count) = (b[at + 3], four(at + 4), b[at + 16]);
+        for (j, w) in l.writes.iter_mut().enumerate() {
+            let at = at + 24 + 16 * j;
+            *w = Write { key: b[at], value: eight(at + 8) };
+        }
+        for (j, r) in l.reads.iter_mut().enumerate() {
+            let at = at + 152 + 16 * j;
+            *r = Read { key: b[at], id: Id { clock: eight(at + 8), txn: four(at + 4) } };
+        }
+    }
+    for (d, e) in s.entries.iter_mut().enumerate() {
+        let at = 3264 + 24 * d;
+        *e = Entry { id: Id { clock: eight(at + 8), txn: four(at + 4) }, count: b[at], keys: b[at + 16..at + 24].try_into().unwrap() };
+    }
+    (encode(&s) == b).then_some(s)
+}
+
+// ── requests and answers ──
+
+fn request(c: Call) -> [u8; REQUEST] {
+    let mut r = [0; REQUEST];
+    r[0] = c.verb;
+    r[1] = c.key;
+    r[4..8].copy_from_slice(&c.txn.to_le_bytes());
+    r[8..].copy_from_slice(&c.number.to_le_bytes());
+    r
+}
+
+fn kind(a: Answer) -> u64 {
+    let words = ["started", "kept", "own", "version", "none", "nofit", "closing", "empty", "done", "stored", "slipped", "dropped", "collected", "found", "refused"];
+    words.iter().position(|w| *w == a.word()).unwrap() as u64 + 1
+}
+
+fn answer(a: Answer) -> Vec<u8> {
+    let (x, y, z) = a.values();
+    [kind(a), x, y, z].iter().flat_map(|n| n.to_le_bytes()).collect()
+}
+
+/// Whether the fields that a call does not use are 0.
+fn well_formed(c: Call) -> bool {
+    match c.verb {
+        1 | 5 | 6 => c.key == 0 && c.number == 0,
+        2 => true,
+        3 => c.number == 0,
+        4 => c.key == 0,
+        7 => c.txn == 0 && c.number == 0,
+        8 => c.txn == 0 && c.key == 0 && c.number == 0,
+        _ => false,
+    }
+}
+
+/// What the model makes of a call. No station is as a station that is not sound.
+fn by_model(station: &mut Option<Station>, store: &mut [u8], c: Call) -> Answer {
+    if !well_formed(c) {
+        return Answer::Refused(19, 0);
+    }
+    if c.verb == 8 {
+        let (s, a) = Station::scan(store);
+        *station = Some(s);
+        return a;
+    }
+    let Some(s) = station else {
+        let by_store = [3, 5, 7].contains(&c.verb);
+        return Answer::Refused(if by_store && store.len() != STORE { 1 } else { 2 }, 0);
+    };
+    match c.verb {
+        1 => s.start(c.txn),
+        2 => s.put(c.txn, c.key, c.number),
+        3 => s.get(store, c.txn, c.key),
+        4 => s.commit(c.txn, c.number),
+        5 => s.step(store, c.txn),
+        6 => s.abort(c.txn),
+        _ => s.collect(store, c.key),
+    }
+}
+
+// ── chance ──
+
+struct Chance(u64);
+
+impl Chance {
+    fn next(&mut self) -> u64 {
+        self.0 = self.0.wrapping_add(0x9e37_79b9_7f4a_7c15);
+        let mut z = self.0;
+        z = (z ^ (z >> 30)).wrapping_mul(0xbf58_476d_1ce4_e5b9);
+        z = (z ^ (z >> 27)).wrapping_mul(0x94d0_49bb_1331_11eb);
+        z ^ (z >> 31)
+    }
+
+    fn below(&mut self, n: u64) -> u64 {
+        self.next() % n
+    }
+
+    fn one_in(&mut self, n: u64) -> bool {
+        self.below(n) == 0
+    }
+}
+
+/// How a history is made: few or many keys and transactions, and how often each call comes.
+struct Style {
+    txns: u64,
+    keys: u64,
+    weights: [u64; 8],
+    clocks: u64,
+}
+
+fn style(r: &mut Chance) -> Style {
+    let txns = [3, 12, 40, 200, 1000][r.below(5) as usize];
+    let keys = [2, 4, 12, 40, 64][r.below(5) as usize];
+    // in turn: of everything; writers that fill the slots; readers; writers with many keys; collectors
+    let weights = [[3, 8, 8, 4, 12, 1, 4, 0], [6, 6, 0, 6, 24, 0, 0, 0], [4, 3, 40, 2, 8, 0, 1, 0], [2, 30, 1, 1, 8, 0, 1, 0], [4, 4, 6, 4, 18, 1, 12, 0]][r.below(5) as usize];
+    let mut weights = weights.map(|w: u64| if w == 0 { 0 } else { w + r.below(2) });
+    if r.one_in(3) {
+        weights[7] = 1;
+    }
+    Style { txns, keys, weights, clocks: [3, 50, u64::MAX][r.below(3) as usize] }
+}
+
+/// One of a list, mostly; else whatever comes.
+fn one_of(r: &mut Chance, list: &[u32], other: u32) -> u32 {
+    if list.is_empty() || r.one_in(5) {
+        other
+    } else {
+        list[r.below(list.len() as u64) as usize]
+    }
+}
+
+fn call(r: &mut Chance, z: &Style, image: &[u8], time: u64) -> Call {
+    let total: u64 = z.weights.iter().sum();
+    let mut pick = r.below(total);
+    let mut verb = 1;
+    for (i, w) in z.weights.iter().enumerate() {
+        if pick < *w {
+            verb = i as u8 + 1;
+            break;
+        }
+        pick -= w;
+    }
+    let station = decode(image).unwrap_or_else(Station::empty);
+    let live: Vec<u32> = station.live.iter().map(|l| l.txn).filter(|t| *t != 0).collect();
+    let closing: Vec<u32> = station.live.iter().filter(|l| matches!(l.phase, Phase::Closing { .. })).map(|l| l.txn).collect();
+    let held: Vec<u32> = station.held().map(|(d, _)| d as u32).collect();
+    let fresh = 1 + r.below(z.txns) as u32;
+    let txn = match r.below(60) {
+        0 => 0,
+        1 => u32::MAX,
+        _ if verb == 1 => fresh,
+        _ if verb == 5 => one_of(r, &closing, fresh),
+        _ => one_of(r, &live, fresh),
+    };
+    let key = match r.below(80) {
+        0 => 64,
+        1 => 255,
+        _ => r.below(z.keys) as u8,
+    };
+    let clock = match r.below(40) {
+        0 => 0,
+        1 => u64::MAX,
+        _ if z.clocks == u64::MAX => time,
+        _ => 1 + r.below(z.clocks),
+    };
+    let c = match verb {
+        2 => Call { verb, txn, key, number: r.next() },
+        3 => Call { verb, txn, key, number: 0 },
+        4 => Call { verb, txn, key: 0, number: clock },
+        7 => {
+            let any = r.below(66) as u32;
+            Call { verb, txn: 0, key: if r.one_in(50) { 200 } else { one_of(r, &held, any) as u8 }, number: 0 }
+        }
+        8 => Call { verb, txn: 0, key: 0, number: 0 },
+        _ => Call { verb, txn, key: 0, number: 0 },
+    };
+    match r.below(150) {
+        0 => Call { number: c.number + 1 - c.number % 2, ..c },
+        1 => Call { verb: [0, 9, 255][r.below(3) as usize], ..c },
+        2 => Call { txn: 1, key: 1, ..c },
+        _ => c,
+    }
+}
+
+#[derive(Default)]
+struct Seen {
+    words: BTreeMap<&'static str, u64>,
+    refusals: BTreeMap<u8, u64>,
+    calls: u64,
+}
+
+impl Seen {
+    fn count(&mut self, a: Answer) {
+        *self.words.entry(a.word()).or_default() += 1;
+        if let Answer::Refused(n, _) = a {
+            *self.refusals.entry(n).or_default() += 1;
+        }
+        self.calls += 1;
+    }
+}
+
+/// Some whole transactions of eight keys each, so that histories also begin with many versions or with all slots held.
+fn whole(r: &mut Chance) -> Vec<Call> {
+    let mut calls = Vec::new();
+    for n in 0..[0, 0, 8, 30, 63, 64][r.below(6) as usize] {
+        let (txn, low) = (10_000 + n, r.below(57) as u8);
+        let c = |verb, key, number| Call { verb, txn, key, number };
+        calls.push(c(1, 0, 0));
+        calls.extend((0..8).map(|k| c(2, low + k, u64::from(n))));
+        calls.push(c(4, 0, u64::from(n) + 1));
+        calls.extend((0..10).map(|_| c(5, 0, 0)));
+    }
+    calls
+}
+
+/// The same calls, in one batch, by both: answers, image and store must agree.
+fn compare(image: &mut Vec<u8>, store: &mut Vec<u8>, calls: &[Call], seen: &mut Seen, what: &str) -> Vec<Answer> {
+    let mut station = decode(image);
+    let mut model_store = store.clone();
+    let mut answers = Vec::new();
+    for c in calls {
+        let a = by_model(&mut station, &mut model_store, *c);
+        seen.count(a);
+        answers.push(a);
+    }
+    let model_image = station.as_ref().map_or_else(|| image.clone(), encode);
+    let requests: Vec<u8> = calls.iter().flat_map(|c| request(*c)).collect();
+    let mut out = vec![0xaa; ANSWER * calls.len()];
+    if calls.len() == 1 && calls[0].verb == 8 && well_formed(calls[0]) {
+        // a scan is a recovery too
+        let mut recovered = image.clone();
+        assert_eq!(recover(&mut recovered, store, &mut out), 0, "{what}");
+        assert!(recovered == model_image && out == answer(answers[0]), "{what}: the recovery differs");
+    }
+    let code = if calls.len() == 1 { one(image, store, &requests, &mut out) } else { run(image, store, &requests, &mut out) };
+    assert_eq!(code, 0, "{what}");
+    let expected: Vec<u8> = answers.iter().flat_map(|a| answer(*a)).collect();
+    assert!(out == expected, "{what}: the answers differ; the calls are {calls:?}, the model answers {answers:?}");
+    assert!(*image == model_image, "{what}: the images differ after {calls:?}");
+    assert!(*store == model_store, "{what}: the stores differ after {calls:?}");
+    answers
+}
+
+/// A history from the empty station: calls in batches, cuts between record writes, each followed by a scan; the cut rule after each call.
+fn history(seed: u64, seen: &mut Seen) {
+    let mut r = Chance(seed);
+    let z = style(&mut r);
+    let mut image = vec![0xaa; IMAGE];
+    assert_eq!(unsafe { gorehimu_empty(image.as_mut_ptr(), image.len()) }, 0);
+    assert!(image == encode(&Station::empty()), "the empty image");
+    let mut store = vec![0; STORE];
+    let mut book = Book::default();
+    let scan = Call { verb: 8, txn: 0, key: 0, number: 0 };
+    for time in 100..300 {
+        let calls: Vec<Call> = if time == 100 { whole(&mut r) } else { (0..1 + r.below(8)).map(|_| call(&mut r, &z, &image, time)).collect() };
+        let what = format!("seed {seed}, time {time}");
+        let answers = compare(&mut image, &mut store, &calls, seen, &what);
+        for (c, a) in calls.iter().zip(answers) {
+            book.feed(*c, a);
+        }
+        if r.one_in(25) {
+            // power goes: the image is lost, whatever it is after that
+            for b in image.iter_mut() {
+                *b = r.next() as u8;
+            }
+            let answers = compare(&mut image, &mut store, &[scan], seen, &what);
+            book.feed(scan, answers[0]);
+        }
+        if let Err(e) = book.check(&store) {
+            panic!("{what}: the cut rule does not hold: {e}");
+        }
+        if r.one_in(8) {
+            disturb(&mut r, &z, &image, &store, seen, &what);
+        }
+    }
+}
+
+/// Copies of the image and the store with bytes changed: every call must still agree.
+fn disturb(r: &mut Chance, z: &Style, image: &[u8], store: &[u8], seen: &mut Seen, what: &str) {
+    let (mut image, mut store) = (image.to_vec(), store.to_vec());
+    for _ in 0..1 + r.below(3) {
+        let value = if r.one_in(2) { r.below(4) as u8 } else { r.next() as u8 };
+        if r.one_in(2) {
+            let at = r.below(IMAGE as u64) as usize;
+            image[at] = value;
+        } else {
+            let at = r.below(STORE as u64) as usize;
+            store[at] = value;
+        }
+    }
+    if r.one_in(10) {
+        store.truncate(r.below(STORE as u64) as usize);
+    }
+    for _ in 0..12 {
+        let calls: Vec<Call> = (0..1 + r.below(3)).map(|_| call(r, z, &image, 7)).collect();
+        compare(&mut image, &mut store, &calls, seen, what);
+    }
+    compare(&mut image, &mut store, &[Call { verb: 8, txn: 0, key: 0, number: 0 }], seen, what);
+}
+
+/// A sound station that no history makes: any entries, and read sets that need not be atomic, so that the lower bound decides too.
+fn made_up(seed: u64, seen: &mut Seen) {
+    let mut r = Chance(seed);
+    let mut station = Station::empty();
+    let mut store = vec![0; STORE];
+    let (keys, clocks) = ([3, 6, 20, 64][r.below(4) as usize], [1, 3, 1000][r.below(3) as usize]);
+    for d in 0..SLOTS {
+        if r.one_in(3) {
+            continue;
+        }
+        let mut list: Vec<u8> = (0..1 + r.below(8)).map(|_| r.below(keys) as u8).collect();
+        list.sort_unstable();
+        list.dedup();
+        let mut e = Entry { id: Id { clock: 1 + r.below(clocks), txn: 1 + d as u32 * 3 + r.below(3) as u32 }, count: list.len() as u8, ..Entry::default() };
+        e.keys[..list.len()].copy_from_slice(&list);
+        store[d * SLOT..][..RECORD].copy_from_slice(&commit_record(&e));
+        for (n, k) in list.iter().enumerate() {
+            store[d * SLOT + (n + 1) * RECORD..][..RECORD].copy_from_slice(&version_record(*k, e.id, r.next()));
+        }
+        station.entries[d] = e;
+    }
+    let entries: Vec<Entry> = station.held().map(|(_, e)| *e).collect();
+    for (i, l) in station.live.iter_mut().enumerate().take(1 + r.below(8) as usize) {
+        (l.txn, l.phase) = (1000 + i as u32, Phase::Open);
+        for k in 0..keys as u8 {
+            let wrote: Vec<&Entry> = entries.iter().filter(|e| e.wrote(k)).collect();
+            if !wrote.is_empty() && usize::from(l.read_count) < READS && r.one_in(2) {
+                let e = wrote[r.below(wrote.len() as u64) as usize];
+                l.reads[usize::from(l.read_count)] = Read { key: k, id: e.id };
+                l.read_count += 1;
+            }
+        }
+    }
+    assert!(station.sound(), "seed {seed}: the made-up station is not sound");
+    let image = encode(&station);
+    for txn in 1000..1008 {
+        for key in 0..keys as u8 {
+            compare(&mut image.clone(), &mut store.clone(), &[Call { verb: 3, txn, key, number: 0 }], seen, &format!("made up, seed {seed}"));
+        }
+    }
+    for d in 0..64 {
+        compare(&mut image.clone(), &mut store.clone(), &[Call { verb: 7, txn: 0, key: d, number: 0 }], seen, &format!("made up, seed {seed}"));
+    }
+}
+
+/// Every field of every part of a busy station changed, and every byte of one slot.
+fn every_byte(seen: &mut Seen) {
+    let mut image = vec![0; IMAGE];
+    unsafe { gorehimu_empty(image.as_mut_ptr(), image.len()) };
+    let mut store = vec![0; STORE];
+    let mut calls = Vec::new();
+    let c = |verb, txn, key, number| Call { verb, txn, key, number };
+    for t in 1..=6 {
+        calls.push(c(1, t, 0, 0));
+        for k in 0..3 {
+            calls.push(c(2, t, k + t as u8, 100 + u64::from(k)));
+        }
+        calls.push(c(4, t, 0, u64::from(t)));
+        for _ in 0..5 {
+            calls.push(c(5, t, 0, 0));
+        }
+    }
+    for t in [20, 21, 22] {
+        calls.push(c(1, t, 0, 0));
+        calls.push(c(3, t, 4, 0));
+        calls.push(c(3, t, 7, 0));
+        calls.push(c(2, t, 30, 5));
+    }
+    calls.push(c(4, 21, 0, 50));
+    calls.push(c(4, 22, 0, 51));
+    calls.push(c(5, 22, 0, 0));
+    compare(&mut image, &mut store, &calls, seen, "a busy station");
+    let tries = [c(1, 77, 0, 0), c(2, 20, 1, 9), c(3, 20, 5, 0), c(5, 22, 0, 0), c(7, 0, 63, 0), c(7, 0, 62, 0)];
+    for at in 0..IMAGE {
+        for value in [0, 1, 2, 63, 64, 255, image[at].wrapping_add(1)] {
+            let (mut i, mut s) = (image.clone(), store.clone());
+            i[at] = value;
+            compare(&mut i, &mut s, &tries, seen, &format!("image byte {at} is {value}"));
+        }
+    }
+    for at in 63 * SLOT..64 * SLOT {
+        for value in 0..=255 {
+            let (mut i, mut s) = (image.clone(), store.clone());
+            s[at] = value;
+            compare(&mut i, &mut s, &[c(3, 20, 1, 0), c(7, 0, 63, 0), c(8, 0, 0, 0)], seen, &format!("store byte {at} is {value}"));
+        }
+    }
+}
+
+/// Wrong lengths are refused, and nothing is written.
+fn wrong_lengths() {
+    let before = (vec![0x55; IMAGE + 8], vec![0x66; STORE], vec![8; 64], vec![0x77; 128]);
+    for (i, q, a) in [(IMAGE - 1, 16, 32), (IMAGE + 1, 16, 32), (0, 16, 32), (IMAGE, 15, 32), (IMAGE, 17, 32), (IMAGE, 16, 31), (IMAGE, 16, 64), (IMAGE, 32, 32), (IMAGE, 0, 32)] {
+        let (mut image, mut store, requests, mut answers) = before.clone();
+        assert_eq!(run(&mut image[..i], &mut store, &requests[..q], &mut answers[..a]), 1, "lengths {i}, {q}, {a}");
+        assert!((image, store, requests, answers) == before, "lengths {i}, {q}, {a}: something was written");
+    }
+    for (i, q, a) in [(IMAGE - 1, 16, 32), (IMAGE, 15, 32), (IMAGE, 32, 32), (IMAGE, 0, 32), (IMAGE, 16, 33), (IMAGE, 32, 64)] {
+        let (mut image, mut store, requests, mut answers) = before.clone();
+        assert_eq!(one(&mut image[..i], &mut store, &requests[..q], &mut answers[..a]), 1, "one call, lengths {i}, {q}, {a}");
+        assert!((image, store, requests, answers) == before, "one call, lengths {i}, {q}, {a}: something was written");
+    }
+    for (i, a) in [(IMAGE - 1, 32), (IMAGE, 31), (IMAGE, 0)] {
+        let (mut image, store, requests, mut answers) = before.clone();
+        assert_eq!(recover(&mut image[..i], &store, &mut answers[..a]), 1, "recovery, lengths {i}, {a}");
+        assert!((image, store, requests, answers) == before, "recovery, lengths {i}, {a}: something was written");
+    }
+    let mut image = vec![0x55; IMAGE - 1];
+    assert_eq!(unsafe { gorehimu_empty(image.as_mut_ptr(), image.len()) }, 1);
+    assert!(image.iter().all(|b| *b == 0x55));
+    let (mut image, mut store) = (encode(&Station::empty()), vec![0; STORE]);
+    assert_eq!(run(&mut image, &mut store, &[], &mut []), 0, "no request");
+}
+
+fn main() {
+    let args: Vec<u64> = std::env::args().skip(1).map(|a| a.parse().expect("a number")).collect();
+    let (first, count) = (args.first().copied().unwrap_or(1), args.get(1).copied().unwrap_or(600));
+    let mut seen = Seen::default();
+    wrong_lengths();
+    every_byte(&mut seen);
+    for seed in first..first + count {
+        history(seed, &mut seen);
+        made_up(seed, &mut seen);
+    }
+    if count >= 300 {
+        assert_eq!(seen.words.len(), 15, "an answer never came up: {:?}", seen.words);
+        for n in 1..=19 {
+            assert!(seen.refusals.contains_key(&n), "refusal {n} never came up: {:?}", seen.refusals);
+        }
+    }
+    println!("{count} histories, {} calls through the C interface: the library and the model agree, and the cut rule holds", seen.calls);
+}
