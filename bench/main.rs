@@ -167,6 +167,30 @@ fn compare(name: &str, n: u64, mut proved: impl FnMut(u64) -> u64, mut plain: im
     println!("| {name} | {:.2} | {:.2} | {:.2} |", a * each, b * each, a / b);
 }
 
+/// How a put's and a get's cost grows: with the entries held, and with the live transactions.
+fn growth() {
+    println!();
+    println!("| growth | proved, µs | Rust, µs | ratio |");
+    println!("|---|---|---|---|");
+    let mut row = |what: String, z: Size| unsafe {
+        compare(&format!("put, {what}"), 4000, |n| bench_put(n, z.entries, z.lives, z.reads, z.base), |n| rust_put(n, z));
+        let bytes = store(z);
+        compare(
+            &format!("get, {what}"),
+            4000,
+            |n| bench_get(bytes.as_ptr(), bytes.len(), n, z.entries, z.lives, z.reads, z.base, 0),
+            |n| rust_get(&bytes, n, z, 0),
+        );
+    };
+    for entries in [0, 16, 32, 48, 64] {
+        let reads = if entries == 0 { 0 } else { 4 };
+        row(format!("{entries} entries"), Size { entries, lives: 2, reads, base: entries.saturating_sub(2) });
+    }
+    for lives in [1, 4, 8] {
+        row(format!("{lives} live"), Size { entries: 16, lives, reads: 4, base: 14 });
+    }
+}
+
 fn main() {
     let typical = Size { entries: 16, lives: 2, reads: 4, base: 14 };
     let worst = Size { entries: 62, lives: 8, reads: 16, base: 0 };
@@ -202,4 +226,5 @@ fn main() {
             compare(&format!("scan, {size}"), 2000, |n| bench_scan(bytes.as_ptr(), bytes.len(), n), |n| rust_scan(&bytes, n));
         }
     }
+    growth();
 }

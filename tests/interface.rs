@@ -471,7 +471,7 @@ fn every_byte(seen: &mut Seen) {
     compare(&mut image, &mut store, &calls, seen, "a busy station");
     let tries = [c(1, 77, 0, 0), c(2, 20, 1, 9), c(3, 20, 5, 0), c(5, 22, 0, 0), c(7, 0, 63, 0), c(7, 0, 62, 0)];
     for at in 0..IMAGE {
-        for value in [0, 1, 2, 63, 64, 255, image[at].wrapping_add(1)] {
+        for value in (0..10).chain([63, 64, 255]) {
             let (mut i, mut s) = (image.clone(), store.clone());
             i[at] = value;
             compare(&mut i, &mut s, &tries, seen, &format!("image byte {at} is {value}"));
