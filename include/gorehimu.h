@@ -10,8 +10,12 @@
  * Build: rt staticlib interface, then link target/staticlib/libinterface.a. Its functions are proved to do what is said here for any
  * bytes whatever; the definitions are in crates/interface/specs and crates/model/specs.
  *
- * To survive a loss of power, bring the store's bytes to where they last after each call that wrote a record (answers stored, slipped and
- * collected) and before the next. A record is 24 bytes, and must be written whole or not at all.
+ * To survive a loss of power, bring the store's bytes to where they last after each request that wrote a record (answers stored, slipped
+ * and collected) and before the next: then send one such request in a call. A record is 24 bytes, and must be written whole or not at
+ * all.
+ *
+ * Each pointer must be valid for its length; no alignment is needed. What is lent to one call must not overlap, nor be touched by others
+ * meanwhile. Allow 128 KB of stack.
  */
 #ifndef GOREHIMU_H
 #define GOREHIMU_H
@@ -38,7 +42,7 @@ extern "C" {
  *   step     transaction                 stores its next record; the last step acknowledges
  *   abort    transaction                 forgets an open transaction
  *   collect  key                         frees a slot (0 to 63) whose entry is superseded and read by no one
- *   scan                                 drops the station and reads it off the store
+ *   scan                                 drops the station and reads it off the store; refused (1, 18), the station is the empty one
  */
 enum gorehimu_verb {
     GOREHIMU_START = 1,
@@ -95,7 +99,7 @@ enum gorehimu_kind {
 
 /* Each function returns 0; or 1, with nothing written, where a length is wrong: image_len must be GOREHIMU_IMAGE, a request
  * GOREHIMU_REQUEST and an answer GOREHIMU_ANSWER bytes. A store of another length is not wrong by itself: the verbs that need the store
- * refuse it (1). What is lent to one call must not overlap.
+ * refuse it (1).
  *
  * A request: verb 1 byte, key 1, two zeros, transaction 4, number 8. An answer: kind, a, b, c, 8 bytes each. Least byte first.
  *
