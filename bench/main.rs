@@ -172,7 +172,7 @@ fn growth() {
     println!();
     println!("| growth | proved, µs | Rust, µs | ratio |");
     println!("|---|---|---|---|");
-    let mut row = |what: String, z: Size| unsafe {
+    let row = |what: String, z: Size| unsafe {
         compare(&format!("put, {what}"), 4000, |n| bench_put(n, z.entries, z.lives, z.reads, z.base), |n| rust_put(n, z));
         let bytes = store(z);
         compare(
