@@ -130,12 +130,12 @@ fn run_read(
 fn run_end(
     station: Station,
     store: &mut [u8],
-    part: &[u8],
+    part: &mut [u8],
     len: usize,
     number: u64,
     out: &mut [u8],
 ) -> Stop
-    requires { ⌜ (length (now part) ≡ 65) × (len ≤ 65) × (length (now out) ≡ 131072) ⌝ }
+    requires { ⌜ (length (now part) ≡ 65) × (len ≤ 65) × (number + 1 < 2 ^ 64) × (length (now out) ≡ 131072) ⌝ }
 {
     let used = finish(station, store, part, len, number, out);
     if io::write_all(STDOUT_FILENO, &out[..used]) {

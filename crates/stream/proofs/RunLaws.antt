@@ -2,7 +2,7 @@
 use Prim.Native.Nat.{ℕ, _+_, _≤_}
 use mathlib.Core.Path.{_≡_, refl, sym, ap, _∙_}
 use mathlib.Core.Logic.{_≢_}
-use mathlib.Core.List.{List, [], _∷_}
+use mathlib.Core.List.{List, [], _∷_, append-nil}
 use lib.ListN.{length, take}
 use lib.Seq.{length-take-le}
 use mathlib.Core.Option.{Option, some, none}
@@ -15,7 +15,8 @@ use Rattle.sheet.specs.Lines.{lineCall}
 use Rattle.sheet.specs.Commands.{commandOf}
 use Rattle.sheet.specs.Sheets.{Desk, lineEffect, afterLine, printed, lineOutput}
 use Rattle.desk.specs.Acts.{callOf, acted, kept}
-use Rattle.stream.specs.Streams.{lastLine, endOutput}
+use Rattle.sheet.specs.Words.{newline}
+use Rattle.stream.specs.Streams.{byteOutput, bytesOutput, lastLine, endOutput}
 use Rattle.stream.specs.Parts.{deskOf, streamOf}
 
 -- a command is the call that it was made of
@@ -61,3 +62,8 @@ last-line (b ∷ bs) k h = refl
 pub end-line : (st : Station) (s : List ℕ) (n : ℕ) (p : List ℕ) (len : ℕ) → len ≢ 0 → len ≤ length p → lineOutput (take len p) (deskOf st s n) ≡ endOutput (streamOf st s n p len)
 unfolding endOutput streamOf
 end-line st s n p len h o = last-line (take len p) (deskOf st s n) (λ e. h (sym (length-take-le len p o) ∙ e))
+
+-- a newline runs the line that has begun
+pub end-newline : (st : Station) (s : List ℕ) (n : ℕ) (p : List ℕ) (len : ℕ) → bytesOutput (newline ∷ []) (streamOf st s n p len) ≡ lineOutput (take len p) (deskOf st s n)
+unfolding bytesOutput byteOutput streamOf
+end-newline st s n p len = append-nil _

@@ -117,21 +117,21 @@ pub fn run_block(
     }
 }
 
-// The end of the input: a line that has begun is run. The bytes of its output.
+// The end of the input: a line that has begun is run, as if its newline came. The bytes of its output.
 pub fn finish(
     station: Station,
     store: &mut [u8],
-    part: &[u8],
+    part: &mut [u8],
     len: usize,
     number: u64,
     out: &mut [u8],
 ) -> usize
-    requires { ⌜ (len ≤ length (now part)) × (96 ≤ length (now out)) ⌝ }
+    requires { ⌜ (length (now part) ≡ 65) × (len ≤ 65) × (number + 1 < 2 ^ 64) × (96 ≤ length (now out)) ⌝ }
     ensures { λ r. ⌜ (r ≤ 96) × (take r (now (out .exit)) ≡ endOutput (streamOf station (now (store .entry)) number (now (part .entry)) len)) × (drop r (now (out .exit)) ≡ drop r (now (out .entry))) ⌝ }
 {
     if len == 0 {
         return 0;
     }
-    let ran = run_line(station, store, &part[..len], number, out);
-    ran.used
+    let fed = run_block(station, store, part, len, number, b"\n", out);
+    fed.used
 }

@@ -16,9 +16,9 @@ slice-reshare-prefix-write-all c = search needs
 
 slice-aggregate-write-all : tie.Need-slice-aggregate-write-all
 slice-aggregate-write-all c =
-    let f = c .before .before .before .before .before .finish in
-    let s = c .before .before .before .before .before .before .before .before .before .before .before in
-    let h : f .result ≤ length (f .last .1 .1 .1 .1 .1 .0) = omega (arith, f .ensures .0, f .kept .1 .1 .1 .1 .1 .0, s .pre .2) in
+    let f = c .before .before .before .before .before .before .before .finish in
+    let s = c .before .before .before .before .before .before .before .before .before .before .before .before .before .before in
+    let h : f .result ≤ length (f .last .1 .1 .1 .1 .1 .0) = omega (arith, f .ensures .0, f .kept .1 .1 .1 .1 .1 .0, s .pre .3) in
     sym (length-take-le (f .result) (f .last .1 .1 .1 .1 .1 .0) h)
 
 write-all-requires : tie.Need-write-all-requires
@@ -30,14 +30,20 @@ same-length c = search needs
 same-length-2 : tie.Need-same-length-2
 same-length-2 c = search needs
 
-returns : tie.Need-returns
-returns c = search needs
-
 same-length-3 : tie.Need-same-length-3
 same-length-3 c = search needs
 
+returns : tie.Need-returns
+returns c = search needs
+
 same-length-4 : tie.Need-same-length-4
 same-length-4 c = search needs
+
+same-length-5 : tie.Need-same-length-5
+same-length-5 c = search needs
+
+same-length-6 : tie.Need-same-length-6
+same-length-6 c = search needs
 
 returns-2 : tie.Need-returns-2
 returns-2 c = search needs
@@ -52,7 +58,9 @@ run-end-spec =
     write-all-requires
     same-length
     same-length-2
-    returns
     same-length-3
+    returns
     same-length-4
+    same-length-5
+    same-length-6
     returns-2)

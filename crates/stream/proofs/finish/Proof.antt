@@ -1,9 +1,8 @@
 -- `stream::finish` meets its contract.
-use mathlib.Core.Path.{refl, sym, _∙_}
-use lib.Seq.{length-take-le}
+use mathlib.Core.Path.{refl, _∙_}
 use borrow.Author.Needs.{needs}
 use native.Mathlib.Omega.{arith}
-use Rattle.stream.proofs.RunLaws.{end-none, end-line}
+use Rattle.stream.proofs.RunLaws.{end-none, end-line, end-newline}
 use Rattle.stream.proofs.finish.Statement.{statement}
 use Rattle.stream.proofs.finish.Tie as tie
 
@@ -12,13 +11,13 @@ returns c =
     let a = c .before .before .before .before .args in
     (omega arith, end-none (a .station) (a .store .now) (a .number) (a .part .now) (a .len) (c .if1 .taken), refl)
 
-slice-aggregate-run-line : tie.Need-slice-aggregate-run-line
-slice-aggregate-run-line c =
-    let s = c .before .before .before .before .before .before in
-    sym (length-take-le (s .args .len) (s .args .part .now) (s .pre .0))
+slice-aggregate-run-block : tie.Need-slice-aggregate-run-block
+slice-aggregate-run-block c = search needs
 
-run-line-requires : tie.Need-run-line-requires
-run-line-requires c κs = search needs
+run-block-requires : tie.Need-run-block-requires
+run-block-requires c κs =
+    let p = c .before .before .before .before .before .before .before .before .pre in
+    (p .0, p .1, p .2, p .3)
 
 same-length : tie.Need-same-length
 same-length c = search needs
@@ -26,20 +25,15 @@ same-length c = search needs
 same-length-2 : tie.Need-same-length-2
 same-length-2 c = search needs
 
+same-length-3 : tie.Need-same-length-3
+same-length-3 c = search needs
+
 returns-2 : tie.Need-returns-2
 returns-2 c =
-    let s = c .before .before .before .before .before .before .before .before .before .before .before .before in
+    let s = c .before .before .before .before .before .before .before .before .before .before .before .before .before .before .before in
     let a = s .args in
-    let r = c .before .before .before .before .run-line .ensures in
-    (r .1, r .2 ∙ end-line (a .station) (a .store .now) (a .number) (a .part .now) (a .len) (c .before .before .before .before .before .before .before .before .if1 .left) (s .pre .0), r .3)
+    let r = c .before .before .before .before .before .before .run-block .ensures in
+    (r .3, r .1 ∙ end-newline (a .station) (a .store .now) (a .number) (a .part .now) (a .len) ∙ end-line (a .station) (a .store .now) (a .number) (a .part .now) (a .len) (c .before .before .before .before .before .before .before .before .before .before .before .if1 .left) (omega (arith, s .pre .0, s .pre .1)), r .2)
 
 pub finish-spec : {M : Type 1} → statement M
-finish-spec =
-    tie.close
-    (tie.spec
-    returns
-    slice-aggregate-run-line
-    run-line-requires
-    same-length
-    same-length-2
-    returns-2)
+finish-spec = tie.close (tie.spec returns slice-aggregate-run-block run-block-requires same-length same-length-2 same-length-3 returns-2)
