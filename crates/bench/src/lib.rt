@@ -18,6 +18,10 @@ use calls::put;
 use calls::scan;
 use calls::start;
 use calls::step;
+use desk::Request;
+use desk::act;
+use sheet::Command;
+use soundness::is_sound;
 
 // The entry of a slot: even slots wrote keys 0 to 7, odd ones 8 to 15.
 fn entry(slot: u8) -> Entry {
@@ -195,6 +199,54 @@ pub extern "C" fn bench_get(
     let mut i: u64 = 0;
     while i < rounds {
         let o = get(s, store, 1000, key);
+        let next = o.station;
+        s = next;
+        let a = o.answer;
+        last = code(a);
+        i += 1;
+    }
+    last
+}
+
+// ---- soundness tested once, before the first call
+// A request by its verb's number, as the C interface counts them.
+fn asked(verb: u8, i: u64) -> Command {
+    match verb {
+        1 => Command::Start(77),
+        2 => Command::Put(1000, (i % 8) as u8, i),
+        3 => Command::Get(1000, 0),
+        4 => Command::Commit(1, 5),
+        5 => Command::Step(1000),
+        6 => Command::Abort(77),
+        7 => Command::Collect(64),
+        8 => Command::Cut,
+        _ => Command::Malformed,
+    }
+}
+
+#[no_mangle]
+pub extern "C" fn bench_known(
+    store: &mut [u8],
+    verb: u8,
+    rounds: u64,
+    entries: u8,
+    lives: u8,
+    reads: u8,
+    base: u8,
+) -> u64 {
+    let mut s = station(entries, lives, reads, base);
+    if !is_sound(s) {
+        return 0;
+    }
+    let mut last = 0;
+    let mut i: u64 = 0;
+    while i < rounds {
+        let command = asked(verb, i);
+        let request = Request {
+            command,
+            tested: true,
+        };
+        let o = act(s, store, request);
         let next = o.station;
         s = next;
         let a = o.answer;

@@ -1,5 +1,14 @@
-// The store's eight public calls and their types, under one name. The calls themselves are in the crates transactions (start, put,
-// commit, abort), storing (get, step, collect) and recovery (scan).
+// The store's eight public calls and their types, under one name. Each takes whatever comes: any numbers, any station, any store bytes. All
+// but scan (crate recovery) test the station's soundness; what they then come to is decided in the crates transactions and storing.
+ghost use mathlib.Core.Path.{_≡_};
+ghost use Rattle.model.specs.Effects.{outcomeOf, stored};
+ghost use Rattle.model.specs.Start.{start};
+ghost use Rattle.model.specs.Put.{put};
+ghost use Rattle.model.specs.Get.{get};
+ghost use Rattle.model.specs.Commit.{commit};
+ghost use Rattle.model.specs.Step.{step};
+ghost use Rattle.model.specs.Abort.{abort};
+ghost use Rattle.model.specs.Collect.{collect};
 pub use model::Answer;
 pub use model::Entry;
 pub use model::Id;
@@ -10,10 +19,68 @@ pub use model::Read;
 pub use model::Station;
 pub use model::Write;
 pub use recovery::scan;
-pub use storing::collect;
-pub use storing::get;
-pub use storing::step;
-pub use transactions::abort;
-pub use transactions::commit;
-pub use transactions::put;
-pub use transactions::start;
+use soundness::is_sound;
+use stations::changed;
+
+// Makes a transaction live and open, with empty sets, in the lowest unused place.
+pub fn start(station: Station, txn: u32) -> Outcome
+    ensures { λ r. ⌜ r ≡ outcomeOf (start station txn) ⌝ }
+{
+    let tested = is_sound(station);
+    let change = transactions::start(station, tested, txn);
+    changed(station, change)
+}
+
+// Adds a key to the write set, or replaces its value.
+pub fn put(station: Station, txn: u32, key: u8, value: u64) -> Outcome
+    ensures { λ r. ⌜ r ≡ outcomeOf (put station txn key value) ⌝ }
+{
+    let tested = is_sound(station);
+    let change = transactions::put(station, tested, txn, key, value);
+    changed(station, change)
+}
+
+// Reads a key: the transaction's own value, or the version that Algorithm 1 chooses.
+pub fn get(station: Station, store: &[u8], txn: u32, key: u8) -> Outcome
+    ensures { λ r. ⌜ r ≡ outcomeOf (get station (now (store .entry)) txn key) ⌝ }
+{
+    let tested = is_sound(station);
+    let change = storing::get(station, tested, store, txn, key);
+    changed(station, change)
+}
+
+// Begins to close a transaction, in the highest free slot. A read-only one is over at once, and a retry of a held one changes nothing.
+pub fn commit(station: Station, txn: u32, clock: u64) -> Outcome
+    ensures { λ r. ⌜ r ≡ outcomeOf (commit station txn clock) ⌝ }
+{
+    let tested = is_sound(station);
+    let change = transactions::commit(station, tested, txn, clock);
+    changed(station, change)
+}
+
+// Stores the next record of a closing transaction; after the commit record, acknowledges.
+pub fn step(station: Station, store: &mut [u8], txn: u32) -> Outcome
+    ensures { λ r. ⌜ (r ≡ outcomeOf (step station (now (store .entry)) txn)) × (now (store .exit) ≡ stored (step station (now (store .entry)) txn .stores) (now (store .entry))) ⌝ }
+{
+    let tested = is_sound(station);
+    let change = storing::step(station, tested, store, txn);
+    changed(station, change)
+}
+
+// Forgets an open transaction.
+pub fn abort(station: Station, txn: u32) -> Outcome
+    ensures { λ r. ⌜ r ≡ outcomeOf (abort station txn) ⌝ }
+{
+    let tested = is_sound(station);
+    let change = transactions::abort(station, tested, txn);
+    changed(station, change)
+}
+
+// Frees the slot of an entry that is superseded on every key it wrote and that no live transaction has read.
+pub fn collect(station: Station, store: &mut [u8], slot: u8) -> Outcome
+    ensures { λ r. ⌜ (r ≡ outcomeOf (collect station (now (store .entry)) slot)) × (now (store .exit) ≡ stored (collect station (now (store .entry)) slot .stores) (now (store .entry))) ⌝ }
+{
+    let tested = is_sound(station);
+    let change = storing::collect(station, tested, store, slot);
+    changed(station, change)
+}

@@ -8,17 +8,22 @@
 //   !slot SLOT,byte AT,BYTE              a byte of a slot is changed
 //   ~FIELD name,place PLACE,POSITION,VALUE   a field of the station is changed; crate edits numbers the fields
 // Of the last two only the digits are read. A title ends in the answers that 01 gives to its last lines; tests/cases.rs tests that.
+use calls::Answer;
 use calls::Outcome;
 use calls::Station;
+use calls::abort;
+use calls::collect;
 use calls::commit;
+use calls::get;
 use calls::put;
+use calls::scan;
 use calls::start;
 use calls::step;
-use desk::Request;
 use edits::low8;
 use edits::low32;
 use edits::same_station;
 use libc::STDOUT_FILENO;
+use sheet::Command;
 ghost use mathlib.Core.Path.{_≡_};
 ghost use Prim.Native.Nat.{_≤_};
 ghost use lib.ListN.{length};
@@ -214,14 +219,27 @@ fn report(line: &[u8], before: Station, o: Outcome, is_kept: bool, is_quiet: boo
 }
 
 // ---- lines carried out
-fn asked(line: &[u8]) -> Request {
-    let command = sheet::parse_line(line);
-    Request { command }
+fn malformed(station: Station) -> Outcome {
+    Outcome {
+        station,
+        answer: Answer::Refused(19, 0),
+    }
 }
 
+// The public calls themselves, for any station.
 fn acted(station: Station, store: &mut [u8], line: &[u8]) -> Outcome {
-    let request = asked(line);
-    desk::act_once(station, store, request)
+    let command = sheet::parse_line(line);
+    match command {
+        Command::Start(txn) => start(station, txn),
+        Command::Put(txn, key, value) => put(station, txn, key, value),
+        Command::Get(txn, key) => get(station, store, txn, key),
+        Command::Commit(txn, clock) => commit(station, txn, clock),
+        Command::Step(txn) => step(station, store, txn),
+        Command::Abort(txn) => abort(station, txn),
+        Command::Collect(slot) => collect(station, store, slot),
+        Command::Cut => scan(store),
+        Command::Malformed => malformed(station),
+    }
 }
 
 fn act_damage(

@@ -1,10 +1,11 @@
 -- What a request comes to: its call's effect, or row 19.
 use Prim.Native.Nat.{ℕ}
+use mathlib.Core.Bool.{Bool, true, false}
 use mathlib.Core.List.{List}
 use mathlib.Core.Option.{Option, some, none}
 use Rattle.model.specs.declared.Station.{Station}
 use Rattle.model.specs.declared.Outcome.{Outcome}
-use Rattle.model.specs.Effects.{stored, outcomeOf}
+use Rattle.model.specs.Effects.{Effect, stored, outcomeOf}
 use Rattle.model.specs.Calls.{Call, Start, Put, Get, Commit, Step, Abort, Collect, Scan}
 use Rattle.sheet.specs.declared.Command.{Command}
 use Rattle.sheet.specs.declared.Command.the-variants as C
@@ -23,9 +24,24 @@ callOf (C.Collect d) = some (Collect d)
 callOf C.Cut = some Scan
 callOf C.Malformed = none
 
+-- a cut, which is carried out by a scan
+unfoldable pub isCut : Command → Bool
+isCut (C.Start t) = false
+isCut (C.Put t k v) = false
+isCut (C.Get t k) = false
+isCut (C.Commit t c) = false
+isCut (C.Step t) = false
+isCut (C.Abort t) = false
+isCut (C.Collect d) = false
+isCut C.Cut = true
+isCut C.Malformed = false
+
+unfoldable pub effectOf : Station → List ℕ → Request → Effect
+effectOf st s q = lineEffect (callOf (q .command)) st s
+
 -- what is handed back, and the store afterwards
 unfoldable pub acted : Station → List ℕ → Request → Outcome
-acted st s q = outcomeOf (lineEffect (callOf (q .command)) st s)
+acted st s q = outcomeOf (effectOf st s q)
 
 unfoldable pub kept : Station → List ℕ → Request → List ℕ
-kept st s q = stored (lineEffect (callOf (q .command)) st s .stores) s
+kept st s q = stored (effectOf st s q .stores) s

@@ -1,45 +1,76 @@
-// One line's command, carried out: the desk's step, by value.
+// One line's command, carried out: the desk's step, by value and lent.
 use calls::Answer;
 use calls::Outcome;
 use calls::Station;
-use calls::abort;
-use calls::collect;
-use calls::commit;
-use calls::get;
-use calls::put;
 use calls::scan;
-use calls::start;
-use calls::step;
 use sheet::Command;
+use stations::Change;
+use stations::changed;
 use stations::refused;
+use storing::collect;
+use storing::get;
+use storing::step;
+use transactions::abort;
+use transactions::commit;
+use transactions::put;
+use transactions::start;
 ghost use mathlib.Core.Path.{_≡_};
-ghost use Rattle.desk.specs.Acts.{acted, kept};
+ghost use mathlib.Core.Bool.{false};
+ghost use Rattle.model.specs.Sound.{sound};
+ghost use Rattle.stations.specs.Changes.{IsChange};
+ghost use Rattle.desk.specs.Acts.{effectOf, acted, kept, isCut};
 
-// A line as it was parsed.
+// A line as it was parsed, and what the soundness test says of the station.
 pub struct Request {
     pub command: Command,
+    pub tested: bool,
 }
 
-// Carries out a request: its call, or 19 where the line was malformed.
-pub fn act(station: Station, store: &mut [u8], request: Request) -> Outcome
-    ensures { λ r. ⌜ (r ≡ acted station (now (store .entry)) request) × (now (store .exit) ≡ kept station (now (store .entry)) request) ⌝ }
+pub fn is_cut(command: Command) -> bool
+    ensures { λ r. ⌜ r ≡ isCut command ⌝ }
 {
+    match command {
+        Command::Cut => true,
+        _ => false,
+    }
+}
+
+// The change that a request comes to: its call's, or 19 where the line was malformed. A cut is no change but a station read anew.
+pub fn decide(station: Station, store: &mut [u8], request: Request) -> Change
+    requires { ⌜ (request .tested ≡ sound station) × (isCut (request .command) ≡ false) ⌝ }
+    ensures { λ r. ⌜ (IsChange station (effectOf station (now (store .entry)) request) r) × (now (store .exit) ≡ kept station (now (store .entry)) request) ⌝ }
+{
+    let tested = request.tested;
     let command = request.command;
     match command {
-        Command::Start(txn) => start(station, txn),
-        Command::Put(txn, key, value) => put(station, txn, key, value),
-        Command::Get(txn, key) => get(station, store, txn, key),
-        Command::Commit(txn, clock) => commit(station, txn, clock),
-        Command::Step(txn) => step(station, store, txn),
-        Command::Abort(txn) => abort(station, txn),
-        Command::Collect(slot) => collect(station, store, slot),
-        Command::Cut => scan(store),
+        Command::Start(txn) => start(station, tested, txn),
+        Command::Put(txn, key, value) => put(station, tested, txn, key, value),
+        Command::Get(txn, key) => get(station, tested, store, txn, key),
+        Command::Commit(txn, clock) => commit(station, tested, txn, clock),
+        Command::Step(txn) => step(station, tested, store, txn),
+        Command::Abort(txn) => abort(station, tested, txn),
+        Command::Collect(slot) => collect(station, tested, store, slot),
+        Command::Cut => refused(station, 19),
         Command::Malformed => refused(station, 19),
     }
 }
 
+// Carries out a request.
+pub fn act(station: Station, store: &mut [u8], request: Request) -> Outcome
+    requires { ⌜ request .tested ≡ sound station ⌝ }
+    ensures { λ r. ⌜ (r ≡ acted station (now (store .entry)) request) × (now (store .exit) ≡ kept station (now (store .entry)) request) ⌝ }
+{
+    let command = request.command;
+    if is_cut(command) {
+        return scan(store);
+    }
+    let change = decide(station, store, request);
+    changed(station, change)
+}
+
 // The one call that is lent the station: it writes the new one over it.
 pub fn act_on(station: &mut Station, store: &mut [u8], request: Request) -> Answer
+    requires { ⌜ request .tested ≡ sound (now station) ⌝ }
     ensures { λ r. ⌜ (r ≡ acted (now (station .entry)) (now (store .entry)) request .answer) × (now (station .exit) ≡ acted (now (station .entry)) (now (store .entry)) request .station) × (now (store .exit) ≡ kept (now (station .entry)) (now (store .entry)) request) ⌝ }
 {
     let o = act(*station, store, request);
@@ -49,6 +80,7 @@ pub fn act_on(station: &mut Station, store: &mut [u8], request: Request) -> Answ
 
 // Lends a station of its own to act_on, so that whoever calls this needs no reference to one.
 pub fn act_once(station: Station, store: &mut [u8], request: Request) -> Outcome
+    requires { ⌜ request .tested ≡ sound station ⌝ }
     ensures { λ r. ⌜ (r ≡ acted station (now (store .entry)) request) × (now (store .exit) ≡ kept station (now (store .entry)) request) ⌝ }
 {
     let mut s = station;

@@ -6,6 +6,10 @@ use model::Phase;
 use model::Read;
 use model::Station;
 use model::Write;
+use records::id_in;
+use records::number_in;
+use records::write_keys;
+use records::write_number;
 ghost use mathlib.Core.Path.{_≡_};
 ghost use mathlib.Core.Bool.{true, cond};
 ghost use mathlib.Core.List.{map};
@@ -54,34 +58,6 @@ struct Marked {
     slot: u8,
     stored: u8,
     clock: u64,
-}
-
-// ---- numbers
-// The number that bytes make, least byte first: from the last byte down, so that no power of 256 is kept.
-fn number_in(part: &[u8]) -> u64
-    requires { ⌜ length (now part) ≤ 8 ⌝ }
-    ensures { λ r. ⌜ (r ≡ number (now (part .entry))) × (r < byteRange ^ length (now (part .entry))) ⌝ }
-{
-    let mut sum: u64 = 0;
-    let mut i = part.len();
-    while 0 < i {
-        i -= 1;
-        sum = sum * 256 + part[i] as u64;
-    }
-    sum
-}
-
-// A number's bytes, least byte first, over the part lent.
-pub fn write_number(part: &mut [u8], x: u64)
-    ensures { λ _. ⌜ now (part .exit) ≡ bytes (length (now (part .entry))) x ⌝ }
-{
-    let mut rest = x;
-    let mut i = 0;
-    while i < part.len() {
-        part[i] = (rest % 256) as u8;
-        rest = rest / 256;
-        i += 1;
-    }
 }
 
 // All bytes are zero.
@@ -234,16 +210,6 @@ fn write_in(b: &[u8]) -> Write
 {
     let value = number_in(&b[8..16]);
     Write { key: b[0], value }
-}
-
-// The transaction and clock of a read, an entry or a place.
-pub fn id_in(b: &[u8]) -> Id
-    requires { ⌜ 16 ≤ length (now b) ⌝ }
-    ensures { λ r. ⌜ r ≡ idIn (now (b .entry)) ⌝ }
-{
-    let txn = number_in(&b[4..8]) as u32;
-    let clock = number_in(&b[8..16]);
-    Id { clock, txn }
 }
 
 fn read_in(b: &[u8]) -> Read
@@ -411,17 +377,6 @@ fn write_read(part: &mut [u8], r: Read)
 {
     let id = r.id;
     write_start(part, r.key, 0, 0, 0, id);
-}
-
-fn write_keys(part: &mut [u8], keys: [u8; Station::WRITES])
-    requires { ⌜ length (now part) ≡ writeLimit ⌝ }
-    ensures { λ _. ⌜ now (part .exit) ≡ keys ⌝ }
-{
-    let mut i = 0;
-    while i < Station::WRITES {
-        part[i] = keys[i];
-        i += 1;
-    }
 }
 
 fn write_entry(part: &mut [u8], e: Entry)

@@ -3,25 +3,21 @@ use Prim.Native.Nat.{ℕ, zero, suc}
 use mathlib.Core.Path.{_≡_, refl, ap₂, _∙_}
 use mathlib.Core.Logic.{_≢_}
 use mathlib.Core.Bool.{Bool, true, false}
-use mathlib.Core.List.{List, [], _∷_, _++_}
+use mathlib.Core.List.{List, _++_}
 use mathlib.Core.Option.{Option, some, none}
 use lib.Dec.{eqb}
 use lib.ListN.{length, getD}
 use native.Mathlib.Omega.{arith}
 use borrow.Author.Tests.{eq-eqb}
 use borrow.Rule.Slice.PartMut.{midOf, putMid, same-len-mid}
-use types.Run.{OneOf, miss}
 use Rattle.model.specs.declared.Id.{Id}
 use Rattle.model.specs.Lists.{_and_, _or_}
 use Rattle.model.specs.Records.{bytes, idIn}
-use Rattle.sheet.specs.declared.Command.{Command}
-use Rattle.sheet.specs.declared.Command.the-variants as C
 use Rattle.sheet.specs.Words.{Verb}
 use Rattle.sheet.specs.Lines.{ofFields}
-use Rattle.desk.specs.Acts.{callOf}
 use Rattle.image.proofs.LayoutLaws.{spread-all}
 use Rattle.image.proofs.WriteLaws.{number-written}
-use Rattle.interface.specs.Exchange.{answerSize, verbNumbered, requestCall, isScan}
+use Rattle.interface.specs.Exchange.{answerSize, verbNumbered, requestCall}
 
 -- ── a request ──
 pub verb-unknown : (n : ℕ) → n ≢ 1 → n ≢ 2 → n ≢ 3 → n ≢ 4 → n ≢ 5 → n ≢ 6 → n ≢ 7 → n ≢ 8 → none ≡ verbNumbered n
@@ -52,19 +48,6 @@ pub or-false : (b : Bool) → (b or false) ≡ b
 unfolding _or_
 or-false true = refl
 or-false false = refl
-
--- a command that is none of the eighth kind
-pub not-cut : (c : Command) → OneOf (0 ∷ 1 ∷ 2 ∷ 3 ∷ 4 ∷ 5 ∷ 6 ∷ 8 ∷ []) (denote.Enum.Declared.tagOf Rattle.sheet.proofs.Command.the-type c) → isScan (callOf c) ≡ false
-unfolding callOf isScan
-not-cut (C.Start t) h = refl
-not-cut (C.Put t k v) h = refl
-not-cut (C.Get t k) h = refl
-not-cut (C.Commit t c) h = refl
-not-cut (C.Step t) h = refl
-not-cut (C.Abort t) h = refl
-not-cut (C.Collect d) h = refl
-not-cut C.Cut h = absurd (miss (0 ∷ 1 ∷ 2 ∷ 3 ∷ 4 ∷ 5 ∷ 6 ∷ 8 ∷ []) 7 tt h)
-not-cut C.Malformed h = refl
 
 -- ── an answer ──
 -- four numbers written one after the other are all that there is

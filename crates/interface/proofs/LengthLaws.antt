@@ -3,14 +3,17 @@ use Prim.Native.Nat.{ℕ, _*_, _/_, _%_}
 use mathlib.Core.Path.{_≡_, refl, sym, _∙_}
 use mathlib.Core.Logic.{_≢_}
 use mathlib.Core.Bool.{Bool, true, false, cond, true≢false, false≢true}
+use mathlib.Core.List.{List, [], _∷_}
 use lib.Dec.{eqb}
+use lib.ListN.{length}
+use lib.Seq.{take-all}
 use native.Mathlib.Decide.{ℕ-discrete}
 use native.Mathlib.Omega.{arith}
 use borrow.Author.Tests.{eqb-true, eq-eqb, ne-eqb}
 use Rattle.model.specs.Lists.{_and_}
 use Rattle.model.proofs.Tests.{and-left, and-right, and-none-left, and-none-right}
-use Rattle.image.specs.Layout.{imageSize}
-use Rattle.interface.specs.Exchange.{requestSize, answerSize, fits, fitsOne}
+use Rattle.image.specs.Layout.{imageSize, parts}
+use Rattle.interface.specs.Exchange.{requestSize, answerSize, requestsIn, fits, fitsOne}
 
 pub cond-yes : {A : Type 0} (b : Bool) (x y : A) → b ≡ true → x ≡ cond b x y
 cond-yes true x y h = refl
@@ -80,3 +83,11 @@ module _ (i r a : ℕ) where
     pub one-answer : a ≡ answerSize
     unfolding fitsOne
     one-answer = eqb-true a answerSize (and-right _ _ h)
+
+-- bytes of one request's length are one request
+pub one-whole : (r a : ℕ) → r ≡ requestSize → a ≡ answerSize → (r % requestSize ≡ 0) × (a ≡ answerSize * (r / requestSize))
+one-whole r a e f = (omega arith, omega arith)
+
+pub one-part : (b : List ℕ) → length b ≡ requestSize → requestsIn b ≡ b ∷ []
+unfolding requestsIn parts
+one-part b l = rw (l, take-all requestSize b (omega (arith, l)))

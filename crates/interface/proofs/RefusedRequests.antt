@@ -7,7 +7,6 @@ use mathlib.Core.Bool.{Bool, true, false, not, true≢false}
 use mathlib.Core.List.{List, [], _∷_}
 use mathlib.Core.Option.{Option, some, none}
 use lib.ListN.{length}
-use lib.Seq.{take-all}
 use native.Mathlib.Omega.{arith}
 use Rattle.model.specs.declared.Station.{Station}
 use Rattle.model.specs.Lists.{_and_, _or_, all}
@@ -27,13 +26,13 @@ use Rattle.model.specs.Calls.{Call, Start, Put, Get, Commit, Step, Abort, Colle
 use Rattle.model.specs.Answers.{refusedWith}
 use Rattle.model.proofs.Tests.{or-left, or-right, or-intro-left}
 use Rattle.model.proofs.RefusalLaws.{guard, hit}
-use Rattle.image.specs.Layout.{parts}
 use Rattle.image.specs.Images.{isImage}
 use Rattle.image.proofs.Round.{image-only}
 use Rattle.sheet.specs.Sheets.{lineEffect}
-use Rattle.interface.specs.Exchange.{requestSize, requestCall, isScan, Held, unsoundStation, heldIn, effectOf, afterRequest, afterRequests, imageAfter, requestsIn, afterRun}
+use Rattle.interface.specs.Exchange.{requestSize, requestCall, isScan, Held, unsoundStation, heldIn, effectOf, afterRequest, afterRequests, imageAfter, afterRun}
 use Rattle.interface.proofs.RefusedLaws.{Unaltered, refused-unaltered}
 use Rattle.interface.proofs.ByteLaws.{or-false}
+use Rattle.interface.proofs.LengthLaws.{one-part}
 
 -- ── where nothing was done the image stays as it was ──
 pub image-held : (image s : List ℕ) → imageAfter image (heldIn image s) ≡ image
@@ -70,7 +69,7 @@ module _ (image s q : List ℕ) (n : isScan (requestCall q) ≡ false) (r : refu
   refused-run l = (ap (imageAfter image) one ∙ refused-image, ap (λ (h : Held). h .store) one ∙ refused-store)
     where
       one : afterRun image s q ≡ afterRequest q (heldIn image s)
-      one = unfold afterRun in unfold requestsIn in unfold parts in unfold afterRequests in rw (l, take-all requestSize q (omega (arith, l)))
+      one = unfold afterRun in unfold afterRequests in ap (λ (qs : List (List ℕ)). afterRequests qs (heldIn image s)) (one-part q l)
 
 -- ── the station that is held where the image is none is not sound ──
 pub unsound-station : sound unsoundStation ≡ false

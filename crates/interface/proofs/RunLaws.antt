@@ -1,7 +1,7 @@
 -- A request carried out, and requests one after the other.
 use Prim.Native.Nat.{ℕ, _+_, _*_, _-_, _<_, _≤_}
 use mathlib.Core.Path.{_≡_, refl, sym, ap, ap₂, _∙_}
-use mathlib.Core.Bool.{Bool, cond}
+use mathlib.Core.Bool.{Bool, true, false, cond}
 use mathlib.Core.List.{List, _++_, append-nil, append-assoc}
 use mathlib.Core.Option.{Option, some, none}
 use lib.ListN.{length, take, drop}
@@ -10,49 +10,94 @@ use native.Mathlib.Omega.{arith}
 use borrow.Rule.Slice.PartMut.{putMid}
 use Rattle.model.specs.declared.Outcome.{Outcome}
 use Rattle.model.specs.Lists.{_or_}
+use Rattle.model.specs.Sound.{sound}
 use Rattle.model.specs.Effects.{stored, outcomeOf}
+use Rattle.model.specs.Scan.{scan}
 use Rattle.model.specs.Calls.{Call, Start, Put, Get, Commit, Step, Abort, Collect, Scan}
-use Rattle.sheet.specs.declared.Command.{Command}
+use Rattle.model.proofs.Tests.{or-intro-right}
+use Rattle.stations.specs.declared.Change.{Change}
+use Rattle.stations.specs.Changes.{changedBy, IsChange}
+use Rattle.stations.proofs.Changes.{comes-to}
 use Rattle.sheet.specs.Commands.{commandOf}
 use Rattle.sheet.specs.Sheets.{lineEffect}
-use Rattle.desk.specs.Acts.{callOf, acted, kept}
+use Rattle.desk.specs.declared.Request.{Request}
+use Rattle.desk.specs.Acts.{callOf, isCut, acted, kept}
+use Rattle.desk.specs.Acts as D
+use Rattle.desk.proofs.ActLaws.{call-of-command, scan-acts, acted-tested}
 use Rattle.image.specs.Layout.{parts}
 use Rattle.image.specs.Images.{stationBytes, stationIn, isImage}
 use Rattle.image.proofs.PartLaws.{next-place, part-is, parts-next, put-front}
 use Rattle.interface.specs.declared.Current.{Current}
 use Rattle.interface.specs.Exchange.{requestSize, answerSize, requestCall, isScan, answerBytes, Held, unsoundStation, heldIn, effectOf, afterRequest, afterRequests, answersTo, imageAfter, requestsIn, afterRun, answersIn}
 use Rattle.interface.specs.Parts.{heldOf}
+use Rattle.interface.proofs.ByteLaws.{or-false}
+use Rattle.interface.proofs.LengthLaws.{one-part}
 
--- a command is the call that it was made of
-call-of-command : (c : Option Call) → callOf (commandOf c) ≡ c
-unfolding callOf commandOf
-call-of-command none = refl
-call-of-command (some (Start t)) = refl
-call-of-command (some (Put t k v)) = refl
-call-of-command (some (Get t k)) = refl
-call-of-command (some (Commit t c)) = refl
-call-of-command (some (Step t)) = refl
-call-of-command (some (Abort t)) = refl
-call-of-command (some (Collect d)) = refl
-call-of-command (some Scan) = refl
+-- a command is a cut exactly where its call is a scan
+cut-of-command : (c : Option Call) → isCut (commandOf c) ≡ isScan c
+unfolding isCut commandOf isScan
+cut-of-command none = refl
+cut-of-command (some (Start t)) = refl
+cut-of-command (some (Put t k v)) = refl
+cut-of-command (some (Get t k)) = refl
+cut-of-command (some (Commit t c)) = refl
+cut-of-command (some (Step t)) = refl
+cut-of-command (some (Abort t)) = refl
+cut-of-command (some (Collect d)) = refl
+cut-of-command (some Scan) = refl
 
 -- ── one request ──
-module _ (q : List ℕ) (h : Current) (s : List ℕ) (c : Command) (e : c ≡ commandOf (requestCall q)) (o : Outcome) (p : o ≡ acted (h .station) s (record { command = c })) where
-  call-is : callOf c ≡ requestCall q
+module _ (q : List ℕ) (h : Current) (s : List ℕ) (r : Request) (e : r .command ≡ commandOf (requestCall q)) where
+  call-is : callOf (r .command) ≡ requestCall q
   call-is = ap callOf e ∙ call-of-command (requestCall q)
 
-  pub request-run : (s′ : List ℕ) → s′ ≡ kept (h .station) s (record { command = c }) → (w : Bool) → w ≡ (h .whole or isScan (callOf c))
-      → heldOf (record { whole = w; station = o .station }) s′ ≡ afterRequest q (heldOf h s)
-  unfolding heldOf afterRequest effectOf acted kept outcomeOf
-  request-run s′ k w g = λ i. record {
-    whole = (g ∙ ap (λ (x : Option Call). h .whole or isScan x) call-is) i;
-    station = (ap (λ (x : Outcome). x .station) p ∙ ap (λ (x : Option Call). lineEffect x (h .station) s .station) call-is) i;
-    store = (k ∙ ap (λ (x : Option Call). stored (lineEffect x (h .station) s .stores) s) call-is) i;
-  }
+  cut-is : isCut (r .command) ≡ isScan (requestCall q)
+  cut-is = ap isCut e ∙ cut-of-command (requestCall q)
 
-  pub request-answered : answerBytes (o .answer) ≡ answerBytes (effectOf q (heldOf h s) .answer)
-  unfolding heldOf effectOf acted outcomeOf
-  request-answered = ap (λ (x : Outcome). answerBytes (x .answer)) p ∙ ap (λ (x : Option Call). answerBytes (lineEffect x (h .station) s .answer)) call-is
+  module _ (o : Outcome) (p : o ≡ acted (h .station) s r) where
+    request-run : (l : Current) → l .whole ≡ (h .whole or isScan (requestCall q)) → l .station ≡ o .station → (s′ : List ℕ) → s′ ≡ kept (h .station) s r
+        → heldOf l s′ ≡ afterRequest q (heldOf h s)
+    unfolding heldOf afterRequest effectOf acted kept D.effectOf outcomeOf
+    request-run l w g s′ k = λ i. record {
+      whole = w i;
+      station = (g ∙ ap (λ (x : Outcome). x .station) p ∙ ap (λ (x : Option Call). lineEffect x (h .station) s .station) call-is) i;
+      store = (k ∙ ap (λ (x : Option Call). stored (lineEffect x (h .station) s .stores) s) call-is) i;
+    }
+
+    request-answered : answerBytes (o .answer) ≡ answerBytes (effectOf q (heldOf h s) .answer)
+    unfolding heldOf effectOf acted D.effectOf outcomeOf
+    request-answered = ap (λ (x : Outcome). answerBytes (x .answer)) p ∙ ap (λ (x : Option Call). answerBytes (lineEffect x (h .station) s .answer)) call-is
+
+  -- a cut: the scan's station
+  module _ (n : isCut (r .command) ≡ true) where
+    scan-is : outcomeOf (scan s) ≡ acted (h .station) s r
+    scan-is = scan-acts (h .station) s r n _ refl .0
+
+    pub scan-run : (l : Current) → l .whole ≡ true → l .station ≡ scan s .station → heldOf l s ≡ afterRequest q (heldOf h s)
+    unfolding outcomeOf
+    scan-run l w g = request-run _ scan-is l (w ∙ sym (or-intro-right (h .whole) _ (sym cut-is ∙ n))) g s (scan-acts (h .station) s r n _ refl .1)
+
+    pub scan-answered : answerBytes (scan s .answer) ≡ answerBytes (effectOf q (heldOf h s) .answer)
+    unfolding outcomeOf
+    scan-answered = request-answered _ scan-is
+
+  -- any other request: a change
+  module _ (n : isCut (r .command) ≡ false) (c : Change) (d : IsChange (h .station) (D.effectOf (h .station) s r) c) where
+    change-is : changedBy (h .station) c ≡ acted (h .station) s r
+    unfolding acted
+    change-is = comes-to _ _ _ d
+
+    pub change-run : (t : Bool) (s′ : List ℕ) → s′ ≡ kept (h .station) s r
+        → heldOf (record { whole = h .whole; tested = t; station = changedBy (h .station) c .station }) s′ ≡ afterRequest q (heldOf h s)
+    change-run t s′ k = request-run _ change-is _ (sym (ap (λ (b : Bool). h .whole or b) (sym cut-is ∙ n) ∙ or-false (h .whole))) refl s′ k
+
+    pub change-answered : answerBytes (c .answer) ≡ answerBytes (effectOf q (heldOf h s) .answer)
+    unfolding changedBy
+    change-answered = request-answered _ change-is
+
+    -- the soundness test says of the station what it did
+    pub change-tested : h .tested ≡ sound (h .station) → h .tested ≡ sound (changedBy (h .station) c .station)
+    change-tested t = t ∙ sym (acted-tested (h .station) s r n) ∙ ap (λ (x : Outcome). sound (x .station)) (sym change-is)
 
 -- ── one after the other ──
 -- what is left of n requests after the first i
@@ -110,11 +155,14 @@ module _ (image s b : List ℕ) (f : Current) (e : f .whole ≡ isImage image) (
   run-held l s′ h = h ∙ ap (afterRequests (requestsIn b)) first-held
 
   -- one request
-  pub one-held : (l : Current) (s′ : List ℕ) → heldOf l s′ ≡ afterRequest b (heldOf f s) → heldOf l s′ ≡ afterRequest b (heldIn image s)
-  one-held l s′ h = h ∙ ap (afterRequest b) first-held
+  module _ (l : length b ≡ requestSize) where
+    pub one-held : (c : Current) (s′ : List ℕ) → heldOf c s′ ≡ afterRequests (requestsIn b) (heldOf f s) → heldOf c s′ ≡ afterRequest b (heldIn image s)
+    unfolding afterRequests
+    one-held c s′ h = h ∙ ap₂ afterRequests (one-part b l) first-held
 
-  pub one-answered : answerBytes (effectOf b (heldOf f s) .answer) ≡ answerBytes (effectOf b (heldIn image s) .answer)
-  one-answered = ap (λ (x : Held). answerBytes (effectOf b x .answer)) first-held
+    pub one-answered : answersTo (requestsIn b) (heldOf f s) ≡ answerBytes (effectOf b (heldIn image s) .answer)
+    unfolding answersTo
+    one-answered = ap₂ answersTo (one-part b l) first-held ∙ append-nil _
 
 pub run-store : (l : Current) (s′ : List ℕ) (h : Held) → heldOf l s′ ≡ h → s′ ≡ h .store
 unfolding heldOf

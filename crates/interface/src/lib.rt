@@ -4,30 +4,31 @@ use calls::Answer;
 use calls::Station;
 use calls::scan;
 use desk::Request;
-use desk::act;
+use desk::decide;
+use desk::is_cut;
 use image::IMAGE;
-use image::id_in;
 use image::read_image;
 use image::write_image;
-use image::write_number;
+use records::id_in;
+use records::write_number;
 use sheet::Command;
 use sheet::Word;
 use sheet::command_for;
 use sheet::values_in;
+use soundness::is_sound;
 ghost use mathlib.Core.Path.{_≡_};
 ghost use mathlib.Core.Bool.{true, cond};
 ghost use Prim.Native.Nat.{_*_, _/_, _%_};
 ghost use lib.Dec.{eqb};
 ghost use lib.ListN.{length};
-ghost use Rattle.model.specs.Lists.{_or_};
 ghost use Rattle.model.specs.Stations.{emptyStation};
+ghost use Rattle.model.specs.Sound.{sound};
 ghost use Rattle.model.specs.Scan.{scan};
 ghost use Rattle.sheet.specs.Commands.{commandOf};
 ghost use Rattle.sheet.specs.Parts.{verbOf};
-ghost use Rattle.desk.specs.Acts.{callOf};
 ghost use Rattle.image.specs.Layout.{imageSize};
 ghost use Rattle.image.specs.Images.{stationBytes, stationIn, isImage};
-ghost use Rattle.interface.specs.Exchange.{requestSize, answerSize, verbNumbered, requestCall, isScan, kindOf, answerBytes, unsoundStation, heldIn, effectOf, afterRequest, afterRequests, answersTo, imageAfter, requestsIn, afterRun, answersIn, fits, fitsOne};
+ghost use Rattle.interface.specs.Exchange.{requestSize, answerSize, verbNumbered, requestCall, kindOf, answerBytes, unsoundStation, heldIn, effectOf, afterRequest, afterRequests, answersTo, imageAfter, requestsIn, afterRun, answersIn, fits, fitsOne};
 ghost use Rattle.interface.specs.Parts.{heldOf};
 
 // The bytes of a request and of an answer.
@@ -35,9 +36,10 @@ const REQUEST: usize = 16;
 
 const ANSWER: usize = 32;
 
-// The station between two requests, and whether the image is to be its own.
+// The station between two requests, what the soundness test says of it, and whether the image is to be its own.
 struct Current {
     whole: bool,
+    tested: bool,
     station: Station,
 }
 
@@ -110,55 +112,62 @@ pub fn write_answer(out: &mut [u8], answer: Answer)
     write_number(&mut out[24..32], v.c);
 }
 
-// The image is to be the station's after a scan, else as before.
-fn whole_after(whole: bool, command: Command) -> bool
-    ensures { λ r. ⌜ r ≡ (whole or isScan (callOf command)) ⌝ }
+// A scan answered: the station is sound, and the image is to be its own.
+fn run_scan(store: &[u8], out: &mut [u8]) -> Current
+    requires { ⌜ length (now out) ≡ answerSize ⌝ }
+    ensures { λ r. ⌜ (r .whole ≡ true) × (r .tested ≡ true) × (r .station ≡ scan (now (store .entry)) .station) × (now (out .exit) ≡ answerBytes (scan (now (store .entry)) .answer)) ⌝ }
 {
-    match command {
-        Command::Cut => true,
-        _ => whole,
-    }
-}
-
-// A request carried out and answered.
-fn run_request(current: Current, store: &mut [u8], request: &[u8], out: &mut [u8]) -> Current
-    requires { ⌜ (length (now request) ≡ requestSize) × (length (now out) ≡ answerSize) ⌝ }
-    ensures { λ r. ⌜ (heldOf r (now (store .exit)) ≡ afterRequest (now (request .entry)) (heldOf current (now (store .entry)))) × (now (out .exit) ≡ answerBytes (effectOf (now (request .entry)) (heldOf current (now (store .entry))) .answer)) ⌝ }
-{
-    let command = command_in(request);
-    let whole = whole_after(current.whole, command);
-    let station = current.station;
-    let outcome = act(station, store, Request { command });
-    let answer = outcome.answer;
-    write_answer(out, answer);
-    let next = outcome.station;
+    let scanned = scan(store);
+    let said = scanned.answer;
+    let station = scanned.station;
+    write_answer(out, said);
     Current {
-        whole,
-        station: next,
+        whole: true,
+        tested: true,
+        station,
     }
 }
 
-// Requests one after the other.
+// Requests one after the other. The station is changed in place, and its soundness was tested once: a call leaves it as it was.
 fn run_requests(first: Current, store: &mut [u8], requests: &[u8], answers: &mut [u8]) -> Current
     requires { ⌜ (length (now requests) % requestSize ≡ 0) × (length (now answers) ≡ answerSize * (length (now requests) / requestSize)) ⌝ }
+    requires { ⌜ first .tested ≡ sound (first .station) ⌝ }
     ensures { λ r. ⌜ (heldOf r (now (store .exit)) ≡ afterRequests (requestsIn (now (requests .entry))) (heldOf first (now (store .entry)))) × (now (answers .exit) ≡ answersTo (requestsIn (now (requests .entry))) (heldOf first (now (store .entry)))) ⌝ }
 {
     let count = requests.len() / REQUEST;
-    let mut current = first;
+    let mut whole = first.whole;
+    let mut tested = first.tested;
+    let start = first.station;
+    let mut station = start;
     let mut i = 0;
     while i < count {
         let from = REQUEST * i;
         let to = ANSWER * i;
-        let next = run_request(
-            current,
-            store,
-            &requests[from..from + REQUEST],
-            &mut answers[to..to + ANSWER],
-        );
-        current = next;
         i += 1;
+        let command = command_in(&requests[from..from + REQUEST]);
+        if is_cut(command) {
+            let found = run_scan(store, &mut answers[to..to + ANSWER]);
+            whole = found.whole;
+            tested = found.tested;
+            let next = found.station;
+            station = next;
+            continue;
+        }
+        let change = decide(station, store, Request { command, tested });
+        let place = change.place;
+        let live = change.live;
+        station.live[place] = live;
+        let slot = change.slot;
+        let entry = change.entry;
+        station.entries[slot] = entry;
+        let answer = change.answer;
+        write_answer(&mut answers[to..to + ANSWER], answer);
     }
-    current
+    Current {
+        whole,
+        tested,
+        station,
+    }
 }
 
 // A station that is not sound: an entry with a count and no id.
@@ -174,16 +183,25 @@ fn unsound_station() -> Station
 
 // What is held at first: the image's station, or where it has none one that every call but a scan refuses.
 fn current_in(image: &[u8]) -> Current
-    ensures { λ r. ⌜ (r .whole ≡ isImage (now (image .entry))) × (r .station ≡ cond (isImage (now (image .entry))) (stationIn (now (image .entry))) unsoundStation) ⌝ }
+    ensures { λ r. ⌜ (r .whole ≡ isImage (now (image .entry))) × (r .station ≡ cond (isImage (now (image .entry))) (stationIn (now (image .entry))) unsoundStation) × (r .tested ≡ sound (r .station)) ⌝ }
 {
     let read = read_image(image);
     let whole = read.whole;
     if whole {
         let station = read.station;
-        return Current { whole, station };
+        let tested = is_sound(station);
+        return Current {
+            whole,
+            tested,
+            station,
+        };
     }
     let station = unsound_station();
-    Current { whole, station }
+    Current {
+        whole,
+        tested: false,
+        station,
+    }
 }
 
 // The image afterwards: the station's own, or as it was.
@@ -282,7 +300,7 @@ pub extern "C" fn gorehimu_call(
         return 1;
     }
     let first = current_in(image);
-    let last = run_request(first, store, request, answer);
+    let last = run_requests(first, store, request, answer);
     keep(image, last);
     0
 }
@@ -297,10 +315,8 @@ pub extern "C" fn gorehimu_recover(image: &mut [u8], store: &[u8], answer: &mut 
     if !one_fits(image.len(), REQUEST, answer.len()) {
         return 1;
     }
-    let scanned = scan(store);
-    let said = scanned.answer;
-    let station = scanned.station;
-    write_answer(answer, said);
+    let found = run_scan(store, answer);
+    let station = found.station;
     write_image(image, station);
     0
 }

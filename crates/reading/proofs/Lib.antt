@@ -1,6 +1,7 @@
 pub mod Order
 pub mod Loops
 pub mod Marks
+pub mod Rows
 pub mod Bounds
 pub mod Seen
 pub mod Search

@@ -1,17 +1,15 @@
 -- Laws of loops over a list: what is known of the elements passed, and an array that is filled from its front.
-use Prim.Native.Nat.{ℕ, zero, suc, _+_, _<_, _≤_, min}
-use mathlib.Core.Path.{_≡_, refl, sym, ap, subst, _∙_}
+use Prim.Native.Nat.{ℕ, _+_, _<_, _≤_, min}
+use mathlib.Core.Path.{_≡_, sym, ap, subst, _∙_}
 use mathlib.Core.Logic.{⊎-elim}
 use mathlib.Core.Bool.{Bool, true, false, true≢false}
 use mathlib.Core.List.{List}
 use lib.ListN.{length, take, getD, set, length-take, length-set, List·getD-eq-default}
 use lib.Seq.{getD-take}
-use native.Mathlib.Nat.{not-suc-le-zero}
 use native.Mathlib.Decide.{ℕ-discrete, decLt}
 use native.Mathlib.Omega.{arith}
-use native.Mathlib.Numerals.{add-one}
-use Rattle.model.specs.Lists.{_or_, all, any, anyBelow}
-use Rattle.model.proofs.Tests.{or-none, or-intro-left, or-intro-right, bool-cases}
+use Rattle.model.specs.Lists.{all, any}
+use Rattle.model.proofs.Tests.{bool-cases}
 use Rattle.model.proofs.ListLaws.{at-set, all-at, all-of, any-at, any-none-of}
 
 -- one more passed
@@ -21,25 +19,6 @@ below-more P i f q j o = go (ℕ-discrete j i)
     go : Dec (j ≡ i) → P j
     go (yes e) = subst P (sym e) q
     go (no n) = f j (omega arith)
-
--- some number below n passes
-module _ (p : ℕ → Bool) where
-  pub none-yet : anyBelow p 0 ≡ false
-  unfolding anyBelow
-  none-yet = refl
-
-  pub none-more : (i : ℕ) → anyBelow p i ≡ false → p i ≡ false → anyBelow p (i + 1) ≡ false
-  unfolding anyBelow
-  none-more i h e = rw add-one (or-none _ _ e h)
-
-  pub some-at : (n i : ℕ) → i < n → p i ≡ true → anyBelow p n ≡ true
-  unfolding anyBelow
-  some-at zero i o h = absurd (not-suc-le-zero o)
-  some-at (suc n) i o h = go (ℕ-discrete i n) (some-at n i)
-    where
-      go : Dec (i ≡ n) → (i < n → p i ≡ true → anyBelow p n ≡ true) → (p n or anyBelow p n) ≡ true
-      go (yes e) ih = or-intro-left _ _ (ap p (sym e) ∙ h)
-      go (no m) ih = or-intro-right _ _ (ih (omega arith) h)
 
 -- n elements, of which the first i are f's
 abbrev pub Filled : {A : Type 0} → (ℕ → A) → A → ℕ → ℕ → List A → Type 0

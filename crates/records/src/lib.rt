@@ -39,7 +39,7 @@ pub struct Slot {
 }
 
 // The number that bytes make, least byte first: from the last byte down, so that no power of 256 is kept.
-fn number_in(part: &[u8]) -> u64
+pub fn number_in(part: &[u8]) -> u64
     requires { ⌜ length (now part) ≤ 8 ⌝ }
     ensures { λ r. ⌜ (r ≡ number (now (part .entry))) × (r < byteRange ^ length (now (part .entry))) ⌝ }
 {
@@ -60,9 +60,9 @@ pub fn value_in(r: &[u8]) -> u64
     number_in(&r[16..24])
 }
 
-// The id of either kind of record.
-fn id_in(r: &[u8]) -> Id
-    requires { ⌜ length (now r) ≡ recordSize ⌝ }
+// The id of either kind of record: transaction and clock, in the first 16 bytes.
+pub fn id_in(r: &[u8]) -> Id
+    requires { ⌜ 16 ≤ length (now r) ⌝ }
     ensures { λ i. ⌜ i ≡ idIn (now (r .entry)) ⌝ }
 {
     let txn = number_in(&r[4..8]) as u32;
@@ -278,7 +278,7 @@ pub fn read_slot(w: &[u8]) -> Slot
 }
 
 // A number's bytes, least byte first, over the part lent.
-fn write_number(part: &mut [u8], x: u64)
+pub fn write_number(part: &mut [u8], x: u64)
     ensures { λ _. ⌜ now (part .exit) ≡ bytes (length (now (part .entry))) x ⌝ }
 {
     let mut rest = x;
@@ -303,7 +303,7 @@ fn write_head(part: &mut [u8], first: u8, second: u8, id: Id)
     write_number(&mut part[8..16], id.clock);
 }
 
-fn write_keys(part: &mut [u8], keys: [u8; Station::WRITES])
+pub fn write_keys(part: &mut [u8], keys: [u8; Station::WRITES])
     requires { ⌜ length (now part) ≡ writeLimit ⌝ }
     ensures { λ _. ⌜ now (part .exit) ≡ keys ⌝ }
 {

@@ -10,8 +10,10 @@ use sheet::print_header;
 use stream::finish;
 use stream::run_block;
 ghost use mathlib.Core.Path.{_≡_};
+ghost use mathlib.Core.Bool.{true};
 ghost use Prim.Native.Nat.{_+_, _^_, _≤_, _<_};
 ghost use lib.ListN.{length};
+ghost use Rattle.model.specs.Sound.{sound};
 
 // The bytes of a store, of a line that are kept, of a read and of the output's buffer.
 const STORE: usize = 13824;
@@ -79,7 +81,7 @@ fn block_end(start: usize, len: usize) -> usize
 }
 
 fn after_read(station: Station, len: usize, number: u64, written: bool) -> Progress
-    ensures { λ r. ⌜ (r .len ≡ len) × (r .number ≡ number) ⌝ }
+    ensures { λ r. ⌜ (r .len ≡ len) × (r .number ≡ number) × (r .station ≡ station) ⌝ }
 {
     Progress {
         station,
@@ -99,8 +101,8 @@ fn run_read(
     input: &[u8],
     out: &mut [u8],
 ) -> Progress
-    requires { ⌜ (length (now part) ≡ 65) × (len ≤ 65) × (number + length (now input) < 2 ^ 64) × (length (now out) ≡ 131072) ⌝ }
-    ensures { λ r. ⌜ (r .len ≤ 65) × (r .number ≤ number + length (now (input .entry))) ⌝ }
+    requires { ⌜ (length (now part) ≡ 65) × (len ≤ 65) × (number + length (now input) < 2 ^ 64) × (length (now out) ≡ 131072) × (sound station ≡ true) ⌝ }
+    ensures { λ r. ⌜ (r .len ≤ 65) × (r .number ≤ number + length (now (input .entry))) × (sound (r .station) ≡ true) ⌝ }
 {
     let mut s = station;
     let mut n = len;
@@ -135,7 +137,7 @@ fn run_end(
     number: u64,
     out: &mut [u8],
 ) -> Stop
-    requires { ⌜ (length (now part) ≡ 65) × (len ≤ 65) × (number + 1 < 2 ^ 64) × (length (now out) ≡ 131072) ⌝ }
+    requires { ⌜ (length (now part) ≡ 65) × (len ≤ 65) × (number + 1 < 2 ^ 64) × (length (now out) ≡ 131072) × (sound station ≡ true) ⌝ }
 {
     let used = finish(station, store, part, len, number, out);
     if io::write_all(STDOUT_FILENO, &out[..used]) {
@@ -152,7 +154,7 @@ fn run_sheet(
     input: &mut [u8],
     out: &mut [u8],
 ) -> Stop
-    requires { ⌜ (length (now part) ≡ 65) × (length (now input) ≡ 65536) × (length (now out) ≡ 131072) ⌝ }
+    requires { ⌜ (length (now part) ≡ 65) × (length (now input) ≡ 65536) × (length (now out) ≡ 131072) × (sound started ≡ true) ⌝ }
 {
     let mut station = started;
     let mut len = 0;
@@ -188,7 +190,7 @@ fn run_all(
     input: &mut [u8],
     out: &mut [u8],
 ) -> Stop
-    requires { ⌜ (length (now part) ≡ 65) × (length (now input) ≡ 65536) × (length (now out) ≡ 131072) ⌝ }
+    requires { ⌜ (length (now part) ≡ 65) × (length (now input) ≡ 65536) × (length (now out) ≡ 131072) × (sound started ≡ true) ⌝ }
 {
     let n = print_header(out);
     if !io::write_all(STDOUT_FILENO, &out[..n]) {
@@ -218,7 +220,7 @@ fn report(stop: Stop) {
     }
 }
 
-// The desk starts as it does after a cut: with a scan of its store, here of zeros.
+// The desk starts as it does after a cut: with a scan of its store, here of zeros. What a scan hands back is sound.
 fn main() {
     let mut store = [0u8; STORE];
     let scanned = scan(&store);

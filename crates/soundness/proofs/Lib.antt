@@ -1,3 +1,4 @@
 pub mod Loops
+pub mod Distinct
 pub mod PartLaws
 pub mod Whole

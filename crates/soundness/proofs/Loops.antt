@@ -1,20 +1,19 @@
 -- Laws of a list that a loop goes through: what a test of the rest comes to, one element further.
-use Prim.Native.Nat.{ℕ, zero, suc, _+_, _-_, _<_, _≤_}
-use mathlib.Core.Path.{_≡_, refl, sym, ap, subst, _∙_}
-use mathlib.Core.Logic.{_≢_, _⊎_, inl, inr}
-use mathlib.Core.Bool.{Bool, true, false, not, true≢false}
+use Prim.Native.Nat.{ℕ, suc, _+_, _-_, _<_, _≤_}
+use mathlib.Core.Path.{_≡_, sym, ap, _∙_}
+use mathlib.Core.Logic.{_⊎_, inl, inr}
+use mathlib.Core.Bool.{Bool, true, false}
 use mathlib.Core.List.{List, [], _∷_, _++_, append-assoc}
-use lib.Dec.{eqb, leb}
+use lib.Dec.{leb}
 use lib.ListN.{length, take, drop, getD, set, drop-of-length-le}
 use lib.Seq.{take-suc-set, take-all, take-suc, drop-cons}
-use native.Mathlib.Nat.{zero-lt-suc, lt-irrefl}
 use native.Mathlib.Omega.{arith}
 use native.Mathlib.Numerals.{add-one}
-use borrow.Author.Tests.{eqb-true, ltb-true, leb-true, leb-false, le-leb, lt-leb, eq-eqb, ne-eqb}
-use Rattle.model.specs.Lists.{_and_, _or_, all, any, first, count, member, distinct}
+use borrow.Author.Tests.{ltb-true, leb-true, leb-false, le-leb, lt-leb}
+use Rattle.model.specs.Lists.{_and_, all, any, first, count}
 use Rattle.model.specs.Limits.{keys}
 use Rattle.model.proofs.Tests.{and-right, bool-cases}
-use Rattle.model.proofs.ListLaws.{any-yes, any-no, count-yes, count-no}
+use Rattle.model.proofs.ListLaws.{count-yes, count-no}
 use Rattle.soundness.specs.Parts.{fits, setRight}
 
 -- ── all, any, count, first ──
@@ -73,81 +72,6 @@ module _ {A : Type 0} (p : A → Bool) (xs : List A) (i : ℕ) where
       go : (p (getD xs i d) ≡ true) ⊎ (p (getD xs i d) ≡ false) → all p (drop i xs) ≡ (p (getD xs i d) and all p (drop (i + 1) xs))
       go (inl e) = all-more d h e ∙ ap (λ (b : Bool). b and all p (drop (i + 1) xs)) (sym e)
       go (inr e) = all-stop d h e ∙ ap (λ (b : Bool). b and all p (drop (i + 1) xs)) (sym e)
-
--- ── distinct ──
-module _ (xs : List ℕ) (i : ℕ) where
-  pub distinct-zero : i < length xs → getD xs i 0 ≡ 0 → distinct (drop i xs) ≡ distinct (drop (i + 1) xs)
-  unfolding distinct _or_
-  distinct-zero h e = rw (add-one i, drop-cons xs i 0 h, eq-eqb (getD xs i 0) 0 e, distinct)
-
-  distinct-new : i < length xs → getD xs i 0 ≢ 0 → member (getD xs i 0) (drop (i + 1) xs) ≡ false → distinct (drop i xs) ≡ distinct (drop (i + 1) xs)
-  unfolding distinct _or_
-  distinct-new h n e = rw (drop-cons xs i 0 h, sym (add-one i), ne-eqb (getD xs i 0) 0 n, e, distinct) (ap (λ (k : ℕ). distinct (drop k xs)) (sym (add-one i)))
-
-  distinct-old : i < length xs → getD xs i 0 ≢ 0 → member (getD xs i 0) (drop (i + 1) xs) ≡ true → distinct (drop i xs) ≡ false
-  unfolding distinct _or_
-  distinct-old h n e = rw (drop-cons xs i 0 h, sym (add-one i), ne-eqb (getD xs i 0) 0 n, e, distinct)
-
-  pub distinct-end : length xs ≤ i → distinct (drop i xs) ≡ true
-  unfolding distinct
-  distinct-end h = rw (drop-of-length-le xs h)
-
--- the count tells it: a number stands twice where it is counted more than once
-module _ {A : Type 0} (p : A → Bool) where
-  any-counted : (xs : List A) → any p xs ≡ leb 1 (count p xs)
-  unfolding any count
-  any-counted [] = refl
-  any-counted (x ∷ xs) = go (bool-cases (p x)) (any-counted xs)
-    where
-      go : (p x ≡ true) ⊎ (p x ≡ false) → any p xs ≡ leb 1 (count p xs) → any p (x ∷ xs) ≡ leb 1 (count p (x ∷ xs))
-      go (inl e) ih = any-yes p x xs e ∙ sym (le-leb 1 (count p (x ∷ xs)) (omega (arith, count-yes p x xs e)))
-      go (inr e) ih = any-no p x xs e ∙ ih ∙ ap (leb 1) (sym (count-no p x xs e))
-
-  count-drop : (i : ℕ) (xs : List A) → count p (drop i xs) ≤ count p xs
-  count-drop zero xs = omega arith
-  count-drop (suc i) [] = omega arith
-  count-drop (suc i) (x ∷ xs) = go (bool-cases (p x)) (count-drop i xs)
-    where
-      go : (p x ≡ true) ⊎ (p x ≡ false) → count p (drop i xs) ≤ count p xs → count p (drop i xs) ≤ count p (x ∷ xs)
-      go (inl e) ih = omega (arith, ih, count-yes p x xs e)
-      go (inr e) ih = omega (arith, ih, count-no p x xs e)
-
-distinct-tail : (x : ℕ) (xs : List ℕ) → distinct (x ∷ xs) ≡ true → distinct xs ≡ true
-unfolding distinct
-distinct-tail x xs h = go (bool-cases (eqb x 0 or not (member x xs)))
-  where
-    go : ((eqb x 0 or not (member x xs)) ≡ true) ⊎ ((eqb x 0 or not (member x xs)) ≡ false) → distinct xs ≡ true
-    go (inl e) = rw (e, distinct) at h
-    go (inr e) = absurd (true≢false (sym (rw (e, distinct) at h)))
-
--- the number at place i stands once: not after i, so the rest decides
-pub distinct-once : (xs : List ℕ) (i : ℕ) → i < length xs → getD xs i 0 ≢ 0 → count (eqb (getD xs i 0)) xs ≤ 1 → distinct (drop i xs) ≡ distinct (drop (i + 1) xs)
-unfolding member
-distinct-once xs i h n c =
-    let x : ℕ = getD xs i 0 in
-    let e : count (eqb x) (drop i xs) ≡ suc (count (eqb x) (drop (i + 1) xs)) = count-more (eqb x) xs i 0 h (eq-eqb x x refl) in
-    let z : count (eqb x) (drop (i + 1) xs) < 1 = omega (arith, e, c, count-drop (eqb x) i xs) in
-    distinct-new xs i h n (any-counted (eqb x) (drop (i + 1) xs) ∙ lt-leb 1 (count (eqb x) (drop (i + 1) xs)) z)
-
--- where no number but 0 stands twice, each stands once at most
-once-count : (x : ℕ) (xs : List ℕ) → x ≢ 0 → distinct xs ≡ true → count (eqb x) xs ≤ 1
-unfolding count member
-once-count x [] n h = omega arith
-once-count x (y ∷ ys) n h = go (bool-cases (eqb x y)) (bool-cases (member x ys)) (once-count x ys n (distinct-tail y ys h))
-  where
-    go : (eqb x y ≡ true) ⊎ (eqb x y ≡ false) → (member x ys ≡ true) ⊎ (member x ys ≡ false) → count (eqb x) ys ≤ 1 → count (eqb x) (y ∷ ys) ≤ 1
-    go (inr e) m ih = omega (arith, ih, count-no (eqb x) y ys e)
-    go (inl e) (inr m) ih = omega (arith, count-yes (eqb x) y ys e, leb-false 1 (count (eqb x) ys) (sym (any-counted (eqb x) ys) ∙ m))
-    go (inl e) (inl m) ih =
-        let q : x ≡ y = eqb-true x y e in
-        absurd (true≢false (sym h ∙ distinct-old (y ∷ ys) 0 (zero-lt-suc _) (λ z. n (q ∙ z)) (subst (λ (k : ℕ). member k ys ≡ true) q m)))
-
-pub distinct-twice : (x : ℕ) (xs : List ℕ) → x ≢ 0 → 1 < count (eqb x) xs → distinct xs ≡ false
-distinct-twice x xs n c = go (bool-cases (distinct xs))
-  where
-    go : (distinct xs ≡ true) ⊎ (distinct xs ≡ false) → distinct xs ≡ false
-    go (inl e) = absurd (lt-irrefl 1 (omega (arith, c, once-count x xs n e)))
-    go (inr e) = e
 
 -- ── sets: ascending keys, then zeros ──
 module _ {A : Type 0} (key : A → ℕ) (isZero : A → Bool) (lo n : ℕ) (xs : List A) (j : ℕ) (d : A) (h : j < length xs) where

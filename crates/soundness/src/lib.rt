@@ -338,20 +338,26 @@ fn times(xs: &[u32], x: u32) -> u32
     n
 }
 
-// No number but 0 stands twice.
+// No number but 0 stands twice. Numbers are told apart by their last byte first: only where it was seen before is a number counted.
 fn differ(xs: &[u32]) -> bool
     requires { ⌜ length (now xs) ≤ 72 ⌝ }
     ensures { λ r. ⌜ r ≡ distinct (now (xs .entry)) ⌝ }
 {
+    let mut seen = [false; 256];
     let mut i = 0;
     while i < xs.len() {
         let x = xs[i];
         i += 1;
-        if x != 0 {
+        if x == 0 {
+            continue;
+        }
+        let byte = (x % 256) as usize;
+        if seen[byte] {
             if 1 < times(xs, x) {
                 return false;
             }
         }
+        seen[byte] = true;
     }
     true
 }

@@ -5,3 +5,4 @@ pub mod Joined
 pub mod Free
 pub mod Sets
 pub mod Callers
+pub mod Changes

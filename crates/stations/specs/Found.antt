@@ -1,13 +1,14 @@
 -- Names for what the contracts of this crate say of lists.
 use Prim.Native.Nat.{ℕ}
 use mathlib.Core.Bool.{Bool, cond}
-use mathlib.Core.List.{List, _∷_, _++_}
+use mathlib.Core.List.{List, [], _∷_, _++_}
 use lib.Dec.{eqb, leb}
 use lib.ListN.{take, drop}
 use Rattle.model.specs.declared.Live.{Live}
 use Rattle.model.specs.declared.Entry.{Entry}
+use Rattle.model.specs.declared.Station.{Station}
 use Rattle.model.specs.Limits.{keys, livePlaces}
-use Rattle.model.specs.Stations.{slotMark}
+use Rattle.model.specs.Stations.{slotMark, liveAt}
 
 -- the transaction at a place, and of an entry
 abbrev pub liveTxn : Live → ℕ
@@ -19,6 +20,13 @@ entryTxn e = e .id .txn
 -- the slot of a closing transaction, counted from 1
 abbrev pub phaseMark : Live → ℕ
 phaseMark l = slotMark (l .phase)
+
+-- the station that has these; the transaction at a place of these
+abbrev pub stationOf : List Live → List Entry → Station
+stationOf ls es = record { live = ls; entries = es }
+
+abbrev pub liveIn : List Live → ℕ → Live
+liveIn ls i = liveAt (stationOf ls []) i
 
 module _ {A : Type 0} where
   -- has a key that is k or greater

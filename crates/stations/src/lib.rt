@@ -2,12 +2,12 @@
 ghost use mathlib.Core.Path.{_≡_};
 ghost use mathlib.Core.Bool.{true, false, not, cond};
 ghost use mathlib.Core.List.{map};
-ghost use Prim.Native.Nat.{_≤_};
+ghost use Prim.Native.Nat.{_<_, _≤_};
 ghost use lib.Dec.{eqb, leb};
 ghost use lib.ListN.{length, take};
 ghost use Rattle.model.specs.Lists.{_and_, first, member, anyBelow};
-ghost use Rattle.model.specs.Limits.{slots, writeLimit, readLimit};
-ghost use Rattle.model.specs.Stations.{noLive, noEntry, writesOf, readsOf, writeKey, readKey, hasWritten, hasRead, valueUnder, isClosing, closingClock, slotMark, isFree};
+ghost use Rattle.model.specs.Limits.{livePlaces, slots, writeLimit, readLimit};
+ghost use Rattle.model.specs.Stations.{noLive, noEntry, writesOf, readsOf, writeKey, readKey, hasWritten, hasRead, valueUnder, isClosing, closingClock, slotMark, isFree, setLive, setEntry};
 ghost use Rattle.model.specs.Sound.{setsRight, zeroPastCounts};
 ghost use Rattle.model.specs.Records.{recordOf};
 ghost use Rattle.model.specs.Start.{opened};
@@ -15,8 +15,9 @@ ghost use Rattle.model.specs.Put.{withWrite};
 ghost use Rattle.model.specs.Get.{withRead};
 ghost use Rattle.model.specs.Commit.{withPhase, highestFree};
 ghost use Rattle.model.specs.Step.{entryFor};
-ghost use Rattle.model.specs.Effects.{outcomeOf, says};
-ghost use Rattle.stations.specs.Found.{liveTxn, entryTxn, phaseMark, atLeast, joined, namedRow};
+ghost use Rattle.model.specs.Effects.{says};
+ghost use Rattle.stations.specs.Changes.{changedBy, IsChange};
+ghost use Rattle.stations.specs.Found.{liveTxn, entryTxn, phaseMark, stationOf, liveIn, atLeast, joined, namedRow};
 use model::Answer;
 use model::Entry;
 use model::Id;
@@ -96,6 +97,21 @@ pub fn place_of(live: [Live; 8], txn: u32) -> usize
     8
 }
 
+// The transaction at a place. The places are gone through one by one: an array that is indexed by a variable is copied whole first.
+pub fn live_at(live: [Live; 8], place: usize) -> Live
+    requires { ⌜ place < livePlaces ⌝ }
+    ensures { λ r. ⌜ r ≡ liveIn live place ⌝ }
+{
+    let mut i = 0;
+    while i < 7 {
+        if i == place {
+            return live[i];
+        }
+        i += 1;
+    }
+    live[7]
+}
+
 // The first slot whose entry is this transaction's; 64 where there is none.
 pub fn slot_of(entries: [Entry; 64], txn: u32) -> usize
     ensures { λ r. ⌜ r ≡ first (eqb txn) (map entryTxn entries) ⌝ }
@@ -154,11 +170,9 @@ fn is_marked(marks: [usize; 8], mark: usize) -> bool
 }
 
 // The highest slot that no entry and no closing transaction has; 64 where there is none.
-pub fn highest_free(station: Station) -> usize
-    ensures { λ r. ⌜ r ≡ cond (anyBelow (isFree station) slots) (highestFree station) slots ⌝ }
+pub fn highest_free(live: [Live; 8], entries: [Entry; 64]) -> usize
+    ensures { λ r. ⌜ r ≡ cond (anyBelow (isFree (stationOf live entries)) slots) (highestFree (stationOf live entries)) slots ⌝ }
 {
-    let entries = station.entries;
-    let live = station.live;
     let marks = closing_slots(live);
     let mut n = 64;
     while 0 < n {
@@ -440,12 +454,84 @@ pub fn named_row(txn: u32, key: u8, place: usize) -> u8
     0
 }
 
-// A refusal hands the station back as given.
-pub fn refused(station: Station, number: u8) -> Outcome
-    ensures { λ r. ⌜ r ≡ outcomeOf (says (Answer.Refused number 0) station) ⌝ }
+// ---- what a call comes to
+// The answer, and what one place and one slot hold afterwards: where nothing changes, what they hold already. Every call but a scan is
+// such a change.
+pub struct Change {
+    pub answer: Answer,
+    pub place: usize,
+    pub live: Live,
+    pub slot: usize,
+    pub entry: Entry,
+}
+
+// An answer that changes nothing.
+pub fn unchanged(station: Station, answer: Answer) -> Change
+    ensures { λ r. ⌜ IsChange station (says answer station) r ⌝ }
 {
+    let live = station.live[0];
+    let entry = station.entries[0];
+    Change {
+        answer,
+        place: 0,
+        live,
+        slot: 0,
+        entry,
+    }
+}
+
+// A refusal hands the station back as given.
+pub fn refused(station: Station, number: u8) -> Change
+    ensures { λ r. ⌜ IsChange station (says (Answer.Refused number 0) station) r ⌝ }
+{
+    unchanged(station, Answer::Refused(number, 0))
+}
+
+// Another transaction, or another state of one, at a place.
+pub fn live_changed(station: Station, answer: Answer, place: usize, live: Live) -> Change
+    requires { ⌜ place < livePlaces ⌝ }
+    ensures { λ r. ⌜ IsChange station (says answer (setLive station place live)) r ⌝ }
+{
+    let entry = station.entries[0];
+    Change {
+        answer,
+        place,
+        live,
+        slot: 0,
+        entry,
+    }
+}
+
+// Another entry in a slot.
+pub fn entry_changed(station: Station, answer: Answer, slot: usize, entry: Entry) -> Change
+    requires { ⌜ slot < slots ⌝ }
+    ensures { λ r. ⌜ IsChange station (says answer (setEntry station slot entry)) r ⌝ }
+{
+    let live = station.live[0];
+    Change {
+        answer,
+        place: 0,
+        live,
+        slot,
+        entry,
+    }
+}
+
+// The station with the change made, and the answer.
+pub fn changed(station: Station, change: Change) -> Outcome
+    requires { ⌜ (change .place < livePlaces) × (change .slot < slots) ⌝ }
+    ensures { λ r. ⌜ r ≡ changedBy station change ⌝ }
+{
+    let mut next = station;
+    let place = change.place;
+    let live = change.live;
+    next.live[place] = live;
+    let slot = change.slot;
+    let entry = change.entry;
+    next.entries[slot] = entry;
+    let answer = change.answer;
     Outcome {
-        answer: Answer::Refused(number, 0),
-        station,
+        station: next,
+        answer,
     }
 }

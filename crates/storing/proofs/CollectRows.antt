@@ -1,12 +1,13 @@
 -- A collect, test by test.
 use Prim.Native.Nat.{ℕ, _<_, _≤_}
-use mathlib.Core.Path.{_≡_, _∙_}
+use mathlib.Core.Path.{_≡_, sym, ap, _∙_}
 use mathlib.Core.Logic.{_≢_}
 use mathlib.Core.Bool.{true, false, not}
 use mathlib.Core.List.{List}
 use lib.Dec.{leb}
 use lib.ListN.{length}
 use borrow.Author.Tests.{le-leb, lt-leb, eq-eqb, ne-eqb}
+use Rattle.model.specs.declared.Entry.{Entry}
 use Rattle.model.specs.declared.Station.{Station}
 use Rattle.model.specs.declared.Answer.the-variants as A
 use Rattle.model.specs.Collect.{collect}
@@ -60,6 +61,7 @@ module _ (st : Station) (s : List ℕ) (d : ℕ) where
             unfolding collect
             collect-17 h = skipped 1 _ _ st _ (length-right s z) ∙ (skipped 2 _ _ st _ (sound-right st g) ∙ (skipped 14 _ _ st _ held ∙ (skipped 15 _ _ st _ (not-of-true _ p) ∙ (skipped 16 _ _ st _ r ∙ hit 17 _ _ st _ (not-of-false _ h)))))
 
-            pub collect-on : carriesEntry (recordAt s d 0) (entryAt st d) ≡ true → collect st s d ≡ saysStoring (A.Collected (entryAt st d .id)) (setEntry st d noEntry) d 0 zeroRecord
+            pub collect-on : (x : Entry) → x ≡ noEntry → carriesEntry (recordAt s d 0) (entryAt st d) ≡ true → collect st s d ≡ saysStoring (A.Collected (entryAt st d .id)) (setEntry st d x) d 0 zeroRecord
             unfolding collect
-            collect-on h = skipped 1 _ _ st _ (length-right s z) ∙ (skipped 2 _ _ st _ (sound-right st g) ∙ (skipped 14 _ _ st _ held ∙ (skipped 15 _ _ st _ (not-of-true _ p) ∙ (skipped 16 _ _ st _ r ∙ (skipped 17 _ _ st _ (not-of-true _ h) ∙ refusals-none st _)))))
+            collect-on x q h = skipped 1 _ _ st _ (length-right s z) ∙ (skipped 2 _ _ st _ (sound-right st g) ∙ (skipped 14 _ _ st _ held ∙ (skipped 15 _ _ st _ (not-of-true _ p) ∙ (skipped 16 _ _ st _ r ∙ (skipped 17 _ _ st _ (not-of-true _ h) ∙ (refusals-none st _
+                ∙ ap (λ (y : Entry). saysStoring (A.Collected (entryAt st d .id)) (setEntry st d y) d 0 zeroRecord) (sym q)))))))

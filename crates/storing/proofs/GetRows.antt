@@ -6,7 +6,7 @@ use mathlib.Core.Bool.{Bool, true, false}
 use mathlib.Core.List.{List, [], _∷_, map}
 use mathlib.Core.Option.{Option, some, none}
 use lib.Dec.{eqb}
-use lib.ListN.{length, set}
+use lib.ListN.{length}
 use native.Mathlib.Omega.{arith}
 use borrow.Author.Tests.{le-leb, lt-leb, eq-eqb, ne-eqb}
 use Rattle.model.specs.declared.Read.{Read}
@@ -14,7 +14,7 @@ use Rattle.model.specs.declared.Live.{Live}
 use Rattle.model.specs.declared.Entry.{Entry}
 use Rattle.model.specs.declared.Station.{Station}
 use Rattle.model.specs.declared.Answer.the-variants as A
-use Rattle.model.specs.Effects.{Effect, outcomeOf, says, _when_, refusals, wrongLength, unsound}
+use Rattle.model.specs.Effects.{Effect, says, _when_, refusals, wrongLength, unsound}
 use Rattle.model.specs.Get.{choiceOf, withRead, versionAt, noRoom, notCarried, answered, get}
 use Rattle.model.specs.Limits.{keys, storeSize}
 use Rattle.model.specs.Lists.{first, any}
@@ -54,9 +54,9 @@ chosen-none es rs k h = go (any (λ e. wrote e k) es) (newest (passes es rs k) e
     go true none e = let y : _≡_ {A = ℕ} 0 1 = cc in absurd (omega arith)
     go false none e = refl
 
-pub choice-own : (st : Station) (l : Live) (k : ℕ) → hasWritten k l ≡ true → choiceOf st l k ≡ own (valueUnder k (writesOf l))
+pub choice-own : (st : Station) (l : Live) (k v : ℕ) → v ≡ valueUnder k (writesOf l) → hasWritten k l ≡ true → choiceOf st l k ≡ own v
 unfolding choiceOf
-choice-own st l k h = rw h
+choice-own st l k v q h = rw (h, q)
 
 pub choice-read : (st : Station) (l : Live) (k : ℕ) → hasWritten k l ≡ false → choiceOf st l k ≡ choose (st .entries) (readsOf l) k
 unfolding choiceOf
@@ -94,50 +94,49 @@ module _ (st : Station) (s : List ℕ) (t k : ℕ) where
           (λ n o h _. get-8 n o (place-none st t i q y h))
           (λ _ _ _ h. absurd (h refl)))
 
-  module _ (i : ℕ) (f : Placed st s t k i) where
-    -- from row 9 on, at the transaction's place
-    rows : ℕ → Effect
-    rows j = refusals (9 when isClosing (liveAt st j .phase) ∷ 12 when noRoom (liveAt st j) k (choiceOf st (liveAt st j) k) ∷ 17 when notCarried st s k (choiceOf st (liveAt st j) k) ∷ []) st
-        (answered st s j k (choiceOf st (liveAt st j) k))
+  module _ (i : ℕ) (f : Placed st s t k i) (l : Live) (q : l ≡ liveAt st i) where
+    -- from row 9 on, with transaction x at place j
+    rows : ℕ → Live → Effect
+    rows j x = refusals (9 when isClosing (x .phase) ∷ 12 when noRoom x k (choiceOf st x k) ∷ 17 when notCarried st s k (choiceOf st x k) ∷ []) st (answered st s j k (choiceOf st x k))
 
-    get-rows : get st s t k ≡ rows i
+    get-rows : get st s t k ≡ rows i l
     unfolding get rows
     get-rows = skipped 1 _ _ st _ (length-right s (f .size)) ∙ (skipped 2 _ _ st _ (sound-right st (f .right)) ∙ (skipped 3 _ _ st _ (ne-eqb t 0 (f .number)) ∙ (skipped 4 _ _ st _ (lt-leb keys k (f .key)) ∙ (skipped 8 _ _ st _ (not-of-true _ (f .live))
-        ∙ ap rows (sym (f .place))))))
+        ∙ (ap (λ (j : ℕ). rows j (liveAt st j)) (sym (f .place)) ∙ ap (rows i) (sym q))))))
 
-    pub get-9 : isClosing (liveAt st i .phase) ≡ true → get st s t k ≡ says (A.Refused 9 0) st
+    pub get-9 : isClosing (l .phase) ≡ true → get st s t k ≡ says (A.Refused 9 0) st
     unfolding rows
     get-9 h = get-rows ∙ hit 9 _ _ st _ h
 
-    module _ (p : isClosing (liveAt st i .phase) ≡ false) where
-      chosen-rows : (ch : Choice) → choiceOf st (liveAt st i) k ≡ ch → get st s t k ≡ refusals (12 when noRoom (liveAt st i) k ch ∷ 17 when notCarried st s k ch ∷ []) st (answered st s i k ch)
+    module _ (p : isClosing (l .phase) ≡ false) where
+      chosen-rows : (ch : Choice) → choiceOf st l k ≡ ch → get st s t k ≡ refusals (12 when noRoom l k ch ∷ 17 when notCarried st s k ch ∷ []) st (answered st s i k ch)
       unfolding rows
-      chosen-rows ch h = get-rows ∙ (skipped 9 _ _ st _ p ∙ ap (λ (x : Choice). refusals (12 when noRoom (liveAt st i) k x ∷ 17 when notCarried st s k x ∷ []) st (answered st s i k x)) h)
+      chosen-rows ch h = get-rows ∙ (skipped 9 _ _ st _ p ∙ ap (λ (x : Choice). refusals (12 when noRoom l k x ∷ 17 when notCarried st s k x ∷ []) st (answered st s i k x)) h)
 
-      pub get-own : (v : ℕ) → choiceOf st (liveAt st i) k ≡ own v → get st s t k ≡ says (A.Own v) st
+      pub get-own : (v : ℕ) → choiceOf st l k ≡ own v → get st s t k ≡ says (A.Own v) st
       unfolding noRoom notCarried answered refusals
       get-own v h = chosen-rows (own v) h
 
-      pub get-none : choiceOf st (liveAt st i) k ≡ absent → get st s t k ≡ says A.None st
+      pub get-none : choiceOf st l k ≡ absent → get st s t k ≡ says A.None st
       unfolding noRoom notCarried answered refusals
       get-none h = chosen-rows absent h
 
-      pub get-nofit : choiceOf st (liveAt st i) k ≡ nofit → get st s t k ≡ says A.Nofit st
+      pub get-nofit : choiceOf st l k ≡ nofit → get st s t k ≡ says A.Nofit st
       unfolding noRoom notCarried answered refusals
       get-nofit h = chosen-rows nofit h
 
-      module _ (d : ℕ) (c : choiceOf st (liveAt st i) k ≡ version d) where
-        pub get-12 : noRoom (liveAt st i) k (version d) ≡ true → get st s t k ≡ says (A.Refused 12 0) st
+      module _ (d : ℕ) (c : choiceOf st l k ≡ version d) where
+        pub get-12 : noRoom l k (version d) ≡ true → get st s t k ≡ says (A.Refused 12 0) st
         get-12 h = chosen-rows (version d) c ∙ hit 12 _ _ st _ h
 
-        module _ (r : noRoom (liveAt st i) k (version d) ≡ false) where
+        module _ (r : noRoom l k (version d) ≡ false) where
           pub get-17 : carriesVersion (versionAt st s k d) k (entryAt st d .id) ≡ false → get st s t k ≡ says (A.Refused 17 0) st
           unfolding notCarried
           get-17 h = chosen-rows (version d) c ∙ (skipped 12 _ _ st _ r ∙ hit 17 _ _ st _ (not-of-false _ h))
 
-          pub get-version : (v : ℕ) (m : Live) → carriesVersion (versionAt st s k d) k (entryAt st d .id) ≡ true → v ≡ valueIn (versionAt st s k d) → m ≡ withRead k (entryAt st d .id) (liveAt st i)
-              → record { answer = A.Version v (entryAt st d .id); station = record { live = set (st .live) i m; entries = st .entries } } ≡ outcomeOf (get st s t k)
-          unfolding notCarried answered outcomeOf says setLive
+          pub get-version : (v : ℕ) (m : Live) → carriesVersion (versionAt st s k d) k (entryAt st d .id) ≡ true → v ≡ valueIn (versionAt st s k d) → m ≡ withRead k (entryAt st d .id) l
+              → get st s t k ≡ says (A.Version v (entryAt st d .id)) (setLive st i m)
+          unfolding notCarried answered
           get-version v m h ev em =
-              ap₂ {B = Live} (λ (x : ℕ) (y : Live). outcomeOf (says (A.Version x (entryAt st d .id)) (setLive st i y))) ev em
-              ∙ sym (ap outcomeOf (chosen-rows (version d) c ∙ (skipped 12 _ _ st _ r ∙ (skipped 17 _ _ st _ (not-of-true _ h) ∙ refusals-none st _))))
+              chosen-rows (version d) c ∙ (skipped 12 _ _ st _ r ∙ (skipped 17 _ _ st _ (not-of-true _ h) ∙ (refusals-none st _
+              ∙ sym (ap₂ {B = Live} (λ (x : ℕ) (y : Live). says (A.Version x (entryAt st d .id)) (setLive st i y)) ev (em ∙ ap (withRead k (entryAt st d .id)) q)))))

@@ -1,4 +1,4 @@
--- A record as a part of a store, what a call hands back, and the place of a call's transaction.
+-- A record as a part of a store, the change that a call comes to, and the place of a call's transaction.
 use Prim.Native.Nat.{ℕ, _+_, _*_, _-_, _<_}
 use mathlib.Core.Path.{_≡_, sym, ap, ap₂, subst, _∙_}
 use mathlib.Core.Logic.{_≢_}
@@ -11,9 +11,7 @@ use native.Mathlib.Omega.{arith}
 use borrow.Rule.Slice.PartMut.{putMid}
 use borrow.Author.Tests.{eq-eqb}
 use Rattle.model.specs.declared.Station.{Station}
-use Rattle.model.specs.declared.Outcome.{Outcome}
 use Rattle.model.specs.declared.Answer.{Answer}
-use Rattle.model.specs.declared.Answer.the-variants as A
 use Rattle.model.specs.Effects.{Effect, stored, outcomeOf, says, saysStoring, wrongLength, unsound}
 use Rattle.model.specs.Limits.{keys, livePlaces, recordSize, slotSize, storeSize}
 use Rattle.model.specs.Lists.{first}
@@ -24,6 +22,9 @@ use Rattle.model.proofs.SoundFacts.{live-facts}
 use Rattle.model.proofs.SoundLaws.{Used}
 use Rattle.model.proofs.StationLaws.{place-hit}
 use Rattle.model.proofs.Tests.{not-of-true}
+use Rattle.stations.specs.declared.Change.{Change}
+use Rattle.stations.proofs.Changes.{as-outcome, as-effect}
+use Rattle.stations.specs.Changes.{IsChange}
 use Rattle.stations.specs.Found.{liveTxn, namedRow}
 use Rattle.stations.proofs.Callers.{place-eq, place-live, named-elim}
 
@@ -45,20 +46,15 @@ record-part s d n at q =
     let p : at ≡ recordPlace d n = omega arith in
     ap₂ (λ (x a : ℕ). take x (drop a s)) k p
 
--- the answer and the station handed back, and the store at exit: with nothing stored, with one record stored
-pub handed : (e : Effect) (a : Answer) (st : Station) (s : List ℕ) → e ≡ says a st → (record { answer = a; station = st } ≡ outcomeOf e) × (s ≡ stored (e .stores) s)
-unfolding outcomeOf says stored
-handed e a st s q = (sym (ap outcomeOf q), sym (ap (λ (x : Effect). stored (x .stores) s) q))
+-- the change, and the store at exit: with nothing stored, with one record stored
+module _ (st : Station) (c : Change) (e : Effect) (a : Answer) (x : Station) where
+  pub handed : (s : List ℕ) → e ≡ says a x → IsChange st (says a x) c → IsChange st e c × (s ≡ stored (e .stores) s)
+  unfolding says stored
+  handed s q h = (as-effect st e (says a x) c q h, sym (ap (λ (y : Effect). stored (y .stores) s) q))
 
-pub handed-storing : (e : Effect) (a : Answer) (st : Station) (d n : ℕ) (r s z : List ℕ) → e ≡ saysStoring a st d n r → z ≡ withRecord s d n r
-    → (record { answer = a; station = st } ≡ outcomeOf e) × (z ≡ stored (e .stores) s)
-unfolding outcomeOf saysStoring stored
-handed-storing e a st d n r s z q w = (sym (ap outcomeOf q), w ∙ sym (ap (λ (x : Effect). stored (x .stores) s) q))
-
--- a refusal
-pub refusal : (e : Effect) (st : Station) (n : ℕ) (r : Outcome) (s : List ℕ) → r ≡ outcomeOf (says (A.Refused n 0) st) → e ≡ says (A.Refused n 0) st → (r ≡ outcomeOf e) × (s ≡ stored (e .stores) s)
-unfolding outcomeOf says stored
-refusal e st n r s h q = (h ∙ sym (ap outcomeOf q), sym (ap (λ (x : Effect). stored (x .stores) s) q))
+  pub handed-storing : (d n : ℕ) (r s z : List ℕ) → e ≡ saysStoring a x d n r → IsChange st (says a x) c → z ≡ withRecord s d n r → IsChange st e c × (z ≡ stored (e .stores) s)
+  unfolding outcomeOf says saysStoring stored
+  handed-storing d n r s z q h w = (as-outcome st e (says a x) c (ap outcomeOf q) h, w ∙ sym (ap (λ (y : Effect). stored (y .stores) s) q))
 
 -- rows 1 and 2 do not apply
 pub length-right : (s : List ℕ) → length s ≡ storeSize → wrongLength s ≡ false

@@ -5,7 +5,7 @@ use mathlib.Core.Logic.{_≢_, _⊎_, ⊎-elim}
 use mathlib.Core.Bool.{Bool, true, false, not}
 use mathlib.Core.List.{List, [], _∷_, map}
 use lib.Dec.{eqb, ltb}
-use lib.ListN.{length, getD, set}
+use lib.ListN.{length, getD}
 use native.Mathlib.Nat.{lt-irrefl}
 use native.Mathlib.Omega.{arith}
 use borrow.Author.Tests.{ltb-false, lt-ltb, le-ltb, eq-eqb, ne-eqb}
@@ -18,7 +18,7 @@ use Rattle.model.specs.declared.Answer.{Answer}
 use Rattle.model.specs.declared.Answer.the-variants as A
 use Rattle.model.specs.Commit.{withPhase}
 use Rattle.model.specs.Effects.{Effect, stored, outcomeOf, says, saysStoring, _when_, refusals, wrongLength, unsound}
-use Rattle.model.specs.Limits.{storeSize}
+use Rattle.model.specs.Limits.{slots, storeSize}
 use Rattle.model.specs.Lists.{first}
 use Rattle.model.specs.Records.{commitRecord, versionRecord, withRecord}
 use Rattle.model.specs.Sound.{sound}
@@ -26,6 +26,7 @@ use Rattle.model.specs.Stations.{noWrite, noLive, isClosing, closingSlot, recor
 use Rattle.model.specs.Step.{entryFor, oneMore, stepped, step}
 use Rattle.model.proofs.RefusalLaws.{refusals-none, skipped, hit}
 use Rattle.model.proofs.Tests.{not-of-false, not-of-true}
+use Rattle.stations.specs.Changes.{changedBy, IsChange}
 use Rattle.stations.specs.Found.{liveTxn, namedRow}
 use Rattle.stations.proofs.Callers.{place-none, named-elim}
 use Rattle.storing.specs.Parts.{recordAnswer, recordStored}
@@ -34,11 +35,11 @@ use Rattle.storing.proofs.Parts.{handed, length-right, sound-right, Pla
 -- a step that stores a record, of either kind
 module _ (st : Station) (s : List ℕ) (i d c n : ℕ) where
   abbrev RecordStep : Type 0
-  RecordStep = (outcomeOf (stepped st i (liveAt st i) (Closing d c n)) ≡ record { answer = recordAnswer (liveAt st i) d n; station = setLive st i (withPhase (Closing d c (n + 1)) (liveAt st i)) })
+  RecordStep = (outcomeOf (stepped st i (liveAt st i) (Closing d c n)) ≡ outcomeOf (says (recordAnswer (liveAt st i) d n) (setLive st i (withPhase (Closing d c (n + 1)) (liveAt st i)))))
       × (stored (stepped st i (liveAt st i) (Closing d c n) .stores) s ≡ recordStored (liveAt st i) (entryFor (liveAt st i)) d n s)
 
   record-step : n ≤ liveAt st i .«write_count» → RecordStep
-  unfolding stepped closingSlot recordsStored oneMore outcomeOf saysStoring stored recordAnswer recordStored
+  unfolding stepped closingSlot recordsStored oneMore outcomeOf says saysStoring stored recordAnswer recordStored
   record-step o = go (ltb n (liveAt st i .«write_count»)) refl
     where
       go : (b : Bool) → ltb n (liveAt st i .«write_count») ≡ b → RecordStep
@@ -105,19 +106,22 @@ module _ (st : Station) (s : List ℕ) (t : ℕ) where
       -- a record is stored
       pub step-record : (a : Answer) (m : Live) (e : Entry) (z : List ℕ) → n ≤ liveAt st i .«write_count» → e ≡ entryFor (liveAt st i) → m ≡ withPhase (Closing d c (n + 1)) (liveAt st i)
           → a ≡ recordAnswer (liveAt st i) d n → z ≡ recordStored (liveAt st i) e d n s
-          → (record { answer = a; station = record { live = set (st .live) i m; entries = st .entries } } ≡ outcomeOf (step st s t)) × (z ≡ stored (step st s t .stores) s)
-      unfolding setLive
+          → (outcomeOf (step st s t) ≡ outcomeOf (says a (setLive st i m))) × (z ≡ stored (step st s t .stores) s)
       step-record a m e z o q r ea ez =
           let h = record-step st s i d c n o in (
-            ap₂ {B = Live} (λ (x : Answer) (y : Live). record { answer = x; station = setLive st i y }) ea r ∙ sym (ap outcomeOf step-on ∙ h .0),
+            ap outcomeOf step-on ∙ (h .0 ∙ sym (ap₂ {B = Live} (λ (x : Answer) (y : Live). outcomeOf (says x (setLive st i y))) ea r)),
             ez ∙ (ap (λ (x : Entry). recordStored (liveAt st i) x d n s) q ∙ sym (ap (λ (x : Effect). stored (x .stores) s) step-on ∙ h .1)),
           )
 
       -- the entry is made
-      pub step-done : (m : Live) (e : Entry) → liveAt st i .«write_count» < n → e ≡ entryFor (liveAt st i) → m ≡ noLive
-          → (record { answer = A.Done (e .id); station = record { live = set (st .live) i m; entries = set (st .entries) d e } } ≡ outcomeOf (step st s t)) × (s ≡ stored (step st s t .stores) s)
-      unfolding stepped closingSlot recordsStored oneMore setLive setEntry
-      step-done m e o q r = let g : liveAt st i .«write_count» ≤ n = omega arith in handed _ _ _ s (step-on ∙ (rw (le-ltb n (liveAt st i .«write_count») g, ne-eqb n (liveAt st i .«write_count») (λ x. lt-irrefl n (omega arith)), r, q)))
+      module _ (m : Live) (e : Entry) (o : liveAt st i .«write_count» < n) (q : e ≡ entryFor (liveAt st i)) (r : m ≡ noLive) where
+        done : step st s t ≡ says (A.Done (e .id)) (setEntry (setLive st i m) d e)
+        unfolding stepped closingSlot recordsStored oneMore
+        done = let g : liveAt st i .«write_count» ≤ n = omega arith in step-on ∙ (rw (le-ltb n (liveAt st i .«write_count») g, ne-eqb n (liveAt st i .«write_count») (λ x. lt-irrefl n (omega arith)), r, q))
+
+        pub step-done : d < slots → IsChange st (step st s t) (record { answer = A.Done (e .id); place = i; live = m; slot = d; entry = e }) × (s ≡ stored (step st s t .stores) s)
+        unfolding IsChange changedBy outcomeOf says
+        step-done u = handed st _ _ (A.Done (e .id)) (setEntry (setLive st i m) d e) s done (f .low, u, refl)
 
 -- a phase that is none of the third kind
 pub not-closing : (p : Phase) → (denote.Enum.Declared.tagOf Rattle.model.proofs.Phase.the-type p ≡ 0) ⊎ (denote.Enum.Declared.tagOf Rattle.model.proofs.Phase.the-type p ≡ 1) → isClosing p ≡ false

@@ -1,7 +1,6 @@
-// The calls over a store: get, step, collect (scan is in crate recovery). Each takes whatever comes and equals its definition (model's
-// specs/Get, Step, Collect): the tests in the order of the table of refusals, then the effect. A refusal hands the station back as
-// given and changes no byte; a record is written whole, into its own 24 bytes lent to the record writer. What stands at a place or in a
-// slot is read from the copy that is changed: the station given is then never indexed, which would copy it once more.
+// The calls over a store: get, step, collect (scan is in crate recovery). Each takes what the soundness test says of the station, and
+// decides the change that its definition makes (model's specs/Get, Step, Collect): the tests in the order of the table of refusals, then
+// the effect. A refusal changes no byte; a record is written whole, into its own 24 bytes lent to the record writer.
 ghost use mathlib.Core.Path.{_≡_};
 ghost use mathlib.Core.Bool.{true, not};
 ghost use Prim.Native.Nat.{_<_, _≤_};
@@ -11,16 +10,17 @@ ghost use Rattle.model.specs.Limits.{slots, width, storeSize, readLimit};
 ghost use Rattle.model.specs.Lists.{_and_};
 ghost use Rattle.model.specs.Stations.{wrote, hasRead};
 ghost use Rattle.model.specs.Records.{valueIn, commitRecord, versionRecord, zeroRecord, carriesVersion, recordAt, withRecord, recordOf};
-ghost use Rattle.model.specs.Effects.{outcomeOf, says, stored};
+ghost use Rattle.model.specs.Sound.{sound};
+ghost use Rattle.model.specs.Effects.{stored};
 ghost use Rattle.model.specs.Get.{get};
 ghost use Rattle.model.specs.Step.{step};
 ghost use Rattle.model.specs.Collect.{collect};
+ghost use Rattle.stations.specs.Changes.{IsChange};
 ghost use Rattle.storing.specs.Parts.{recordAnswer, recordStored};
 use model::Answer;
 use model::Entry;
 use model::Id;
 use model::Live;
-use model::Outcome;
 use model::Phase;
 use model::Station;
 use reading::Chosen;
@@ -33,17 +33,21 @@ use records::value_in;
 use records::write_commit;
 use records::write_version;
 use records::write_zero;
-use soundness::is_sound;
+use stations::Change;
+use stations::entry_changed;
 use stations::entry_for;
 use stations::has_read;
 use stations::has_written;
 use stations::is_closing;
+use stations::live_at;
+use stations::live_changed;
 use stations::named_row;
 use stations::no_entry;
 use stations::no_live;
 use stations::place_of;
 use stations::record_of;
 use stations::refused;
+use stations::unchanged;
 use stations::value_under;
 use stations::with_phase;
 use stations::with_read;
@@ -122,21 +126,15 @@ fn read_version(store: &[u8], slot: usize, e: Entry, key: u8) -> VersionRead
     }
 }
 
-// An answer that changes nothing.
-fn unchanged(station: Station, answer: Answer) -> Outcome
-    ensures { λ r. ⌜ r ≡ outcomeOf (says answer station) ⌝ }
-{
-    Outcome { answer, station }
-}
-
 // Reads a key: the transaction's own value, or the version that Algorithm 1 chooses.
-pub fn get(station: Station, store: &[u8], txn: u32, key: u8) -> Outcome
-    ensures { λ r. ⌜ r ≡ outcomeOf (get station (now (store .entry)) txn key) ⌝ }
+pub fn get(station: Station, tested: bool, store: &[u8], txn: u32, key: u8) -> Change
+    requires { ⌜ tested ≡ sound station ⌝ }
+    ensures { λ r. ⌜ IsChange station (get station (now (store .entry)) txn key) r ⌝ }
 {
     if store.len() != STORE {
         return refused(station, 1);
     }
-    if !is_sound(station) {
+    if !tested {
         return refused(station, 2);
     }
     let live = station.live;
@@ -145,8 +143,7 @@ pub fn get(station: Station, store: &[u8], txn: u32, key: u8) -> Outcome
     if row != 0 {
         return refused(station, row);
     }
-    let mut next = station;
-    let l = next.live[place];
+    let l = live_at(live, place);
     let phase = l.phase;
     if is_closing(phase) {
         return refused(station, 9);
@@ -154,7 +151,8 @@ pub fn get(station: Station, store: &[u8], txn: u32, key: u8) -> Outcome
     if has_written(l, key) {
         return unchanged(station, Answer::Own(value_under(l, key)));
     }
-    let chosen = choose_version(station, place, key);
+    let entries = station.entries;
+    let chosen = choose_version(entries, l, key);
     let d = match chosen {
         Chosen::None => return unchanged(station, Answer::None),
         Chosen::Nofit => return unchanged(station, Answer::Nofit),
@@ -163,18 +161,14 @@ pub fn get(station: Station, store: &[u8], txn: u32, key: u8) -> Outcome
     if no_read_room(l, key) {
         return refused(station, 12);
     }
-    let e = next.entries[d];
+    let e = station.entries[d];
     let id = e.id;
     let version = read_version(store, d, e, key);
     if !version.carried {
         return refused(station, 17);
     }
     let joined = with_read(l, key, id);
-    next.live[place] = joined;
-    Outcome {
-        answer: Answer::Version(version.value, id),
-        station: next,
-    }
+    live_changed(station, Answer::Version(version.value, id), place, joined)
 }
 
 // ---- step
@@ -198,13 +192,14 @@ fn store_record(store: &mut [u8], l: Live, e: Entry, slot: u8, n: u8) -> Answer
 }
 
 // Stores the next record of a closing transaction; after the commit record, acknowledges.
-pub fn step(station: Station, store: &mut [u8], txn: u32) -> Outcome
-    ensures { λ r. ⌜ (r ≡ outcomeOf (step station (now (store .entry)) txn)) × (now (store .exit) ≡ stored (step station (now (store .entry)) txn .stores) (now (store .entry))) ⌝ }
+pub fn step(station: Station, tested: bool, store: &mut [u8], txn: u32) -> Change
+    requires { ⌜ tested ≡ sound station ⌝ }
+    ensures { λ r. ⌜ (IsChange station (step station (now (store .entry)) txn) r) × (now (store .exit) ≡ stored (step station (now (store .entry)) txn .stores) (now (store .entry))) ⌝ }
 {
     if store.len() != STORE {
         return refused(station, 1);
     }
-    if !is_sound(station) {
+    if !tested {
         return refused(station, 2);
     }
     let live = station.live;
@@ -213,8 +208,7 @@ pub fn step(station: Station, store: &mut [u8], txn: u32) -> Outcome
     if row != 0 {
         return refused(station, row);
     }
-    let mut next = station;
-    let l = next.live[place];
+    let l = station.live[place];
     let phase = l.phase;
     let Phase::Closing(slot, clock, n) = phase else {
         return refused(station, 10);
@@ -224,39 +218,36 @@ pub fn step(station: Station, store: &mut [u8], txn: u32) -> Outcome
     if n > l.write_count {
         let id = e.id;
         let unused = no_live();
-        next.live[place] = unused;
-        next.entries[d] = e;
-        return Outcome {
+        return Change {
             answer: Answer::Done(id),
-            station: next,
+            place,
+            live: unused,
+            slot: d,
+            entry: e,
         };
     }
     let on = with_phase(l, Phase::Closing(slot, clock, n + 1));
-    next.live[place] = on;
     let answer = store_record(store, l, e, slot, n);
-    Outcome {
-        answer,
-        station: next,
-    }
+    live_changed(station, answer, place, on)
 }
 
 // ---- collect
 // Frees the slot of an entry that is superseded on every key it wrote and that no live transaction has read.
-pub fn collect(station: Station, store: &mut [u8], slot: u8) -> Outcome
-    ensures { λ r. ⌜ (r ≡ outcomeOf (collect station (now (store .entry)) slot)) × (now (store .exit) ≡ stored (collect station (now (store .entry)) slot .stores) (now (store .entry))) ⌝ }
+pub fn collect(station: Station, tested: bool, store: &mut [u8], slot: u8) -> Change
+    requires { ⌜ tested ≡ sound station ⌝ }
+    ensures { λ r. ⌜ (IsChange station (collect station (now (store .entry)) slot) r) × (now (store .exit) ≡ stored (collect station (now (store .entry)) slot .stores) (now (store .entry))) ⌝ }
 {
     if store.len() != STORE {
         return refused(station, 1);
     }
-    if !is_sound(station) {
+    if !tested {
         return refused(station, 2);
     }
     let d = slot as usize;
     if d >= Station::SLOTS {
         return refused(station, 14);
     }
-    let mut next = station;
-    let e = next.entries[d];
+    let e = station.entries[d];
     let id = e.id;
     if id.txn == 0 {
         return refused(station, 14);
@@ -275,9 +266,5 @@ pub fn collect(station: Station, store: &mut [u8], slot: u8) -> Outcome
     }
     store_zero(store, d);
     let free = no_entry();
-    next.entries[d] = free;
-    Outcome {
-        answer: Answer::Collected(id),
-        station: next,
-    }
+    entry_changed(station, Answer::Collected(id), d, free)
 }

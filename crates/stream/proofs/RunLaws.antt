@@ -2,43 +2,33 @@
 use Prim.Native.Nat.{ℕ, _+_, _≤_}
 use mathlib.Core.Path.{_≡_, refl, sym, ap, _∙_}
 use mathlib.Core.Logic.{_≢_}
+use mathlib.Core.Bool.{true}
 use mathlib.Core.List.{List, [], _∷_, append-nil}
 use lib.ListN.{length, take}
 use lib.Seq.{length-take-le}
-use mathlib.Core.Option.{Option, some, none}
+use mathlib.Core.Option.{Option}
 use Rattle.model.specs.declared.Station.{Station}
 use Rattle.model.specs.declared.Outcome.{Outcome}
+use Rattle.model.specs.Sound.{sound}
 use Rattle.model.specs.Effects.{stored, outcomeOf}
-use Rattle.model.specs.Calls.{Call, Start, Put, Get, Commit, Step, Abort, Collect, Scan}
+use Rattle.model.specs.Calls.{Call}
 use Rattle.sheet.specs.declared.Command.{Command}
 use Rattle.sheet.specs.Lines.{lineCall}
 use Rattle.sheet.specs.Commands.{commandOf}
 use Rattle.sheet.specs.Sheets.{Desk, lineEffect, afterLine, printed, lineOutput}
-use Rattle.desk.specs.Acts.{callOf, acted, kept}
+use Rattle.desk.specs.Acts.{callOf, effectOf, acted, kept}
+use Rattle.desk.proofs.ActLaws.{call-of-command, acted-sound}
 use Rattle.sheet.specs.Words.{newline}
 use Rattle.stream.specs.Streams.{byteOutput, bytesOutput, lastLine, endOutput}
 use Rattle.stream.specs.Parts.{deskOf, streamOf}
 
--- a command is the call that it was made of
-call-of-command : (c : Option Call) → callOf (commandOf c) ≡ c
-unfolding callOf commandOf
-call-of-command none = refl
-call-of-command (some (Start t)) = refl
-call-of-command (some (Put t k v)) = refl
-call-of-command (some (Get t k)) = refl
-call-of-command (some (Commit t c)) = refl
-call-of-command (some (Step t)) = refl
-call-of-command (some (Abort t)) = refl
-call-of-command (some (Collect d)) = refl
-call-of-command (some Scan) = refl
-
 module _ (l : List ℕ) (st : Station) (s : List ℕ) (n : ℕ) (c : Command) (h : c ≡ commandOf (lineCall l)) (o : Outcome) (s′ : List ℕ)
-    (p : o ≡ acted st s (record { command = c })) (q : s′ ≡ kept st s (record { command = c })) where
+    (p : o ≡ acted st s (record { command = c; tested = true })) (q : s′ ≡ kept st s (record { command = c; tested = true })) where
   call-is : callOf c ≡ lineCall l
   call-is = ap callOf h ∙ call-of-command (lineCall l)
 
   pub line-run : deskOf (o .station) s′ (n + 1) ≡ afterLine l (deskOf st s n)
-  unfolding deskOf afterLine acted kept outcomeOf
+  unfolding deskOf afterLine acted kept effectOf outcomeOf
   line-run = λ i. record {
     station = (ap (λ (x : Outcome). x .station) p ∙ ap (λ (x : Option Call). lineEffect x st s .station) call-is) i;
     store = (q ∙ ap (λ (x : Option Call). stored (lineEffect x st s .stores) s) call-is) i;
@@ -46,8 +36,11 @@ module _ (l : List ℕ) (st : Station) (s : List ℕ) (n : ℕ) (c : Command) (h
   }
 
   pub line-answered : printed n (o .answer) ≡ lineOutput l (deskOf st s n)
-  unfolding deskOf lineOutput acted outcomeOf
+  unfolding deskOf lineOutput acted effectOf outcomeOf
   line-answered = ap (λ (x : Outcome). printed n (x .answer)) p ∙ ap (λ (x : Option Call). printed n (lineEffect x st s .answer)) call-is
+
+  pub line-sound : sound st ≡ true → sound (o .station) ≡ true
+  line-sound z = ap (λ (x : Outcome). sound (x .station)) p ∙ acted-sound st s (record { command = c; tested = true }) z
 
 -- ── the end of the input ──
 pub end-none : (st : Station) (s : List ℕ) (n : ℕ) (p : List ℕ) (len : ℕ) → len ≡ 0 → [] ≡ endOutput (streamOf st s n p len)

@@ -5,8 +5,10 @@ use desk::act_once;
 use sheet::parse_line;
 use sheet::print_line;
 ghost use mathlib.Core.Path.{_≡_};
+ghost use mathlib.Core.Bool.{true};
 ghost use Prim.Native.Nat.{_+_, _*_, _^_, _≤_, _<_};
 ghost use lib.ListN.{length, take, drop};
+ghost use Rattle.model.specs.Sound.{sound};
 ghost use Rattle.sheet.specs.Sheets.{firstLine, afterLine, lineOutput};
 ghost use Rattle.stream.specs.Streams.{joined, afterBytes, bytesOutput, endOutput};
 ghost use Rattle.stream.specs.Parts.{deskOf, streamOf, joinedWith};
@@ -64,13 +66,20 @@ fn fill(part: &mut [u8], len: usize, input: &[u8], start: usize) -> Filled
     Filled { len: n, end: i }
 }
 
-// A whole line: parsed, carried out and answered.
+// A whole line: parsed, carried out and answered. A sound station stays sound, so it is not tested.
 fn run_line(station: Station, store: &mut [u8], line: &[u8], number: u64, out: &mut [u8]) -> Ran
-    requires { ⌜ 96 ≤ length (now out) ⌝ }
-    ensures { λ r. ⌜ (deskOf (r .station) (now (store .exit)) (number + 1) ≡ afterLine (now (line .entry)) (deskOf station (now (store .entry)) number)) × (r .used ≤ 96) × (take (r .used) (now (out .exit)) ≡ lineOutput (now (line .entry)) (deskOf station (now (store .entry)) number)) × (drop (r .used) (now (out .exit)) ≡ drop (r .used) (now (out .entry))) ⌝ }
+    requires { ⌜ (96 ≤ length (now out)) × (sound station ≡ true) ⌝ }
+    ensures { λ r. ⌜ (deskOf (r .station) (now (store .exit)) (number + 1) ≡ afterLine (now (line .entry)) (deskOf station (now (store .entry)) number)) × (r .used ≤ 96) × (take (r .used) (now (out .exit)) ≡ lineOutput (now (line .entry)) (deskOf station (now (store .entry)) number)) × (drop (r .used) (now (out .exit)) ≡ drop (r .used) (now (out .entry))) × (sound (r .station) ≡ true) ⌝ }
 {
     let command = parse_line(line);
-    let outcome = act_once(station, store, Request { command });
+    let outcome = act_once(
+        station,
+        store,
+        Request {
+            command,
+            tested: true,
+        },
+    );
     let answer = outcome.answer;
     let used = print_line(out, number, answer);
     let next = outcome.station;
@@ -90,8 +99,8 @@ pub fn run_block(
     input: &[u8],
     out: &mut [u8],
 ) -> Fed
-    requires { ⌜ (length (now part) ≡ 65) × (len ≤ 65) × (number + length (now input) < 2 ^ 64) × (96 * length (now input) ≤ length (now out)) ⌝ }
-    ensures { λ r. ⌜ (streamOf (r .station) (now (store .exit)) (r .number) (now (part .exit)) (r .len) ≡ afterBytes (now (input .entry)) (streamOf station (now (store .entry)) number (now (part .entry)) len)) × (take (r .used) (now (out .exit)) ≡ bytesOutput (now (input .entry)) (streamOf station (now (store .entry)) number (now (part .entry)) len)) × (drop (r .used) (now (out .exit)) ≡ drop (r .used) (now (out .entry))) × (r .used ≤ 96 * length (now (input .entry))) × (r .len ≤ 65) × (r .number ≤ number + length (now (input .entry))) ⌝ }
+    requires { ⌜ (length (now part) ≡ 65) × (len ≤ 65) × (number + length (now input) < 2 ^ 64) × (96 * length (now input) ≤ length (now out)) × (sound station ≡ true) ⌝ }
+    ensures { λ r. ⌜ (streamOf (r .station) (now (store .exit)) (r .number) (now (part .exit)) (r .len) ≡ afterBytes (now (input .entry)) (streamOf station (now (store .entry)) number (now (part .entry)) len)) × (take (r .used) (now (out .exit)) ≡ bytesOutput (now (input .entry)) (streamOf station (now (store .entry)) number (now (part .entry)) len)) × (drop (r .used) (now (out .exit)) ≡ drop (r .used) (now (out .entry))) × (r .used ≤ 96 * length (now (input .entry))) × (r .len ≤ 65) × (r .number ≤ number + length (now (input .entry))) × (sound (r .station) ≡ true) ⌝ }
 {
     let mut s = station;
     let mut next = number;
@@ -126,7 +135,7 @@ pub fn finish(
     number: u64,
     out: &mut [u8],
 ) -> usize
-    requires { ⌜ (length (now part) ≡ 65) × (len ≤ 65) × (number + 1 < 2 ^ 64) × (96 ≤ length (now out)) ⌝ }
+    requires { ⌜ (length (now part) ≡ 65) × (len ≤ 65) × (number + 1 < 2 ^ 64) × (96 ≤ length (now out)) × (sound station ≡ true) ⌝ }
     ensures { λ r. ⌜ (r ≤ 96) × (take r (now (out .exit)) ≡ endOutput (streamOf station (now (store .entry)) number (now (part .entry)) len)) × (drop r (now (out .exit)) ≡ drop r (now (out .entry))) ⌝ }
 {
     if len == 0 {

@@ -5,7 +5,7 @@ use mathlib.Core.Logic.{_≢_, _⊎_, ⊎-elim}
 use mathlib.Core.Bool.{Bool, true, false, not, cond}
 use mathlib.Core.List.{[], map}
 use lib.Dec.{eqb, leb}
-use lib.ListN.{length, getD, set}
+use lib.ListN.{length, getD}
 use native.Mathlib.Decide.{decLt}
 use native.Mathlib.Nat.{lt-irrefl}
 use native.Mathlib.Omega.{arith}
@@ -18,7 +18,7 @@ use Rattle.model.specs.declared.Answer.{Answer}
 use Rattle.model.specs.declared.Answer.the-variants as A
 use Rattle.model.specs.Abort.{abort}
 use Rattle.model.specs.Commit.{withPhase, highestFree, commit}
-use Rattle.model.specs.Effects.{Effect, outcomeOf, says, unsound}
+use Rattle.model.specs.Effects.{Effect, says, unsound}
 use Rattle.model.specs.Limits.{keys, livePlaces, slots, writeLimit}
 use Rattle.model.specs.Lists.{_and_, _or_, first, anyBelow}
 use Rattle.model.specs.Put.{withWrite, put}
@@ -31,7 +31,9 @@ use Rattle.model.proofs.SoundFacts.{held-not-live, live-facts}
 use Rattle.model.proofs.SoundLaws.{Used, write-limit}
 use Rattle.model.proofs.StationLaws.{place-hit, live-out}
 use Rattle.model.proofs.Tests.{and-intro, or-none, or-intro-left, or-intro-right, not-of-false, not-of-true, and-none-left, and-none-right, and-left, and-right, and-second}
-use Rattle.stations.specs.Found.{liveTxn, entryTxn, namedRow}
+use Rattle.stations.specs.declared.Change.{Change}
+use Rattle.stations.specs.Changes.{IsChange}
+use Rattle.stations.specs.Found.{liveTxn, entryTxn, liveIn, namedRow}
 use Rattle.stations.proofs.Callers.{place-eq, place-live, place-none, slot-eq, slot-held, slot-none, free-some, free-none, named-elim}
 use Rattle.transactions.specs.Committing.{unknownRow, slotFor, afterCommit, commitAnswer}
 
@@ -63,12 +65,9 @@ module _ (st : Station) (h : sound st ≡ false) where
   unfolding abort
   abort-2 t = hit 2 _ _ st _ is-unsound
 
--- a place written, and nothing stored
-pub placed : (a a′ : Answer) (st : Station) (i : ℕ) (l l′ : Live) (e : Effect) → a ≡ a′ → l ≡ l′ → e ≡ says a′ (setLive st i l′)
-    → record { answer = a; station = record { live = set (st .live) i l; entries = st .entries } } ≡ outcomeOf e
-unfolding outcomeOf says setLive
-placed a a′ st i l l′ e p q h =
-    (λ z. record { answer = p z; station = record { live = set (st .live) i (q z); entries = st .entries } }) ∙ sym (ap outcomeOf h)
+-- with the answer and the transaction that the code made
+pub placed : (a a′ : Answer) (st : Station) (i : ℕ) (l l′ : Live) (e : Effect) → a ≡ a′ → l ≡ l′ → e ≡ says a′ (setLive st i l′) → e ≡ says a (setLive st i l)
+placed a a′ st i l l′ e p q h = h ∙ sym (λ z. says (p z) (setLive st i (q z)))
 
 module _ {A : Type 0} (b : Bool) (x y : A) where
   cond-true : b ≡ true → cond b x y ≡ x
@@ -288,31 +287,31 @@ commit-retry st t j i y x k o d =
     (sym (getD-inside (st .entries) j d _ (omega (arith, o, y .entries64)) ∙ ap (entryAt st) (slot-eq st t j (y .slotAt))))
 
 -- ── after the tests of a live transaction ──
-module _ (st : Station) (t i : ℕ) (y : Here st t i) (d : Live) where
+module _ (st : Station) (t i : ℕ) (y : Here st t i) (l : Live) (found : l ≡ liveIn (st .live) i) where
   lives : isLive t st ≡ true
   lives = place-live st t i (y .at) (y .places) (y .low)
 
-  place-is : getD (st .live) i d ≡ liveAt st (placeOf t st)
+  place-is : l ≡ liveAt st (placeOf t st)
   unfolding liveAt
-  place-is = getD-inside (st .live) i d _ (omega (arith, y .low, y .places)) ∙ ap (liveAt st) (place-eq st t i (y .at))
+  place-is = found ∙ ap (liveAt st) (place-eq st t i (y .at))
 
-  pub used : Used (st .entries) (getD (st .live) i d)
-  used = subst (λ (l : Live). Used (st .entries) l) (sym place-is) (live-facts st (y .isSound) (placeOf t st) (λ z. y .numbered (sym (place-hit st t lives .1) ∙ z)))
+  pub used : Used (st .entries) l
+  used = subst (λ (m : Live). Used (st .entries) m) (sym place-is) (live-facts st (y .isSound) (placeOf t st) (λ z. y .numbered (sym (place-hit st t lives .1) ∙ z)))
 
-  pub few-writes : getD (st .live) i d .«write_count» ≤ writeLimit
+  pub few-writes : l .«write_count» ≤ writeLimit
   few-writes = write-limit _ (used .sets)
 
-  closing-there : (b : Bool) → isClosing (getD (st .live) i d .phase) ≡ b → isClosing (liveAt st (placeOf t st) .phase) ≡ b
-  closing-there b e = subst (λ (l : Live). isClosing (l .phase) ≡ b) place-is e
+  closing-there : (b : Bool) → isClosing (l .phase) ≡ b → isClosing (liveAt st (placeOf t st) .phase) ≡ b
+  closing-there b e = subst (λ (m : Live). isClosing (m .phase) ≡ b) place-is e
 
   -- abort
-  pub abort-9 : isClosing (getD (st .live) i d .phase) ≡ true → abort st t ≡ says (A.Refused 9 0) st
+  pub abort-9 : isClosing (l .phase) ≡ true → abort st t ≡ says (A.Refused 9 0) st
   unfolding abort
   abort-9 s =
       skipped 2 _ _ st _ (not-unsound st (y .isSound))
       ∙ (skipped 3 _ _ st _ (ne-eqb t 0 (y .numbered)) ∙ (skipped 8 _ _ st _ (not-of-true _ lives) ∙ hit 9 _ _ st _ (closing-there true s)))
 
-  pub abort-done : isClosing (getD (st .live) i d .phase) ≡ false → abort st t ≡ says A.Dropped (setLive st i noLive)
+  pub abort-done : isClosing (l .phase) ≡ false → abort st t ≡ says A.Dropped (setLive st i noLive)
   unfolding abort
   abort-done s =
       skipped 2 _ _ st _ (not-unsound st (y .isSound))
@@ -323,15 +322,15 @@ module _ (st : Station) (t i : ℕ) (y : Here st t i) (d : Live) where
 
   -- put
   module _ (k v : ℕ) (u : k < keys) where
-    pub put-9 : isClosing (getD (st .live) i d .phase) ≡ true → put st t k v ≡ says (A.Refused 9 0) st
+    pub put-9 : isClosing (l .phase) ≡ true → put st t k v ≡ says (A.Refused 9 0) st
     unfolding put
     put-9 s =
         skipped 2 _ _ st _ (not-unsound st (y .isSound))
         ∙ (skipped 3 _ _ st _ (ne-eqb t 0 (y .numbered))
         ∙ (skipped 4 _ _ st _ (lt-leb keys k u) ∙ (skipped 8 _ _ st _ (not-of-true _ lives) ∙ hit 9 _ _ st _ (closing-there true s))))
 
-    module _ (s : isClosing (getD (st .live) i d .phase) ≡ false) where
-      pub put-11 : writeLimit ≤ getD (st .live) i d .«write_count» → hasWritten k (getD (st .live) i d) ≡ false → put st t k v ≡ says (A.Refused 11 0) st
+    module _ (s : isClosing (l .phase) ≡ false) where
+      pub put-11 : writeLimit ≤ l .«write_count» → hasWritten k l ≡ false → put st t k v ≡ says (A.Refused 11 0) st
       unfolding put
       put-11 w e =
           skipped 2 _ _ st _ (not-unsound st (y .isSound))
@@ -340,11 +339,11 @@ module _ (st : Station) (t i : ℕ) (y : Here st t i) (d : Live) where
           ∙ (skipped 8 _ _ st _ (not-of-true _ lives)
           ∙ (skipped 9 _ _ st _ (closing-there false s)
           ∙ hit 11 _ _ st _
-          (subst (λ (l : Live). (not (hasWritten k l) and leb writeLimit (l .«write_count»)) ≡ true) place-is
+          (subst (λ (m : Live). (not (hasWritten k m) and leb writeLimit (m .«write_count»)) ≡ true) place-is
           (and-intro _ _ (not-of-false _ e) (le-leb writeLimit _ w)))))))
 
-      pub put-done : (not (hasWritten k (getD (st .live) i d)) and leb writeLimit (getD (st .live) i d .«write_count»)) ≡ false
-          → put st t k v ≡ says A.Kept (setLive st i (withWrite k v (getD (st .live) i d)))
+      pub put-done : (not (hasWritten k l) and leb writeLimit (l .«write_count»)) ≡ false
+          → put st t k v ≡ says A.Kept (setLive st i (withWrite k v l))
       unfolding put
       put-done e =
           skipped 2 _ _ st _ (not-unsound st (y .isSound))
@@ -352,14 +351,14 @@ module _ (st : Station) (t i : ℕ) (y : Here st t i) (d : Live) where
           ∙ (skipped 4 _ _ st _ (lt-leb keys k u)
           ∙ (skipped 8 _ _ st _ (not-of-true _ lives)
           ∙ (skipped 9 _ _ st _ (closing-there false s)
-          ∙ (skipped 11 _ _ st _ (subst (λ (l : Live). (not (hasWritten k l) and leb writeLimit (l .«write_count»)) ≡ false) place-is e)
+          ∙ (skipped 11 _ _ st _ (subst (λ (m : Live). (not (hasWritten k m) and leb writeLimit (m .«write_count»)) ≡ false) place-is e)
           ∙ (refusals-none st _
           ∙ (ap (λ (j : ℕ). says A.Kept (setLive st j (withWrite k v (liveAt st (placeOf t st))))) (sym (place-eq st t i (y .at)))
-          ∙ ap (λ (l : Live). says A.Kept (setLive st i (withWrite k v l))) (sym place-is))))))))
+          ∙ ap (λ (m : Live). says A.Kept (setLive st i (withWrite k v m))) (sym place-is))))))))
 
   -- commit
   module _ (g : isHeld t st ≡ false) (x : ℕ) (u : x ≢ 0) where
-    pub commit-9 : isClosing (getD (st .live) i d .phase) ≡ true → commit st t x ≡ says (A.Refused 9 0) st
+    pub commit-9 : isClosing (l .phase) ≡ true → commit st t x ≡ says (A.Refused 9 0) st
     unfolding commit
     commit-9 s =
         skipped 2 _ _ st _ (not-unsound st (y .isSound))
@@ -367,11 +366,11 @@ module _ (st : Station) (t i : ℕ) (y : Here st t i) (d : Live) where
         ∙ (skipped 5 _ _ st _ (ne-eqb x 0 u)
         ∙ (skipped 8 _ _ st _ (and-none-left _ _ (not-of-true _ lives)) ∙ hit 9 _ _ st _ (closing-there true s))))
 
-    module _ (s : isClosing (getD (st .live) i d .phase) ≡ false) where
-      commit-empty : getD (st .live) i d .«write_count» ≡ 0 → commit st t x ≡ says A.Empty (setLive st i noLive)
+    module _ (s : isClosing (l .phase) ≡ false) where
+      commit-empty : l .«write_count» ≡ 0 → commit st t x ≡ says A.Empty (setLive st i noLive)
       unfolding commit
       commit-empty w =
-          let z : liveAt st (placeOf t st) .«write_count» ≡ 0 = subst (λ (l : Live). l .«write_count» ≡ 0) place-is w in
+          let z : liveAt st (placeOf t st) .«write_count» ≡ 0 = subst (λ (m : Live). m .«write_count» ≡ 0) place-is w in
           skipped 2 _ _ st _ (not-unsound st (y .isSound))
           ∙ (skipped 3 _ _ st _ (ne-eqb t 0 (y .numbered))
           ∙ (skipped 5 _ _ st _ (ne-eqb x 0 u)
@@ -382,9 +381,9 @@ module _ (st : Station) (t i : ℕ) (y : Here st t i) (d : Live) where
           ∙ (cond-false _ _ _ g
           ∙ (cond-true _ _ _ (eq-eqb _ 0 z) ∙ ap (λ (j : ℕ). says A.Empty (setLive st j noLive)) (sym (place-eq st t i (y .at)))))))))))
 
-      module _ (w : getD (st .live) i d .«write_count» ≢ 0) where
+      module _ (w : l .«write_count» ≢ 0) where
         some-write : liveAt st (placeOf t st) .«write_count» ≢ 0
-        some-write = subst (λ (l : Live). l .«write_count» ≢ 0) place-is w
+        some-write = subst (λ (m : Live). m .«write_count» ≢ 0) place-is w
 
         commit-full : anyBelow (isFree st) slots ≡ false → commit st t x ≡ says (A.Refused 13 0) st
         unfolding commit
@@ -397,7 +396,7 @@ module _ (st : Station) (t i : ℕ) (y : Here st t i) (d : Live) where
             ∙ hit 13 _ _ st _ (and-intro _ _ (le-leb 1 (liveAt st (placeOf t st) .«write_count») (omega (arith, some-write))) (not-of-false _ f))))))
 
         commit-closing : (r : ℕ) → anyBelow (isFree st) slots ≡ true → r ≡ highestFree st
-            → commit st t x ≡ says (A.Closing r) (setLive st i (withPhase (Closing r x 0) (getD (st .live) i d)))
+            → commit st t x ≡ says (A.Closing r) (setLive st i (withPhase (Closing r x 0) l))
         unfolding commit
         commit-closing r f e =
             skipped 2 _ _ st _ (not-unsound st (y .isSound))
@@ -410,25 +409,25 @@ module _ (st : Station) (t i : ℕ) (y : Here st t i) (d : Live) where
             ∙ (cond-false _ _ _ g
             ∙ (cond-false _ _ _ (ne-eqb _ 0 some-write)
             ∙ (ap (λ (j : ℕ). says (A.Closing (highestFree st)) (setLive st j (withPhase (Closing (highestFree st) x 0) (liveAt st (placeOf t st))))) (sym (place-eq st t i (y .at)))
-            ∙ (ap (λ (l : Live). says (A.Closing (highestFree st)) (setLive st i (withPhase (Closing (highestFree st) x 0) l))) (sym place-is)
-            ∙ ap (λ (y : ℕ). says (A.Closing y) (setLive st i (withPhase (Closing y x 0) (getD (st .live) i d)))) (sym e)))))))))))
+            ∙ (ap (λ (m : Live). says (A.Closing (highestFree st)) (setLive st i (withPhase (Closing (highestFree st) x 0) m))) (sym place-is)
+            ∙ ap (λ (y : ℕ). says (A.Closing y) (setLive st i (withPhase (Closing y x 0) l))) (sym e)))))))))))
 
       -- with the slot that `slot_for` gives
-      module _ (r : ℕ) (q : r ≡ slotFor (getD (st .live) i d .«write_count») st) where
+      module _ (r : ℕ) (q : r ≡ slotFor (l .«write_count») st) where
         pub commit-13 : 64 ≤ r → commit st t x ≡ says (A.Refused 13 0) st
         unfolding slotFor
-        commit-13 o = go (eqb (getD (st .live) i d .«write_count») 0) refl
+        commit-13 o = go (eqb (l .«write_count») 0) refl
           where
-            go : (b : Bool) → eqb (getD (st .live) i d .«write_count») 0 ≡ b → commit st t x ≡ says (A.Refused 13 0) st
+            go : (b : Bool) → eqb (l .«write_count») 0 ≡ b → commit st t x ≡ says (A.Refused 13 0) st
             go true e = let z : r ≡ 0 = rw e at q in absurd (lt-irrefl 0 (omega (arith, o)))
             go false e = commit-full (eqb-false _ 0 e) (free-none st r (rw e at q) o)
 
-        pub commit-done : r < 64 → commit st t x ≡ says (commitAnswer (getD (st .live) i d .«write_count») r) (setLive st i (afterCommit r x (getD (st .live) i d)))
+        pub commit-done : r < 64 → commit st t x ≡ says (commitAnswer (l .«write_count») r) (setLive st i (afterCommit r x l))
         unfolding slotFor afterCommit commitAnswer
-        commit-done o = go (eqb (getD (st .live) i d .«write_count») 0) refl
+        commit-done o = go (eqb (l .«write_count») 0) refl
           where
-            go : (b : Bool) → eqb (getD (st .live) i d .«write_count») 0 ≡ b
-                → commit st t x ≡ says (commitAnswer (getD (st .live) i d .«write_count») r) (setLive st i (afterCommit r x (getD (st .live) i d)))
+            go : (b : Bool) → eqb (l .«write_count») 0 ≡ b
+                → commit st t x ≡ says (commitAnswer (l .«write_count») r) (setLive st i (afterCommit r x l))
             go true e = rw e (commit-empty (eqb-true _ 0 e))
             go false e = let f = free-some st r (rw e at q) o in rw e (commit-closing (eqb-false _ 0 e) r (f .0) (f .1))
 

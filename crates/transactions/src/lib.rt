@@ -1,31 +1,34 @@
-// The calls that touch no store: start, put, commit, abort. Each takes whatever comes and equals its definition (model's specs/Start, Put,
-// Commit, Abort): the tests in the order of the table of refusals, then the effect. A refusal hands the station back as given.
-// The place that a call changes is read from `next`, the copy that it works on: an array indexed by a variable is copied again where it
-// is passed on, and `station` is passed on to the refusals.
+// The calls that touch no store: start, put, commit, abort. Each takes what the soundness test says of the station, and decides the
+// change that its definition makes (model's specs/Start, Put, Commit, Abort): the tests in the order of the table of refusals, then the
+// effect. Whoever makes many calls tests once: a call leaves a sound station sound (model's proofs/SoundKept).
 use model::Answer;
-use model::Id;
+use model::Entry;
 use model::Live;
-use model::Outcome;
 use model::Phase;
 use model::Station;
-use soundness::is_sound;
+use stations::Change;
 use stations::has_written;
 use stations::highest_free;
 use stations::is_closing;
+use stations::live_at;
+use stations::live_changed;
 use stations::named_row;
 use stations::no_live;
 use stations::opened;
 use stations::place_of;
 use stations::refused;
 use stations::slot_of;
+use stations::unchanged;
 use stations::with_phase;
 use stations::with_write;
 ghost use mathlib.Core.Path.{_≡_};
-ghost use Rattle.model.specs.Effects.{outcomeOf, says};
+ghost use Rattle.model.specs.Sound.{sound};
 ghost use Rattle.model.specs.Start.{start};
 ghost use Rattle.model.specs.Put.{put};
 ghost use Rattle.model.specs.Commit.{commit};
 ghost use Rattle.model.specs.Abort.{abort};
+ghost use Rattle.stations.specs.Found.{stationOf};
+ghost use Rattle.stations.specs.Changes.{IsChange};
 ghost use Rattle.transactions.specs.Committing.{unknownRow, slotFor, afterCommit, commitAnswer};
 
 // A write set has at most this many keys.
@@ -33,10 +36,11 @@ const WRITES: u8 = 8;
 
 // ---- start
 // Makes a transaction live and open, with empty sets, in the lowest unused place.
-pub fn start(station: Station, txn: u32) -> Outcome
-    ensures { λ r. ⌜ r ≡ outcomeOf (start station txn) ⌝ }
+pub fn start(station: Station, tested: bool, txn: u32) -> Change
+    requires { ⌜ tested ≡ sound station ⌝ }
+    ensures { λ r. ⌜ IsChange station (start station txn) r ⌝ }
 {
-    if !is_sound(station) {
+    if !tested {
         return refused(station, 2);
     }
     if txn == 0 {
@@ -54,21 +58,17 @@ pub fn start(station: Station, txn: u32) -> Outcome
     if place >= Station::LIVE {
         return refused(station, 7);
     }
-    let mut next = station;
     let begun = opened(txn);
-    next.live[place] = begun;
-    Outcome {
-        answer: Answer::Started,
-        station: next,
-    }
+    live_changed(station, Answer::Started, place, begun)
 }
 
 // ---- put
 // Adds a key to the write set, or replaces its value.
-pub fn put(station: Station, txn: u32, key: u8, value: u64) -> Outcome
-    ensures { λ r. ⌜ r ≡ outcomeOf (put station txn key value) ⌝ }
+pub fn put(station: Station, tested: bool, txn: u32, key: u8, value: u64) -> Change
+    requires { ⌜ tested ≡ sound station ⌝ }
+    ensures { λ r. ⌜ IsChange station (put station txn key value) r ⌝ }
 {
-    if !is_sound(station) {
+    if !tested {
         return refused(station, 2);
     }
     let live = station.live;
@@ -77,8 +77,7 @@ pub fn put(station: Station, txn: u32, key: u8, value: u64) -> Outcome
     if row != 0 {
         return refused(station, row);
     }
-    let mut next = station;
-    let l = next.live[place];
+    let l = live_at(live, place);
     let phase = l.phase;
     if is_closing(phase) {
         return refused(station, 9);
@@ -89,11 +88,7 @@ pub fn put(station: Station, txn: u32, key: u8, value: u64) -> Outcome
         }
     }
     let kept = with_write(l, key, value);
-    next.live[place] = kept;
-    Outcome {
-        answer: Answer::Kept,
-        station: next,
-    }
+    live_changed(station, Answer::Kept, place, kept)
 }
 
 // ---- commit
@@ -116,24 +111,14 @@ fn unknown_row(txn: u32, clock: u64, held: usize, place: usize) -> u8
     0
 }
 
-// A retry changes nothing.
-fn done(station: Station, id: Id) -> Outcome
-    ensures { λ r. ⌜ r ≡ outcomeOf (says (Answer.Done id) station) ⌝ }
-{
-    Outcome {
-        answer: Answer::Done(id),
-        station,
-    }
-}
-
 // The slot for this many writes: the highest free one, 64 where there is none. Nothing written needs no slot: 0.
-fn slot_for(station: Station, writes: u8) -> usize
-    ensures { λ r. ⌜ r ≡ slotFor writes station ⌝ }
+fn slot_for(live: [Live; 8], entries: [Entry; 64], writes: u8) -> usize
+    ensures { λ r. ⌜ r ≡ slotFor writes (stationOf live entries) ⌝ }
 {
     if writes == 0 {
         return 0;
     }
-    highest_free(station)
+    highest_free(live, entries)
 }
 
 // What stands in the place afterwards.
@@ -156,10 +141,11 @@ fn commit_answer(writes: u8, slot: u8) -> Answer
 }
 
 // Begins to close a transaction, in the highest free slot. A read-only one is over at once, and a retry of a held one changes nothing.
-pub fn commit(station: Station, txn: u32, clock: u64) -> Outcome
-    ensures { λ r. ⌜ r ≡ outcomeOf (commit station txn clock) ⌝ }
+pub fn commit(station: Station, tested: bool, txn: u32, clock: u64) -> Change
+    requires { ⌜ tested ≡ sound station ⌝ }
+    ensures { λ r. ⌜ IsChange station (commit station txn clock) r ⌝ }
 {
-    if !is_sound(station) {
+    if !tested {
         return refused(station, 2);
     }
     let entries = station.entries;
@@ -172,36 +158,32 @@ pub fn commit(station: Station, txn: u32, clock: u64) -> Outcome
     }
     // A held transaction is not live, so rows 9 and 13 are for the others.
     if held < Station::SLOTS {
-        let e = entries[held];
+        let e = station.entries[held];
         let id = e.id;
-        return done(station, id);
+        return unchanged(station, Answer::Done(id));
     }
-    let mut next = station;
-    let l = next.live[place];
+    let l = live_at(live, place);
     let phase = l.phase;
     if is_closing(phase) {
         return refused(station, 9);
     }
     let writes = l.write_count;
-    let slot = slot_for(station, writes);
+    let slot = slot_for(live, entries, writes);
     if slot >= Station::SLOTS {
         return refused(station, 13);
     }
     let d = slot as u8;
     let after = after_commit(l, d, clock);
-    next.live[place] = after;
-    Outcome {
-        answer: commit_answer(writes, d),
-        station: next,
-    }
+    live_changed(station, commit_answer(writes, d), place, after)
 }
 
 // ---- abort
 // Forgets an open transaction.
-pub fn abort(station: Station, txn: u32) -> Outcome
-    ensures { λ r. ⌜ r ≡ outcomeOf (abort station txn) ⌝ }
+pub fn abort(station: Station, tested: bool, txn: u32) -> Change
+    requires { ⌜ tested ≡ sound station ⌝ }
+    ensures { λ r. ⌜ IsChange station (abort station txn) r ⌝ }
 {
-    if !is_sound(station) {
+    if !tested {
         return refused(station, 2);
     }
     let live = station.live;
@@ -210,16 +192,11 @@ pub fn abort(station: Station, txn: u32) -> Outcome
     if row != 0 {
         return refused(station, row);
     }
-    let mut next = station;
-    let dropped = next.live[place];
+    let dropped = live_at(live, place);
     let phase = dropped.phase;
     if is_closing(phase) {
         return refused(station, 9);
     }
     let unused = no_live();
-    next.live[place] = unused;
-    Outcome {
-        answer: Answer::Dropped,
-        station: next,
-    }
+    live_changed(station, Answer::Dropped, place, unused)
 }

@@ -5,7 +5,7 @@ use lib.ListN.{length}
 use borrow.Author.Needs.{needs}
 use borrow.Author.Tests.{not-true, not-false}
 use Rattle.interface.specs.Exchange.{fitsOne}
-use Rattle.interface.proofs.LengthLaws.{cond-yes, cond-no, one-image, one-request, one-answer}
+use Rattle.interface.proofs.LengthLaws.{cond-yes, cond-no, one-image, one-request, one-answer, one-whole}
 use Rattle.interface.proofs.RunLaws.{one-answered, one-held, run-store, run-image}
 use Rattle.interface.proofs.gorehimu_call.Statement.{statement}
 use Rattle.interface.proofs.gorehimu_call.Tie as tie
@@ -28,10 +28,10 @@ returns c =
 current-in-requires : tie.Need-current-in-requires
 current-in-requires c κs = search needs
 
-run-request-requires : tie.Need-run-request-requires
-run-request-requires c κs =
+run-requests-requires : tie.Need-run-requests-requires
+run-requests-requires c κs =
     let e = fit (c .before .before .before .before) in
-    (one-request _ _ _ e, one-answer _ _ _ e)
+    (one-whole _ _ (one-request _ _ _ e) (one-answer _ _ _ e), c .before .before .current-in .ensures .2)
 
 keep-requires : tie.Need-keep-requires
 keep-requires c κs = one-image _ _ _ (fit (c .before .before .before .before .before .before .before .before .before .before))
@@ -50,15 +50,16 @@ returns-2 c =
     let a = c .before .before .before .before .before .before .before .before .before .before .before .before .before .before .before .before .before .before .before .args in
     let e = fit (c .before .before .before .before .before .before .before .before .before .before .before .before .before) in
     let f = c .before .before .before .before .before .before .before .before .before .before .before .current-in in
-    let r = c .before .before .before .before .before .before .before .before .run-request in
+    let r = c .before .before .before .before .before .before .before .before .run-requests in
     let w = c .before .before .keep in
-    let h = one-held (a .image .now) (a .store .now) (a .request .now) (f .result) (f .ensures .0) (f .ensures .1) (r .result) (r .last .1 .0) (r .ensures .0) in (
+    let q = one-request _ _ _ e in
+    let h = one-held (a .image .now) (a .store .now) (a .request .now) (f .result) (f .ensures .0) (f .ensures .1) q (r .result) (r .last .1 .0) (r .ensures .0) in (
       cond-yes _ _ _ e,
       (
         w .ensures .0 ∙ run-image (a .image .now) (r .result) (r .last .1 .0) _ h ∙ cond-yes _ _ _ e,
         (
           run-store (r .result) (r .last .1 .0) _ h ∙ cond-yes _ _ _ e,
-          r .ensures .1 ∙ one-answered (a .image .now) (a .store .now) (a .request .now) (f .result) (f .ensures .0) (f .ensures .1) ∙ cond-yes _ _ _ e,
+          r .ensures .1 ∙ one-answered (a .image .now) (a .store .now) (a .request .now) (f .result) (f .ensures .0) (f .ensures .1) q ∙ cond-yes _ _ _ e,
         ),
       ),
     )
@@ -70,7 +71,7 @@ gorehimu-call-spec =
     one-fits-requires
     returns
     current-in-requires
-    run-request-requires
+    run-requests-requires
     keep-requires
     same-length
     same-length-2

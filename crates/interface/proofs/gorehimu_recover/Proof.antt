@@ -4,10 +4,8 @@ use mathlib.Core.Bool.{true, false}
 use lib.ListN.{length}
 use borrow.Author.Needs.{needs}
 use borrow.Author.Tests.{not-true, not-false}
-use Rattle.model.specs.declared.Outcome.{Outcome}
-use Rattle.model.specs.Effects.{outcomeOf}
 use Rattle.image.specs.Images.{stationBytes}
-use Rattle.interface.specs.Exchange.{requestSize, answerBytes, fitsOne}
+use Rattle.interface.specs.Exchange.{requestSize, fitsOne}
 use Rattle.interface.proofs.LengthLaws.{cond-yes, cond-no, one-image, one-answer}
 use Rattle.interface.proofs.gorehimu_recover.Statement.{statement}
 use Rattle.interface.proofs.gorehimu_recover.Tie as tie
@@ -27,14 +25,11 @@ returns c =
     let e = unfit c in
     (cond-no _ _ _ e, (cond-no _ _ _ e, cond-no _ _ _ e))
 
-scan-requires : tie.Need-scan-requires
-scan-requires c κs = search needs
-
-write-answer-requires : tie.Need-write-answer-requires
-write-answer-requires c κs = one-answer _ _ _ (fit (c .before .before .before))
+run-scan-requires : tie.Need-run-scan-requires
+run-scan-requires c κs = one-answer _ _ _ (fit (c .before))
 
 write-image-requires : tie.Need-write-image-requires
-write-image-requires c κs = one-image _ _ _ (fit (c .before .before .before .before .before .before .before))
+write-image-requires c κs = one-image _ _ _ (fit (c .before .before .before .before .before .before))
 
 same-length : tie.Need-same-length
 same-length c = search needs
@@ -43,17 +38,16 @@ same-length-2 : tie.Need-same-length-2
 same-length-2 c = search needs
 
 returns-2 : tie.Need-returns-2
-unfolding outcomeOf
 returns-2 c =
-    let e = fit (c .before .before .before .before .before .before .before .before .before .before) in
-    let o = c .before .before .before .before .before .before .before .before .before .scan in (
+    let e = fit (c .before .before .before .before .before .before .before .before .before) in
+    let r = c .before .before .before .before .before .before .before .run-scan in (
       cond-yes _ _ _ e,
       (
-        c .before .before .write-image .ensures .0 ∙ ap (λ (x : Outcome). stationBytes (x .station)) (o .ensures) ∙ cond-yes _ _ _ e,
-        c .before .before .before .before .before .before .write-answer .ensures ∙ ap (λ (x : Outcome). answerBytes (x .answer)) (o .ensures) ∙ cond-yes _ _ _ e,
+        c .before .before .write-image .ensures .0 ∙ ap stationBytes (r .ensures .2) ∙ cond-yes _ _ _ e,
+        r .ensures .3 ∙ cond-yes _ _ _ e,
       ),
     )
 
 pub gorehimu-recover-spec : {M : Type 1} → statement M
 gorehimu-recover-spec =
-    tie.close (tie.spec one-fits-requires returns scan-requires write-answer-requires write-image-requires same-length same-length-2 returns-2)
+    tie.close (tie.spec one-fits-requires returns run-scan-requires write-image-requires same-length same-length-2 returns-2)

@@ -32,7 +32,7 @@ current-in-requires c κs = search needs
 run-requests-requires : tie.Need-run-requests-requires
 run-requests-requires c κs =
     let e = fit (c .before .before .before .before) in
-    (requests-fit _ _ _ e, answers-fit _ _ _ e)
+    ((requests-fit _ _ _ e, answers-fit _ _ _ e), c .before .before .current-in .ensures .2)
 
 keep-requires : tie.Need-keep-requires
 keep-requires c κs = image-fits _ _ _ (fit (c .before .before .before .before .before .before .before .before .before .before))

@@ -1,29 +1,45 @@
 -- `interface::run_requests` meets its contract.
-use Prim.Native.Nat.{_+_, _*_, _-_, _≤_}
-use mathlib.Core.Path.{_≡_, refl, _∙_}
-use lib.ListN.{length}
+use Prim.Native.Nat.{ℕ, _+_, _*_, _-_, _<_, _≤_}
+use mathlib.Core.Path.{_≡_, refl, sym, ap, _∙_}
+use mathlib.Core.Bool.{Bool, true, false}
+use mathlib.Core.List.{List}
+use lib.ListN.{length, take, drop}
 use borrow.Author.Needs.{needs}
 use borrow.Rule.Slice.PartMut.{mid-len, same-len-mid}
 use native.Mathlib.Omega.{arith}
+use Rattle.model.specs.declared.Station.{Station}
+use Rattle.model.specs.Limits.{livePlaces, slots}
+use Rattle.model.specs.Stations.{setLive, setEntry}
+use Rattle.model.specs.Sound.{sound}
+use Rattle.model.proofs.SoundKept.{sound-scan}
+use Rattle.stations.specs.Changes.{changedBy}
+use Rattle.stations.proofs.Changes.{is-inside}
+use Rattle.desk.specs.declared.Request.{Request}
+use Rattle.desk.specs.Acts.{isCut}
 use Rattle.image.specs.Layout.{parts}
-use Rattle.interface.specs.Exchange.{requestSize, answerSize, requestsIn, afterRequests, answersTo}
+use Rattle.interface.specs.declared.Current.{Current}
+use Rattle.interface.specs.Exchange.{requestSize, answerSize, Held, afterRequests, answersTo, requestsIn}
 use Rattle.interface.specs.Parts.{heldOf}
-use Rattle.interface.proofs.RunLaws.{Passed, passed-none, passed-more, passed-all}
+use Rattle.interface.proofs.RunLaws.{scan-run, scan-answered, change-run, change-answered, change-tested, Passed, passed-none, passed-more, passed-all}
 use Rattle.interface.proofs.run_requests.Statement.{statement}
 use Rattle.interface.proofs.run_requests.Tie as tie
 
+-- what is held, of the loop's variables
+abbrev held : Bool → Bool → Station → List ℕ → Held
+held w t st s = heldOf (record { whole = w; tested = t; station = st }) s
+
 abbrev Inv-loop : tie.InvT-loop
-Inv-loop store₀ requests answers₀ count current₀ i₀ store answers current i =
-    (i ≤ count) × (length answers ≡ length answers₀) × (length store ≡ length store₀)
-    × Passed count requests (afterRequests (parts requestSize count requests) (heldOf current₀ store₀)) (answersTo (parts requestSize count requests) (heldOf current₀ store₀)) i (heldOf current store) answers
+Inv-loop store₀ requests answers₀ count whole₀ tested₀ station₀ i₀ store answers whole tested station i =
+    (i ≤ count) × (length answers ≡ length answers₀) × (length store ≡ length store₀) × (tested ≡ sound station)
+    × Passed count requests (afterRequests (parts requestSize count requests) (held whole₀ tested₀ station₀ store₀)) (answersTo (parts requestSize count requests) (held whole₀ tested₀ station₀ store₀)) i (held whole tested station store) answers
 
 abbrev μ-loop : tie.MeasureT-loop
-μ-loop store₀ requests answers₀ count current₀ i₀ store answers current i = count - i
+μ-loop store₀ requests answers₀ count whole₀ tested₀ station₀ i₀ store answers whole tested station i = count - i
 
 loop-holds : tie.Need-loop-holds Inv-loop μ-loop
 loop-holds c =
-    let a = c .before .before .before .args in
-    (omega arith, refl, refl, passed-none _ (a .requests .now) (heldOf (a .first) (a .store .now)) (a .answers .now))
+    let s = c .before .before .before .before in
+    (omega arith, refl, refl, s .pre .1, passed-none _ (s .args .requests .now) _ (s .args .answers .now))
 
 mul-from : tie.Need-mul-from Inv-loop μ-loop
 mul-from c = search needs
@@ -31,51 +47,136 @@ mul-from c = search needs
 mul-to : tie.Need-mul-to Inv-loop μ-loop
 mul-to c = search needs
 
-add-run-request : tie.Need-add-run-request Inv-loop μ-loop
-add-run-request c = search needs
-
-sub-run-request : tie.Need-sub-run-request Inv-loop μ-loop
-sub-run-request c = search needs
-
-part-run-request-start : tie.Need-part-run-request-start Inv-loop μ-loop
-part-run-request-start c = search needs
-
-part-run-request-end : tie.Need-part-run-request-end Inv-loop μ-loop
-part-run-request-end c = search needs
-
-add-run-request-2 : tie.Need-add-run-request-2 Inv-loop μ-loop
-add-run-request-2 c = search needs
-
-sub-run-request-2 : tie.Need-sub-run-request-2 Inv-loop μ-loop
-sub-run-request-2 c = search needs
-
-part-run-request-start-2 : tie.Need-part-run-request-start-2 Inv-loop μ-loop
-part-run-request-start-2 c = search needs
-
-part-run-request-end-2 : tie.Need-part-run-request-end-2 Inv-loop μ-loop
-part-run-request-end-2 c = search needs
-
-run-request-requires : tie.Need-run-request-requires Inv-loop μ-loop
-run-request-requires c κs = search needs
-
 add-i : tie.Need-add-i Inv-loop μ-loop
 add-i c = search needs
+
+add-command-in : tie.Need-add-command-in Inv-loop μ-loop
+add-command-in c = search needs
+
+sub-command-in : tie.Need-sub-command-in Inv-loop μ-loop
+sub-command-in c = search needs
+
+part-command-in-start : tie.Need-part-command-in-start Inv-loop μ-loop
+part-command-in-start c = search needs
+
+part-command-in-end : tie.Need-part-command-in-end Inv-loop μ-loop
+part-command-in-end c = search needs
+
+command-in-requires : tie.Need-command-in-requires Inv-loop μ-loop
+command-in-requires c κs = search needs
+
+is-cut-requires : tie.Need-is-cut-requires Inv-loop μ-loop
+is-cut-requires c κs = search needs
+
+add-run-scan : tie.Need-add-run-scan Inv-loop μ-loop
+add-run-scan c = search needs
+
+sub-run-scan : tie.Need-sub-run-scan Inv-loop μ-loop
+sub-run-scan c = search needs
+
+part-run-scan-start : tie.Need-part-run-scan-start Inv-loop μ-loop
+part-run-scan-start c = search needs
+
+part-run-scan-end : tie.Need-part-run-scan-end Inv-loop μ-loop
+part-run-scan-end c = search needs
+
+run-scan-requires : tie.Need-run-scan-requires Inv-loop μ-loop
+run-scan-requires c κs = search needs
 
 loop-less : tie.Need-loop-less Inv-loop μ-loop
 loop-less c = search needs
 
+-- room for the answer
+room : (c : tie.In-loop Inv-loop μ-loop) → answerSize * c .before .loop .i + answerSize ≤ length (c .before .loop .answers)
+room c = omega (arith, c .loop-test .taken, c .before .loop .inv .1, c .before .before .before .before .before .before .pre .0 .1)
+
 loop-again : tie.Need-loop-again Inv-loop μ-loop
 loop-again c =
-    let r = c .before .before .before .before .run-request in
-    let l = c .before .before .before .before .before .before .before .before .before .loop in
-    let s = c .before .before .before .before .before .before .before .before .before .before .before .before .before in
-    let o = c .before .before .before .before .before .before .before .before .loop-test .taken in
-    let w : answerSize * l .i + answerSize ≤ length (l .answers) = omega (arith, o, l .inv .1, s .pre .1) in (
+    let r = c .before .before .before .run-scan in
+    let n = c .before .before .before .before .before .before .before .is-cut in
+    let m = c .before .before .before .before .before .before .before .before .command-in in
+    let l = c .before .before .before .before .before .before .before .before .before .before .before .loop in
+    let s = c .before .before .before .before .before .before .before .before .before .before .before .before .before .before .before .before in
+    let o = c .before .before .before .before .before .before .before .before .before .before .loop-test .taken in
+    let w = room (c .before .before .before .before .before .before .before .before .before .before) in
+    let q = take (requestSize * l .i + requestSize - requestSize * l .i) (drop (requestSize * l .i) (s .args .requests .now)) in
+    let h : Current = record { whole = l .whole; tested = l .tested; station = l .station } in
+    let d : Request = record { command = m .result; tested = l .tested } in
+    let k : isCut (m .result) ≡ true = sym (n .ensures) ∙ c .before .before .before .before .before .before .if1 .taken in (
       omega (arith, o),
-      same-len-mid (answerSize * l .i) (answerSize * l .i + answerSize - answerSize * l .i) (l .answers) (r .last .1 .1 .1 .0) (r .kept .1 .1 .1 .0) ∙ l .inv .1,
+      same-len-mid (answerSize * l .i) (answerSize * l .i + answerSize - answerSize * l .i) (l .answers) (r .last .1 .0) (r .kept .1 .0) ∙ l .inv .1,
+      l .inv .2,
+      r .ensures .1 ∙ sym (sound-scan (l .store)) ∙ ap sound (sym (r .ensures .2)),
+      passed-more _ (s .args .requests .now) _ _ (l .i) (heldOf h (l .store)) (l .answers) (l .inv .4) o w (heldOf (r .result) (l .store)) (r .last .1 .0)
+          (r .kept .1 .0 ∙ mid-len (answerSize * l .i) (answerSize * l .i + answerSize) (l .answers) w ∙ omega arith)
+          (scan-run q h (l .store) d (m .ensures) k (r .result) (r .ensures .0) (r .ensures .2))
+          (r .ensures .3 ∙ scan-answered q h (l .store) d (m .ensures) k),
+    )
+
+decide-requires : tie.Need-decide-requires Inv-loop μ-loop
+decide-requires c κs = (c .before .before .before .before .before .before .loop .inv .3, sym (c .before .before .is-cut .ensures) ∙ c .before .if1 .left)
+
+-- the change's place and slot are there
+inside : (c : tie.After-decide Inv-loop μ-loop) → (c .decide .result .place < livePlaces) × (c .decide .result .slot < slots)
+inside c = is-inside _ _ _ (c .decide .ensures .0)
+
+mul-live : tie.Need-mul-live Inv-loop μ-loop
+mul-live c = omega (arith, inside (c .before .before .before))
+
+element-set-from-live : tie.Need-element-set-from-live Inv-loop μ-loop
+element-set-from-live c = omega (arith, inside (c .before .before .before))
+
+mul-entry : tie.Need-mul-entry Inv-loop μ-loop
+mul-entry c = omega (arith, inside (c .before .before .before .before))
+
+element-set-from-entry : tie.Need-element-set-from-entry Inv-loop μ-loop
+element-set-from-entry c = omega (arith, inside (c .before .before .before .before))
+
+-- the answer's end is a number
+ends : (c : tie.In-loop Inv-loop μ-loop) → answerSize * c .before .loop .i + answerSize < 18446744073709551616
+ends c = search needs
+
+add-write-answer : tie.Need-add-write-answer Inv-loop μ-loop
+add-write-answer c = omega (arith, ends (c .before .before .before .before .before .before .before .before .before .before))
+
+sub-write-answer : tie.Need-sub-write-answer Inv-loop μ-loop
+sub-write-answer c = search needs
+
+part-write-answer-start : tie.Need-part-write-answer-start Inv-loop μ-loop
+part-write-answer-start c = search needs
+
+part-write-answer-end : tie.Need-part-write-answer-end Inv-loop μ-loop
+part-write-answer-end c = omega (arith, room (c .before .before .before .before .before .before .before .before .before .before))
+
+write-answer-requires : tie.Need-write-answer-requires Inv-loop μ-loop
+write-answer-requires c κs = search needs
+
+loop-less-2 : tie.Need-loop-less-2 Inv-loop μ-loop
+loop-less-2 c = search needs
+
+loop-again-2 : tie.Need-loop-again-2 Inv-loop μ-loop
+unfolding changedBy setLive setEntry
+loop-again-2 c =
+    let y = c .before .before .write-answer in
+    let r = c .before .before .before .before .before .before .before .before .decide in
+    let n = c .before .before .before .before .before .before .before .before .before .before .before .is-cut in
+    let m = c .before .before .before .before .before .before .before .before .before .before .before .before .command-in in
+    let l = c .before .before .before .before .before .before .before .before .before .before .before .before .before .before .before .loop in
+    let s = c .before .before .before .before .before .before .before .before .before .before .before .before .before .before .before .before .before .before .before .before in
+    let o = c .before .before .before .before .before .before .before .before .before .before .before .before .before .before .loop-test .taken in
+    let w = room (c .before .before .before .before .before .before .before .before .before .before .before .before .before .before) in
+    let q = take (requestSize * l .i + requestSize - requestSize * l .i) (drop (requestSize * l .i) (s .args .requests .now)) in
+    let h : Current = record { whole = l .whole; tested = l .tested; station = l .station } in
+    let d : Request = record { command = m .result; tested = l .tested } in
+    let k : isCut (m .result) ≡ false = sym (n .ensures) ∙ c .before .before .before .before .before .before .before .before .before .before .if1 .left in (
+      omega (arith, o),
+      same-len-mid (answerSize * l .i) (answerSize * l .i + answerSize - answerSize * l .i) (l .answers) (y .last .0) (y .kept .0) ∙ l .inv .1,
       r .kept .1 .0 ∙ l .inv .2,
-      passed-more _ (s .args .requests .now) _ _ (l .i) (heldOf (l .current) (l .store)) (l .answers) (l .inv .3) o w (heldOf (r .result) (r .last .1 .0)) (r .last .1 .1 .1 .0)
-          (r .kept .1 .1 .1 .0 ∙ mid-len (answerSize * l .i) (answerSize * l .i + answerSize) (l .answers) w ∙ omega arith) (r .ensures .0) (r .ensures .1),
+      change-tested q h (l .store) d (m .ensures) k (r .result) (r .ensures .0) (l .inv .3),
+      passed-more _ (s .args .requests .now) _ _ (l .i) (heldOf h (l .store)) (l .answers) (l .inv .4) o w _ (y .last .0)
+          (y .kept .0 ∙ mid-len (answerSize * l .i) (answerSize * l .i + answerSize) (l .answers) w ∙ omega arith)
+          (change-run q h (l .store) d (m .ensures) k (r .result) (r .ensures .0) (l .tested) (r .last .1 .0) (r .ensures .1))
+          (y .ensures ∙ change-answered q h (l .store) d (m .ensures) k (r .result) (r .ensures .0)),
     )
 
 same-length : tie.Need-same-length Inv-loop μ-loop
@@ -88,8 +189,8 @@ returns : tie.Need-returns Inv-loop μ-loop
 unfolding requestsIn
 returns c =
     let l = c .before .loop in
-    let s = c .before .before .before .before .before in
-    passed-all _ (s .args .requests .now) _ _ (l .i) (heldOf (l .current) (l .store)) (l .answers) (l .inv .3) (omega arith) (omega (arith, l .inv .1, s .pre .1, c .loop-test .left))
+    let s = c .before .before .before .before .before .before in
+    passed-all _ (s .args .requests .now) _ _ (l .i) (held (l .whole) (l .tested) (l .station) (l .store)) (l .answers) (l .inv .4) (omega arith) (omega (arith, l .inv .1, s .pre .0 .1, c .loop-test .left))
 
 pub run-requests-spec : {M : Type 1} → statement M
 run-requests-spec =
@@ -100,18 +201,32 @@ run-requests-spec =
     loop-holds
     mul-from
     mul-to
-    add-run-request
-    sub-run-request
-    part-run-request-start
-    part-run-request-end
-    add-run-request-2
-    sub-run-request-2
-    part-run-request-start-2
-    part-run-request-end-2
-    run-request-requires
     add-i
+    add-command-in
+    sub-command-in
+    part-command-in-start
+    part-command-in-end
+    command-in-requires
+    is-cut-requires
+    add-run-scan
+    sub-run-scan
+    part-run-scan-start
+    part-run-scan-end
+    run-scan-requires
     loop-less
     loop-again
+    decide-requires
+    mul-live
+    element-set-from-live
+    mul-entry
+    element-set-from-entry
+    add-write-answer
+    sub-write-answer
+    part-write-answer-start
+    part-write-answer-end
+    write-answer-requires
+    loop-less-2
+    loop-again-2
     same-length
     same-length-2
     returns)

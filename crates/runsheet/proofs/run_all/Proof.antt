@@ -1,6 +1,6 @@
 -- `runsheet::run_all` is safe and ends.
 use Prim.Native.Nat.{_≤_}
-use mathlib.Core.Path.{sym}
+use mathlib.Core.Path.{sym, _∙_}
 use lib.ListN.{length}
 use lib.Seq.{length-take-le}
 use native.Mathlib.Omega.{arith}
@@ -31,7 +31,10 @@ returns : tie.Need-returns
 returns c = search needs
 
 run-sheet-requires : tie.Need-run-sheet-requires
-run-sheet-requires c κs = search needs
+run-sheet-requires c κs =
+    let h = c .before .before .before .before .before .before .before .before .before .print-header in
+    let s = c .before .before .before .before .before .before .before .before .before .before .before .before .before .before .before in
+    (s .pre .0, s .pre .1, h .kept .0 ∙ s .pre .2, s .pre .3)
 
 same-length-2 : tie.Need-same-length-2
 same-length-2 c = search needs

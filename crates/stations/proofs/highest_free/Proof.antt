@@ -5,6 +5,7 @@ use mathlib.Core.Logic.{⊎-elim}
 use native.Mathlib.Omega.{arith}
 use borrow.Author.Needs.{needs}
 use borrow.Author.Tests.{not-true, not-false}
+use Rattle.stations.specs.Found.{stationOf}
 use Rattle.stations.proofs.Free.{highest, highest-none, highest-hit, highest-miss, free, free-held, free-closing, free-neither, highest-free}
 use Rattle.stations.proofs.highest_free.Statement.{statement}
 use Rattle.stations.proofs.highest_free.Tie as tie
@@ -39,7 +40,8 @@ is-marked-requires c κs = search needs
 returns : tie.Need-returns Inv-loop μ-loop
 returns c =
     let l = c .before .before .before .before .before .before .before .loop in
-    let st = c .before .before .before .before .before .before .before .before .before .before .before .args .station in
+    let a = c .before .before .before .before .before .before .before .before .before .args in
+    let st = stationOf (a .live) (a .t2) in
     let ms = c .before .before .before .before .before .before .before .before .closing-slots .result in
     let e : l .n ≡ suc (l .n - 1) = omega arith in
     sym (highest-hit _ (l .n) _ e (free-neither (st .entries) ms _ (c .before .before .if1 .taken) (sym (c .before .is-marked .ensures) ∙ not-true _ (c .if2 .taken))))
@@ -54,14 +56,16 @@ loop-less c = search needs
 loop-again : tie.Need-loop-again Inv-loop μ-loop
 loop-again c =
     let l = c .before .before .before .before .before .loop in
-    let st = c .before .before .before .before .before .before .before .before .before .args .station in
+    let a = c .before .before .before .before .before .before .before .args in
+    let st = stationOf (a .live) (a .t2) in
     let ms = c .before .before .before .before .before .before .closing-slots .result in
     let e : l .n ≡ suc (l .n - 1) = omega arith in
     (omega arith, l .inv .1 ∙ highest-miss _ (l .n) _ e (⊎-elim (λ w. free-closing (st .entries) ms _ (sym (w .1 .ensures) ∙ not-false _ (w .2 .left))) (λ w. free-held (st .entries) ms _ (w .left)) (c .if1 .came)))
 
 returns-2 : tie.Need-returns-2 Inv-loop μ-loop
 returns-2 c =
-    let st = c .before .before .before .before .before .args .station in
+    let a = c .before .before .before .args in
+    let st = stationOf (a .live) (a .t2) in
     let ms = c .before .before .closing-slots .result in
     let q : c .before .loop .n ≡ 0 = omega arith in
     sym (highest-none (free (st .entries) ms)) ∙ (sym (rw q at (c .before .loop .inv .1)) ∙ highest-free st ms (c .before .before .closing-slots .ensures))

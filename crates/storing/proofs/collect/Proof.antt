@@ -8,35 +8,35 @@ use lib.ListN.{length}
 use native.Mathlib.Omega.{arith}
 use borrow.Author.Needs.{needs}
 use borrow.Author.Tests.{not-true, not-false}
-use Rattle.model.specs.declared.Entry.{Entry}
 use Rattle.model.specs.declared.Station.{Station}
-use Rattle.model.specs.declared.Answer.the-variants as A
-use Rattle.model.specs.Effects.{saysStoring}
 use Rattle.model.specs.Limits.{slots, slotSize, storeSize}
 use Rattle.model.specs.Records.{zeroRecord, carriesEntry, recordAt}
 use Rattle.model.specs.Sound.{sound}
-use Rattle.model.specs.Stations.{entryAt, setEntry}
+use Rattle.model.specs.Stations.{entryAt}
 use Rattle.model.specs.Supersedence.{superseded, isReadBy, isRead}
 use Rattle.storing.proofs.CollectRows.{collect-1, collect-2, collect-out, collect-unheld, collect-15, collect-16, collect-17, collect-on}
-use Rattle.storing.proofs.Parts.{record-part, handed-storing, refusal}
+use Rattle.storing.proofs.Parts.{record-part, handed, handed-storing}
 use Rattle.storing.proofs.collect.Statement.{statement}
 use Rattle.storing.proofs.collect.Tie as tie
 
 -- past rows 1 and 2
+abbrev start : tie.Else2 → tie.Start
+start c = c .before .before .before
+
 abbrev st : tie.Else2 → Station
-st c = c .before .before .before .before .args .station
+st c = start c .args .t1
 
 abbrev s : tie.Else2 → List ℕ
-s c = c .before .before .before .before .args .store .now
+s c = start c .args .store .now
 
 abbrev d : tie.Else2 → ℕ
-d c = c .before .before .before .before .args .slot
+d c = start c .args .slot
 
 size : (c : tie.Else2) → length (s c) ≡ storeSize
-size c = c .before .before .if1 .left
+size c = c .before .if1 .left
 
 right : (c : tie.Else2) → sound (st c) ≡ true
-right c = sym (c .before .is-sound .ensures) ∙ not-false _ (c .if2 .left)
+right c = sym (start c .pre) ∙ not-false _ (c .if2 .left)
 
 -- past row 14: the slot has an entry
 abbrev e₄ : tie.Else4 → tie.Else2
@@ -49,21 +49,13 @@ held : (c : tie.Else4) → entryAt (st (e₄ c)) (d (e₄ c)) .id .txn ≢ 0
 unfolding entryAt
 held c = c .if4 .left
 
--- past row 15: it is superseded
+-- past row 15
 abbrev e₅ : tie.Else5 → tie.Else2
 e₅ c = e₄ (c .before .before .before)
 
-old : (c : tie.Else5) → superseded (st (e₅ c) .entries) (entryAt (st (e₅ c)) (d (e₅ c))) ≡ true
-unfolding entryAt
-old c = sym (c .before .is-superseded .ensures) ∙ not-false _ (c .if5 .left)
-
--- past row 16: nobody read it
+-- past row 16
 abbrev e₆ : tie.Else6 → tie.Else2
 e₆ c = e₅ (c .before .before .before)
-
-unread : (c : tie.Else6) → isRead (st (e₆ c)) (entryAt (st (e₆ c)) (d (e₆ c))) ≡ false
-unfolding entryAt isRead isReadBy
-unread c = sym (c .before .is-read .ensures) ∙ c .if6 .left
 
 -- whether its commit record carries it
 abbrev e₇ : tie.After-carries-entry → tie.Else2
@@ -75,34 +67,36 @@ carried c =
     let e = e₇ c in
     ap (λ (x : List ℕ). carriesEntry x (entryAt (st e) (d e))) (sym (record-part (s e) (d e) 0 (slotSize * d e) (omega arith))) ∙ sym (c .carries-entry .ensures)
 
+-- past row 17
+abbrev f₇ : tie.Else7 → tie.Else4
+f₇ c = c .before .before .before .before .before .before .before .before .before .before
+
 refused-requires : tie.Need-refused-requires
-refused-requires c κs = search needs
+refused-requires c κs = tt
 
 returns : tie.Need-returns
 returns c =
     let a = c .before .before .before .args in
     let z = a .store .now in
-    refusal _ (a .station) 1 _ z (c .refused .ensures) (collect-1 (a .station) z (a .slot) (c .before .if1 .taken))
-
-is-sound-requires : tie.Need-is-sound-requires
-is-sound-requires c κs = search needs
+    handed _ _ _ _ _ z (collect-1 (a .t1) z (a .slot) (c .before .if1 .taken)) (c .refused .ensures)
 
 refused-requires-2 : tie.Need-refused-requires-2
-refused-requires-2 c κs = search needs
+refused-requires-2 c κs = tt
 
 returns-2 : tie.Need-returns-2
 returns-2 c =
-    let a = c .before .before .before .before .before .args in
+    let e = c .before .before .before .before in
+    let a = e .args in
     let z = a .store .now in
-    refusal _ (a .station) 2 _ z (c .refused2 .ensures) (collect-2 (a .station) z (a .slot) (c .before .before .before .if1 .left) (sym (c .before .before .is-sound .ensures) ∙ not-true _ (c .before .if2 .taken)))
+    handed _ _ _ _ _ z (collect-2 (a .t1) z (a .slot) (c .before .before .if1 .left) (sym (e .pre) ∙ not-true _ (c .before .if2 .taken))) (c .refused2 .ensures)
 
 refused-requires-3 : tie.Need-refused-requires-3
-refused-requires-3 c κs = search needs
+refused-requires-3 c κs = tt
 
 returns-3 : tie.Need-returns-3
 returns-3 c =
     let e = c .before .before in
-    refusal _ (st e) 14 _ (s e) (c .refused3 .ensures) (collect-out (st e) (s e) (d e) (size e) (right e) (c .before .if3 .taken))
+    handed _ _ _ _ _ (s e) (collect-out (st e) (s e) (d e) (size e) (right e) (c .before .if3 .taken)) (c .refused3 .ensures)
 
 mul-e : tie.Need-mul-e
 mul-e c = search needs
@@ -111,32 +105,37 @@ element-copy-out-e : tie.Need-element-copy-out-e
 element-copy-out-e c = search needs
 
 refused-requires-4 : tie.Need-refused-requires-4
-refused-requires-4 c κs = search needs
+refused-requires-4 c κs = tt
 
 returns-4 : tie.Need-returns-4
 unfolding entryAt
 returns-4 c =
     let e = c .before .before .before .before .before .before in
-    refusal _ (st e) 14 _ (s e) (c .refused4 .ensures) (collect-unheld (st e) (s e) (d e) (size e) (right e) (c .before .if4 .taken))
+    handed _ _ _ _ _ (s e) (collect-unheld (st e) (s e) (d e) (size e) (right e) (c .before .if4 .taken)) (c .refused4 .ensures)
 
 is-superseded-requires : tie.Need-is-superseded-requires
 is-superseded-requires c κs = search needs
 
 refused-requires-5 : tie.Need-refused-requires-5
-refused-requires-5 c κs = search needs
+refused-requires-5 c κs = tt
 
 returns-5 : tie.Need-returns-5
 unfolding entryAt
 returns-5 c =
     let f = c .before .before .before .before in
     let e = e₄ f in
-    refusal _ (st e) 15 _ (s e) (c .refused5 .ensures) (collect-15 (st e) (s e) (d e) (size e) (right e) (low f) (held f) (sym (c .before .before .is-superseded .ensures) ∙ not-true _ (c .before .if5 .taken)))
+    handed _ _ _ _ _ (s e) (collect-15 (st e) (s e) (d e) (size e) (right e) (low f) (held f) (sym (c .before .before .is-superseded .ensures) ∙ not-true _ (c .before .if5 .taken))) (c .refused5 .ensures)
+
+-- it is superseded
+old : (c : tie.Else5) → superseded (st (e₅ c) .entries) (entryAt (st (e₅ c)) (d (e₅ c))) ≡ true
+unfolding entryAt
+old c = sym (c .before .is-superseded .ensures) ∙ not-false _ (c .if5 .left)
 
 is-read-requires : tie.Need-is-read-requires
-is-read-requires c κs = search needs
+is-read-requires c κs = tt
 
 refused-requires-6 : tie.Need-refused-requires-6
-refused-requires-6 c κs = search needs
+refused-requires-6 c κs = tt
 
 returns-6 : tie.Need-returns-6
 unfolding entryAt isRead isReadBy
@@ -144,7 +143,12 @@ returns-6 c =
     let g = c .before .before .before .before in
     let f = g .before .before .before in
     let e = e₄ f in
-    refusal _ (st e) 16 _ (s e) (c .refused6 .ensures) (collect-16 (st e) (s e) (d e) (size e) (right e) (low f) (held f) (old g) (sym (c .before .before .is-read .ensures) ∙ c .before .if6 .taken))
+    handed _ _ _ _ _ (s e) (collect-16 (st e) (s e) (d e) (size e) (right e) (low f) (held f) (old g) (sym (c .before .before .is-read .ensures) ∙ c .before .if6 .taken)) (c .refused6 .ensures)
+
+-- nobody read it
+unread : (c : tie.Else6) → isRead (st (e₆ c)) (entryAt (st (e₆ c)) (d (e₆ c))) ≡ false
+unfolding entryAt isRead isReadBy
+unread c = sym (c .before .is-read .ensures) ∙ c .if6 .left
 
 mul-at : tie.Need-mul-at
 mul-at c = search needs
@@ -165,7 +169,7 @@ carries-entry-requires : tie.Need-carries-entry-requires
 carries-entry-requires c κs = search needs
 
 refused-requires-7 : tie.Need-refused-requires-7
-refused-requires-7 c κs = search needs
+refused-requires-7 c κs = tt
 
 same-length : tie.Need-same-length
 same-length c = search needs
@@ -176,34 +180,33 @@ returns-7 c =
     let g = h .before .before .before in
     let f = g .before .before .before in
     let e = e₄ f in
-    refusal _ (st e) 17 _ (s e) (c .refused7 .ensures) (collect-17 (st e) (s e) (d e) (size e) (right e) (low f) (held f) (old g) (unread h) (carried (c .before .before) ∙ not-true _ (c .before .if7 .taken)))
+    handed _ _ _ _ _ (s e) (collect-17 (st e) (s e) (d e) (size e) (right e) (low f) (held f) (old g) (unread h) (carried (c .before .before) ∙ not-true _ (c .before .if7 .taken))) (c .refused7 .ensures)
 
 store-zero-requires : tie.Need-store-zero-requires
 store-zero-requires c κs = search needs
 
 no-entry-requires : tie.Need-no-entry-requires
-no-entry-requires c κs = search needs
+no-entry-requires c κs = tt
 
-mul-free : tie.Need-mul-free
-mul-free c = search needs
-
-element-set-from-free : tie.Need-element-set-from-free
-element-set-from-free c = search needs
+entry-changed-requires : tie.Need-entry-changed-requires
+entry-changed-requires c κs = low (f₇ (c .before .before .before .before .before))
 
 same-length-2 : tie.Need-same-length-2
 same-length-2 c = search needs
 
 returns-8 : tie.Need-returns-8
-unfolding entryAt setEntry
+unfolding entryAt
 returns-8 c =
-    let k = c .before .before .before .before .before in
+    let k = c .before .before .before .before .before .before in
     let h = k .before .before .before .before in
     let g = h .before .before .before in
-    let f = g .before .before .before in
+    let f = f₇ k in
     let e = e₄ f in
-    let w = c .before .before .before .store-zero in
-    handed-storing _ _ _ (d e) 0 zeroRecord (s e) (w .last .0)
-    (collect-on (st e) (s e) (d e) (size e) (right e) (low f) (held f) (old g) (unread h) (carried (k .before) ∙ not-false _ (k .if7 .left)) ∙ ap (λ (x : Entry). saysStoring (A.Collected (entryAt (st e) (d e) .id)) (setEntry (st e) (d e) x) (d e) 0 zeroRecord) (sym (c .no-entry .ensures)))
+    let w = c .before .before .before .before .store-zero in
+    let x = c .before .no-entry in
+    handed-storing _ _ _ _ _ (d e) 0 zeroRecord (s e) (w .last .0)
+    (collect-on (st e) (s e) (d e) (size e) (right e) (low f) (held f) (old g) (unread h) (x .result) (x .ensures) (carried (k .before) ∙ not-false _ (k .if7 .left)))
+    (c .entry-changed .ensures)
     (w .ensures)
 
 pub collect-spec : {M : Type 1} → statement M
@@ -212,7 +215,6 @@ collect-spec =
     (tie.spec
     refused-requires
     returns
-    is-sound-requires
     refused-requires-2
     returns-2
     refused-requires-3
@@ -238,7 +240,6 @@ collect-spec =
     returns-7
     store-zero-requires
     no-entry-requires
-    mul-free
-    element-set-from-free
+    entry-changed-requires
     same-length-2
     returns-8)

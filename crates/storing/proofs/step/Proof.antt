@@ -14,27 +14,28 @@ use Rattle.model.specs.Sound.{sound}
 use Rattle.model.specs.Stations.{liveAt}
 use Rattle.model.proofs.SoundFacts.{IsClosing, closing-facts}
 use Rattle.model.proofs.SoundLaws.{write-limit}
-use Rattle.storing.proofs.Parts.{refusal, Placed, placed}
+use Rattle.stations.proofs.Changes.{as-outcome}
+use Rattle.storing.proofs.Parts.{handed, Placed, placed}
 use Rattle.storing.proofs.StepRows.{not-closing, step-1, step-2, step-named, step-10, step-record, step-done}
 use Rattle.storing.proofs.step.Statement.{statement}
 use Rattle.storing.proofs.step.Tie as tie
 
 -- past rows 1 and 2
 abbrev start : tie.Else2 → tie.Start
-start c = c .before .before .before .before
+start c = c .before .before .before
 
 size : (c : tie.Else2) → length (start c .args .store .now) ≡ storeSize
-size c = c .before .before .if1 .left
+size c = c .before .if1 .left
 
-right : (c : tie.Else2) → sound (start c .args .station) ≡ true
-right c = sym (c .before .is-sound .ensures) ∙ not-false _ (c .if2 .left)
+right : (c : tie.Else2) → sound (start c .args .t1) ≡ true
+right c = sym (start c .pre) ∙ not-false _ (c .if2 .left)
 
-places : (c : tie.Else2) → length (start c .args .station .live) ≡ 8
+places : (c : tie.Else2) → length (start c .args .t1 .live) ≡ 8
 places c = simp length-map at (start c .good .0 .1 .1 .0 .1 .0 .1)
 
 -- past rows 3 and 8: the transaction is live at place i
 abbrev st : tie.Else3 → Station
-st c = start (c .before .before .before .before) .args .station
+st c = start (c .before .before .before .before) .args .t1
 
 abbrev s : tie.Else3 → List ℕ
 s c = start (c .before .before .before .before) .args .store .now
@@ -78,34 +79,32 @@ limit : (c : tie.After-phase) → liveAt (st (e₃ c)) (i (e₃ c)) .«write_cou
 limit c = write-limit _ (facts c .used .sets)
 
 refused-requires : tie.Need-refused-requires
-refused-requires c κs = search needs
+refused-requires c κs = tt
 
 returns : tie.Need-returns
 returns c =
     let a = c .before .before .before .args in
     let z = a .store .now in
-    refusal _ (a .station) 1 _ z (c .refused .ensures) (step-1 (a .station) z (a .txn) (c .before .if1 .taken))
-
-is-sound-requires : tie.Need-is-sound-requires
-is-sound-requires c κs = search needs
+    handed _ _ _ _ _ z (step-1 (a .t1) z (a .txn) (c .before .if1 .taken)) (c .refused .ensures)
 
 refused-requires-2 : tie.Need-refused-requires-2
-refused-requires-2 c κs = search needs
+refused-requires-2 c κs = tt
 
 returns-2 : tie.Need-returns-2
 returns-2 c =
-    let a = c .before .before .before .before .before .args in
+    let e = c .before .before .before .before in
+    let a = e .args in
     let z = a .store .now in
-    refusal _ (a .station) 2 _ z (c .refused2 .ensures) (step-2 (a .station) z (a .txn) (c .before .before .before .if1 .left) (sym (c .before .before .is-sound .ensures) ∙ not-true _ (c .before .if2 .taken)))
+    handed _ _ _ _ _ z (step-2 (a .t1) z (a .txn) (c .before .before .if1 .left) (sym (e .pre) ∙ not-true _ (c .before .if2 .taken))) (c .refused2 .ensures)
 
 place-of-requires : tie.Need-place-of-requires
-place-of-requires c κs = search needs
+place-of-requires c κs = tt
 
 named-row-requires : tie.Need-named-row-requires
-named-row-requires c κs = search needs
+named-row-requires c κs = tt
 
 refused-requires-3 : tie.Need-refused-requires-3
-refused-requires-3 c κs = search needs
+refused-requires-3 c κs = tt
 
 returns-3 : tie.Need-returns-3
 returns-3 c =
@@ -114,7 +113,7 @@ returns-3 c =
     let e = c .before .before .before .before .before in
     let a = start e .args in
     let z = a .store .now in
-    refusal _ (a .station) (r .result) _ z (c .refused3 .ensures) (step-named (a .station) z (a .txn) (size e) (right e) (i .result) (r .result) (i .ensures) (places e) (r .ensures) (c .before .if3 .taken))
+    handed _ _ _ _ _ z (step-named (a .t1) z (a .txn) (size e) (right e) (i .result) (r .result) (i .ensures) (places e) (r .ensures) (c .before .if3 .taken)) (c .refused3 .ensures)
 
 mul-l : tie.Need-mul-l
 mul-l c = omega (arith, found c .low)
@@ -126,34 +125,22 @@ enum-known-phase : tie.Need-enum-known-phase
 enum-known-phase c = search needs
 
 refused-requires-4 : tie.Need-refused-requires-4
-refused-requires-4 c κs = search needs
+refused-requires-4 c κs = tt
 
 returns-4 : tie.Need-returns-4
 unfolding liveAt
 returns-4 c =
     let e = c .before .before .before in
-    refusal _ (st e) 10 _ (s e) (c .refused4 .ensures) (step-10 (st e) (s e) (t e) (i e) (found e) (not-closing _ (c .before .match .keys2)))
+    handed _ _ _ _ _ (s e) (step-10 (st e) (s e) (t e) (i e) (found e) (not-closing _ (c .before .match .keys2))) (c .refused4 .ensures)
 
 cast-d : tie.Need-cast-d
 cast-d c = search needs
 
 entry-for-requires : tie.Need-entry-for-requires
-entry-for-requires c κs = search needs
+entry-for-requires c κs = tt
 
 no-live-requires : tie.Need-no-live-requires
-no-live-requires c κs = search needs
-
-mul-unused : tie.Need-mul-unused
-mul-unused c = omega (arith, found (e₃ (p (c .before .before .before))) .low)
-
-element-set-from-unused : tie.Need-element-set-from-unused
-element-set-from-unused c = found (e₃ (p (c .before .before .before))) .low
-
-mul-e : tie.Need-mul-e
-mul-e c = search needs
-
-element-set-from-e : tie.Need-element-set-from-e
-element-set-from-e c = facts (p (c .before .before .before)) .low
+no-live-requires c κs = tt
 
 returns-5 : tie.Need-returns-5
 unfolding liveAt
@@ -162,20 +149,14 @@ returns-5 c =
     let f = p k in
     let e = e₃ f in
     let m = k .before .entry-for in
-    step-done (st e) (s e) (t e) (i e) (found e) (d f) (clock f) (n f) (closing f) (c .no-live .result) (m .result) (c .before .before .if4 .taken) (m .ensures) (c .no-live .ensures)
+    step-done (st e) (s e) (t e) (i e) (found e) (d f) (clock f) (n f) (closing f) (c .no-live .result) (m .result) (c .before .before .if4 .taken) (m .ensures) (c .no-live .ensures) (facts f .low)
 
-add-t32 : tie.Need-add-t32
+add-t30 : tie.Need-add-t30
 unfolding liveAt
-add-t32 c = omega (arith, c .if4 .left, limit (p (c .before)))
+add-t30 c = omega (arith, c .if4 .left, limit (p (c .before)))
 
 with-phase-requires : tie.Need-with-phase-requires
-with-phase-requires c κs = search needs
-
-mul-on : tie.Need-mul-on
-mul-on c = omega (arith, found (e₃ (p (c .before .before))) .low)
-
-element-set-from-on : tie.Need-element-set-from-on
-element-set-from-on c = found (e₃ (p (c .before .before))) .low
+with-phase-requires c κs = tt
 
 store-record-requires : tie.Need-store-record-requires
 unfolding liveAt
@@ -183,20 +164,24 @@ store-record-requires c κs =
     let f = p (c .before .before .before) in
     (found (e₃ f) .size, (facts f .low, (c .before .before .if4 .left, limit f)))
 
+live-changed-requires : tie.Need-live-changed-requires
+live-changed-requires c κs = found (e₃ (p (c .before .before .before .before .before .before))) .low
+
 same-length : tie.Need-same-length
 same-length c = search needs
 
 returns-6 : tie.Need-returns-6
 unfolding liveAt
 returns-6 c =
-    let h = c .before .before .before .before .before in
+    let o = c .before .before .before .before .before in
+    let h = o .before in
     let k = h .before in
     let f = p k in
     let e = e₃ f in
     let m = k .before .entry-for in
-    let o = c .before .before .before .before .with-phase in
-    let w = c .before .before .store-record in
-    step-record (st e) (s e) (t e) (i e) (found e) (d f) (clock f) (n f) (closing f) (w .result) (o .result) (m .result) (w .last .0) (h .if4 .left) (m .ensures) (o .ensures) (w .ensures .0) (w .ensures .1)
+    let w = c .before .before .before .store-record in
+    let q = step-record (st e) (s e) (t e) (i e) (found e) (d f) (clock f) (n f) (closing f) (w .result) (o .with-phase .result) (m .result) (w .last .0) (h .if4 .left) (m .ensures) (o .with-phase .ensures) (w .ensures .0) (w .ensures .1) in
+    (as-outcome _ _ _ _ (q .0) (c .live-changed .ensures), q .1)
 
 pub step-spec : {M : Type 1} → statement M
 step-spec =
@@ -204,7 +189,6 @@ step-spec =
     (tie.spec
     refused-requires
     returns
-    is-sound-requires
     refused-requires-2
     returns-2
     place-of-requires
@@ -219,15 +203,10 @@ step-spec =
     cast-d
     entry-for-requires
     no-live-requires
-    mul-unused
-    element-set-from-unused
-    mul-e
-    element-set-from-e
     returns-5
-    add-t32
+    add-t30
     with-phase-requires
-    mul-on
-    element-set-from-on
     store-record-requires
+    live-changed-requires
     same-length
     returns-6)

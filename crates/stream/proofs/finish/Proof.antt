@@ -17,7 +17,7 @@ slice-aggregate-run-block c = search needs
 run-block-requires : tie.Need-run-block-requires
 run-block-requires c κs =
     let p = c .before .before .before .before .before .before .before .before .pre in
-    (p .0, p .1, p .2, p .3)
+    (p .0, p .1, p .2, p .3, p .4)
 
 same-length : tie.Need-same-length
 same-length c = search needs

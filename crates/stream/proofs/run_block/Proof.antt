@@ -1,12 +1,14 @@
 -- `stream::run_block` meets its contract.
 use Prim.Native.Nat.{_+_, _*_, _-_, _≤_, _<_}
 use mathlib.Core.Path.{_≡_, refl, sym, _∙_}
+use mathlib.Core.Bool.{true}
 use mathlib.Core.List.{_∷_}
 use lib.ListN.{length, drop, length-take, length-drop}
 use lib.Seq.{length-take-le}
 use borrow.Author.Needs.{needs}
 use borrow.Rule.Slice.PartMut.{same-len-mid}
 use native.Mathlib.Omega.{arith}
+use Rattle.model.specs.Sound.{sound}
 use Rattle.sheet.specs.Words.{newline}
 use Rattle.stream.specs.Streams.{afterBytes, bytesOutput}
 use Rattle.stream.specs.Parts.{streamOf}
@@ -19,7 +21,7 @@ abbrev Inv-loop : tie.InvT-loop
 Inv-loop store₀ part₀ len number input out₀ s₀ next₀ used₀ n₀ end₀ store part out s next used n end =
     (end ≤ length input) × (n ≤ 65) × (used ≤ 96 * end) × (next ≤ number + end) × (length part ≡ 65) × (length out ≡ length out₀) × (length store ≡ length store₀)
     × Passed input (afterBytes (drop end₀ input) (streamOf s₀ store₀ next₀ part₀ n₀)) (bytesOutput (drop end₀ input) (streamOf s₀ store₀ next₀ part₀ n₀)) out₀ (streamOf s store next part n) end used out
-    × (end < length input → drop end input ≡ newline ∷ drop (end + 1) input)
+    × (end < length input → drop end input ≡ newline ∷ drop (end + 1) input) × (sound s ≡ true)
 
 abbrev μ-loop : tie.MeasureT-loop
 μ-loop store₀ part₀ len number input out₀ s₀ next₀ used₀ n₀ end₀ store part out s next used n end =
@@ -33,7 +35,7 @@ loop-holds c =
     let f = c .before .before .fill in
     let s = c .before .before .before .before .before .before .before .before in
     let o : f .result .end ≤ length (s .args .input .now) = omega (arith, f .ensures .1, line-within (s .args .input .now)) in
-    (o, f .ensures .0, omega arith, omega arith, f .kept .0 ∙ s .pre .0, refl, refl, passed-none (s .args .input .now) (s .args .out .now) _ (f .result .end), stops (s .args .input .now) 0 (f .result .end) (f .ensures .1) (omega arith))
+    (o, f .ensures .0, omega arith, omega arith, f .kept .0 ∙ s .pre .0, refl, refl, passed-none (s .args .input .now) (s .args .out .now) _ (f .result .end), stops (s .args .input .now) 0 (f .result .end) (f .ensures .1) (omega arith), s .pre .4)
 
 slice-reshare-prefix-run-line : tie.Need-slice-reshare-prefix-run-line Inv-loop μ-loop
 slice-reshare-prefix-run-line c = search needs
@@ -98,6 +100,7 @@ loop-again c =
           (r .result .station) (r .last .1 .0) (r .last .1 .1 .1 .1 .0) (r .result .used) u v m (r .ensures .0) (r .ensures .2) (r .ensures .3))
           (f .last .0) (f .result .len) (f .result .end) (f .ensures .1) (f .ensures .2),
       stops i (l .end + 1) (f .result .end) (f .ensures .1) (omega (arith, o)),
+      r .ensures .4,
     )
 
 same-length : tie.Need-same-length Inv-loop μ-loop
@@ -116,7 +119,7 @@ returns c =
     let f = c .before .before .before .before .fill in
     let d = passed-all (s .args .input .now) _ _ (s .args .out .now) (l .s) (l .store) (l .next) (l .part) (l .n) (l .end) (l .used) (l .out) (l .inv .7) (omega arith) in
     let w = first-fill (s .args .input .now) (s .args .station) (s .args .store .now) (s .args .number) (s .args .part .now) (s .args .len) (f .last .0) (f .result .len) (f .result .end) (f .ensures .1) (f .ensures .2) in
-    (d .0 ∙ w .0, d .1 ∙ w .1, l .inv .7 .rest-is, omega (arith, l .inv .0, l .inv .2), l .inv .1, omega (arith, l .inv .0, l .inv .3))
+    (d .0 ∙ w .0, d .1 ∙ w .1, l .inv .7 .rest-is, omega (arith, l .inv .0, l .inv .2), l .inv .1, omega (arith, l .inv .0, l .inv .3), l .inv .9)
 
 pub run-block-spec : {M : Type 1} → statement M
 run-block-spec =

@@ -1,7 +1,7 @@
 -- `stream::run_line` meets its contract.
-use mathlib.Core.Path.{_∙_}
+use mathlib.Core.Path.{sym, _∙_}
 use borrow.Author.Needs.{needs}
-use Rattle.stream.proofs.RunLaws.{line-run, line-answered}
+use Rattle.stream.proofs.RunLaws.{line-run, line-answered, line-sound}
 use Rattle.stream.proofs.run_line.Statement.{statement}
 use Rattle.stream.proofs.run_line.Tie as tie
 
@@ -9,7 +9,7 @@ parse-line-requires : tie.Need-parse-line-requires
 parse-line-requires c κs = search needs
 
 act-once-requires : tie.Need-act-once-requires
-act-once-requires c κs = search needs
+act-once-requires c κs = sym (c .before .before .before .before .before .pre .1)
 
 print-line-requires : tie.Need-print-line-requires
 print-line-requires c κs = search needs
@@ -22,7 +22,8 @@ same-length-2 c = search needs
 
 returns : tie.Need-returns
 returns c =
-    let a = c .before .before .before .before .before .before .before .before .before .before .before .before .before .args in
+    let s = c .before .before .before .before .before .before .before .before .before .before .before .before .before in
+    let a = s .args in
     let o = c .before .before .before .before .before .before .before .act-once in
     let w = c .before .before .before .print-line in
     let m = c .before .before .before .before .before .before .before .before .before .parse-line in (
@@ -30,6 +31,7 @@ returns c =
       w .ensures .0,
       w .ensures .1 ∙ line-answered (a .line .now) (a .station) (a .store .now) (a .number) (m .result) (m .ensures) (o .result) (o .last .1 .0) (o .ensures .0) (o .ensures .1),
       w .ensures .2,
+      line-sound (a .line .now) (a .station) (a .store .now) (a .number) (m .result) (m .ensures) (o .result) (o .last .1 .0) (o .ensures .0) (o .ensures .1) (s .pre .1),
     )
 
 pub run-line-spec : {M : Type 1} → statement M

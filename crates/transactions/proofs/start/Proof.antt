@@ -1,5 +1,5 @@
 -- `transactions::start` meets its contract. Assumes nothing.
-use mathlib.Core.Path.{_≡_, refl, sym, ap, _∙_}
+use mathlib.Core.Path.{_≡_, refl, sym, _∙_}
 use mathlib.Core.Logic.{inl, inr}
 use mathlib.Core.Bool.{true}
 use lib.ListN.{length, length-map}
@@ -7,9 +7,9 @@ use native.Mathlib.Omega.{arith}
 use borrow.Author.Needs.{needs}
 use borrow.Author.Tests.{not-true, not-false}
 use Rattle.model.specs.declared.Answer.the-variants as A
-use Rattle.model.specs.Effects.{outcomeOf}
 use Rattle.model.specs.Sound.{sound}
 use Rattle.stations.proofs.Callers.{place-eq, place-live, place-none, slot-held}
+use Rattle.stations.proofs.Changes.{as-effect}
 use Rattle.transactions.proofs.Rows.{Sought, placed, start-2, start-3, start-6, start-7, start-done}
 use Rattle.transactions.proofs.start.Statement.{statement}
 use Rattle.transactions.proofs.start.Tie as tie
@@ -20,25 +20,24 @@ live8 c = simp length-map at (c .good .0 .1 .1 .0 .1 .0 .1)
 entries64 : (c : tie.Start) → length (c .args .station .entries) ≡ 64
 entries64 c = simp length-map at (c .good .0 .1 .1 .1 .0 .1 .0 .1)
 
-sound-known : (c : tie.Else1) → sound (c .before .before .args .station) ≡ true
-sound-known c = sym (c .before .is-sound .ensures) ∙ not-false _ (c .if1 .left)
-
-is-sound-requires : tie.Need-is-sound-requires
-is-sound-requires c κs = search needs
+sound-known : (c : tie.Else1) → sound (c .before .args .station) ≡ true
+sound-known c = sym (c .before .pre) ∙ not-false _ (c .if1 .left)
 
 refused-requires : tie.Need-refused-requires
 refused-requires c κs = search needs
 
 returns : tie.Need-returns
 returns c =
-    c .refused .ensures ∙ sym (ap outcomeOf (start-2 _ (sym (c .before .before .is-sound .ensures) ∙ not-true _ (c .before .if1 .taken)) _))
+    as-effect _ _ _ _ (start-2 _ (sym (c .before .before .pre) ∙ not-true _ (c .before .if1 .taken)) _)
+    (c .refused .ensures)
 
 refused-requires-2 : tie.Need-refused-requires-2
 refused-requires-2 c κs = search needs
 
 returns-2 : tie.Need-returns-2
 returns-2 c =
-    c .refused2 .ensures ∙ sym (ap outcomeOf (start-3 _ (sound-known (c .before .before)) _ (c .before .if2 .taken)))
+    as-effect _ _ _ _ (start-3 _ (sound-known (c .before .before)) _ (c .before .if2 .taken))
+    (c .refused2 .ensures)
 
 place-of-requires : tie.Need-place-of-requires
 place-of-requires c κs = search needs
@@ -48,8 +47,9 @@ refused-requires-3 c κs = search needs
 
 returns-3 : tie.Need-returns-3
 returns-3 c =
-    c .refused3 .ensures
-    ∙ sym (ap outcomeOf (start-6 _ (sound-known (c .before .before .before .before .before)) _ (c .before .before .before .before .if2 .left) (inl (place-live _ _ _ (c .before .before .place-of .ensures) (live8 (c .before .before .before .before .before .before .before)) (c .before .if3 .taken)))))
+    as-effect _ _ _ _
+    (start-6 _ (sound-known (c .before .before .before .before .before)) _ (c .before .before .before .before .if2 .left) (inl (place-live _ _ _ (c .before .before .place-of .ensures) (live8 (c .before .before .before .before .before .before)) (c .before .if3 .taken))))
+    (c .refused3 .ensures)
 
 slot-of-requires : tie.Need-slot-of-requires
 slot-of-requires c κs = search needs
@@ -59,12 +59,13 @@ refused-requires-4 c κs = search needs
 
 returns-4 : tie.Need-returns-4
 returns-4 c =
-    c .refused4 .ensures
-    ∙ sym (ap outcomeOf (start-6 _ (sound-known (c .before .before .before .before .before .before .before .before)) _ (c .before .before .before .before .before .before .before .if2 .left) (inr (slot-held _ _ _ (c .before .before .slot-of .ensures) (entries64 (c .before .before .before .before .before .before .before .before .before .before)) (omega (arith, c .before .if4 .taken))))))
+    as-effect _ _ _ _
+    (start-6 _ (sound-known (c .before .before .before .before .before .before .before .before)) _ (c .before .before .before .before .before .before .before .if2 .left) (inr (slot-held _ _ _ (c .before .before .slot-of .ensures) (entries64 (c .before .before .before .before .before .before .before .before .before)) (omega (arith, c .before .if4 .taken)))))
+    (c .refused4 .ensures)
 
 -- what the searches have found
-sought : (c : tie.After-slot-of) → Sought (c .before .before .before .before .before .before .before .before .args .station) (c .before .before .before .before .before .before .before .before .args .txn) (c .slot-of .result) (c .before .before .before .place-of .result)
-sought c = record { isSound = sound-known (c .before .before .before .before .before .before); slotAt = c .slot-of .ensures; placeAt = c .before .before .before .place-of .ensures; entries64 = entries64 (c .before .before .before .before .before .before .before .before); live8 = live8 (c .before .before .before .before .before .before .before .before) }
+sought : (c : tie.After-slot-of) → Sought (c .before .before .before .before .before .before .before .args .station) (c .before .before .before .before .before .before .before .args .txn) (c .slot-of .result) (c .before .before .before .place-of .result)
+sought c = record { isSound = sound-known (c .before .before .before .before .before .before); slotAt = c .slot-of .ensures; placeAt = c .before .before .before .place-of .ensures; entries64 = entries64 (c .before .before .before .before .before .before .before); live8 = live8 (c .before .before .before .before .before .before .before) }
 
 place-of-requires-2 : tie.Need-place-of-requires-2
 place-of-requires-2 c κs = search needs
@@ -74,30 +75,28 @@ refused-requires-5 c κs = search needs
 
 returns-5 : tie.Need-returns-5
 returns-5 c =
-    let z = c .before .before .place-of2 in
-    c .refused5 .ensures
-    ∙ sym (ap outcomeOf (start-7 _ _ _ _ (sought (c .before .before .before .before)) (c .before .before .before .before .before .before .before .before .before .if2 .left) (c .before .before .before .before .before .before .if3 .left) (c .before .before .before .if4 .left) (place-none _ 0 _ (z .ensures) (live8 (c .before .before .before .before .before .before .before .before .before .before .before .before)) (c .before .if5 .taken))))
+    as-effect _ _ _ _
+    (start-7 _ _ _ _ (sought (c .before .before .before .before)) (c .before .before .before .before .before .before .before .before .before .if2 .left) (c .before .before .before .before .before .before .if3 .left) (c .before .before .before .if4 .left) (place-none _ 0 _ (c .before .before .place-of2 .ensures) (live8 (c .before .before .before .before .before .before .before .before .before .before .before)) (c .before .if5 .taken)))
+    (c .refused5 .ensures)
 
 opened-requires : tie.Need-opened-requires
 opened-requires c κs = search needs
 
-mul-begun : tie.Need-mul-begun
-mul-begun c = search needs
-
-element-set-from-begun : tie.Need-element-set-from-begun
-element-set-from-begun c = search needs
+live-changed-requires : tie.Need-live-changed-requires
+live-changed-requires c κs = omega (arith, c .before .if5 .left)
 
 returns-6 : tie.Need-returns-6
 returns-6 c =
-    let z = c .before .before .place-of2 in
-    placed A.Started _ _ _ _ _ _ refl (c .opened .ensures)
-    (start-done _ _ _ _ (sought (c .before .before .before .before)) (c .before .before .before .before .before .before .before .before .before .if2 .left) (c .before .before .before .before .before .before .if3 .left) (c .before .before .before .if4 .left) (place-live _ 0 _ (z .ensures) (live8 (c .before .before .before .before .before .before .before .before .before .before .before .before)) (c .before .if5 .left)) _ (place-eq _ 0 _ (z .ensures)))
+    let z = c .before .before .before .place-of2 in
+    as-effect _ _ _ _
+    (placed A.Started _ _ _ _ _ _ refl (c .before .opened .ensures)
+    (start-done _ _ _ _ (sought (c .before .before .before .before .before)) (c .before .before .before .before .before .before .before .before .before .before .if2 .left) (c .before .before .before .before .before .before .before .if3 .left) (c .before .before .before .before .if4 .left) (place-live _ 0 _ (z .ensures) (live8 (c .before .before .before .before .before .before .before .before .before .before .before .before)) (c .before .before .if5 .left)) _ (place-eq _ 0 _ (z .ensures))))
+    (c .live-changed .ensures)
 
 pub start-spec : {M : Type 1} → statement M
 start-spec =
     tie.close
     (tie.spec
-    is-sound-requires
     refused-requires
     returns
     refused-requires-2
@@ -112,6 +111,5 @@ start-spec =
     refused-requires-5
     returns-5
     opened-requires
-    mul-begun
-    element-set-from-begun
+    live-changed-requires
     returns-6)
