@@ -15,6 +15,7 @@ extern "C" {
     fn bench_retry(rounds: u64, entries: u8, lives: u8, reads: u8, base: u8) -> u64;
     fn bench_get(store: *const u8, len: usize, rounds: u64, entries: u8, lives: u8, reads: u8, base: u8, key: u8) -> u64;
     fn bench_transaction(store: *mut u8, len: usize, rounds: u64, entries: u8, lives: u8, reads: u8, base: u8) -> u64;
+    fn bench_known(store: *mut u8, len: usize, verb: u8, rounds: u64, entries: u8, lives: u8, reads: u8, base: u8) -> u64;
     fn bench_scan(store: *const u8, len: usize, rounds: u64) -> u64;
 }
 
@@ -209,6 +210,19 @@ fn main() {
                 |n| bench_get(bytes.as_ptr(), bytes.len(), n, z.entries, z.lives, z.reads, z.base, 0),
                 |n| rust_get(&bytes, n, z, 0),
             );
+            let mut known = bytes.clone();
+            for (verb, name) in [(2, "put"), (3, "get"), (4, "commit again")] {
+                compare(
+                    &format!("{name} on a station known to be sound, {size}"),
+                    4000,
+                    |n| bench_known(known.as_mut_ptr(), known.len(), verb, n, z.entries, z.lives, z.reads, z.base),
+                    |n| match verb {
+                        2 => rust_put(n, z),
+                        3 => rust_get(&bytes, n, z, 0),
+                        _ => rust_retry(n, z),
+                    },
+                );
+            }
             let (mut x, mut y) = (store(z), store(z));
             compare(
                 &format!("a transaction of nine calls, {size}"),

@@ -1,7 +1,8 @@
-//! The paper's transaction (section 6.1.2: two functions, each one write and two reads) over 64 keys with a Zipf distribution, one client: for the
-//! proved library through its C interface, for the plain Rust version, and for what a shop would use instead, SQLite in memory and Redis on
-//! loopback. The same keys in the same order for each. Built with `--cfg sqlite` where that library is there; Redis is asked at the port
-//! that the environment's REDIS_PORT names. Alternating rounds, the least time of each.
+//! Two whole workloads: the paper's transaction (section 6.1.2: two functions, each one write and two reads) over 64 keys with a Zipf
+//! distribution, one client, and a run sheet of a million lines. For the proved library through its C interface and the proved program, for
+//! the plain Rust version, and for what a shop would use instead, SQLite in memory and Redis on loopback. The same keys in the same order
+//! for each. Built with `--cfg sqlite` where that library is there; Redis is asked at the port that the environment's REDIS_PORT names.
+//! Alternating rounds, the least time of each. Arguments: the proved program, the plain one.
 
 #[path = "../tests/model.rs"]
 #[allow(dead_code)]
@@ -67,73 +68,188 @@ fn jobs(s: f64, n: usize) -> Vec<Job> {
         .collect()
 }
 
-// ── the proved library: a transaction in one crossing, with a collect of each slot in turn ──
+// ── the client: what it asks, in crossings of some transactions each ──
 
-fn request(out: &mut Vec<u8>, verb: u8, txn: u32, key: u8, number: u64) {
-    out.extend([verb, key, 0, 0]);
-    out.extend(txn.to_le_bytes());
-    out.extend(number.to_le_bytes());
+#[derive(Clone, Copy)]
+struct Call {
+    verb: u8,
+    txn: u32,
+    key: u8,
+    number: u64,
 }
 
-fn requests(out: &mut Vec<u8>, i: usize, j: &Job) {
-    let (txn, clock) = (i as u32 + 1, i as u64 + 1);
-    out.clear();
-    request(out, 1, txn, 0, 0);
-    for half in 0..2 {
-        request(out, 3, txn, j.reads[2 * half], 0);
-        request(out, 3, txn, j.reads[2 * half + 1], 0);
-        request(out, 2, txn, j.writes[half].0, j.writes[half].1);
-    }
-    request(out, 4, txn, 0, clock);
-    let records = if j.writes[0].0 == j.writes[1].0 { 3 } else { 4 };
-    for _ in 0..records {
-        request(out, 5, txn, 0, 0);
-    }
-    for slot in 0..4 {
-        request(out, 7, 0, ((4 * i + slot) % 64) as u8, 0);
+fn run(s: &mut Station, store: &mut [u8], c: &Call) -> Answer {
+    match c.verb {
+        1 => s.start(c.txn),
+        2 => s.put(c.txn, c.key, c.number),
+        3 => s.get(store, c.txn, c.key),
+        4 => s.commit(c.txn, c.number),
+        5 => s.step(store, c.txn),
+        _ => s.collect(store, c.key),
     }
 }
 
-fn proved(jobs: &[Job]) -> u64 {
-    let (mut image, mut store) = (vec![0; 4800], vec![0; STORE]);
-    let (mut out, mut answers) = (Vec::new(), vec![0; 32 * 32]);
+/// The client knows which slot has the newest version of each key, and so which slots it may collect. Where slots become few it writes
+/// eight keys anew, each the last one of its slot.
+struct Client {
+    station: Station,
+    store: Vec<u8>,
+    txn: u32,
+    newest: [Option<(u8, u64)>; KEYS],
+    keys: [u8; 64],
+    calls: Vec<Call>,
+}
+
+impl Client {
+    fn new() -> Client {
+        Client { station: Station::empty(), store: vec![0; STORE], txn: 0, newest: [None; KEYS], keys: [0; 64], calls: Vec::new() }
+    }
+
+    fn call(&mut self, verb: u8, key: u8, number: u64) -> Answer {
+        let c = Call { verb, txn: if verb == 7 { 0 } else { self.txn }, key, number };
+        self.calls.push(c);
+        run(&mut self.station, &mut self.store, &c)
+    }
+
+    fn written(&mut self, slot: u8, key: u8, value: u64) {
+        if let Some((before, _)) = self.newest[usize::from(key)].replace((slot, value)) {
+            self.keys[usize::from(before)] -= 1;
+        }
+        self.keys[usize::from(slot)] += 1;
+    }
+
+    /// Reads, then writes; in two halves where there are two writes.
+    fn transaction(&mut self, reads: &[u8], writes: &[(u8, u64)]) {
+        self.txn += 1;
+        self.call(1, 0, 0);
+        let half = reads.len() / writes.len();
+        for (i, w) in writes.iter().enumerate() {
+            for k in &reads[half * i..half * i + half] {
+                self.call(3, *k, 0);
+            }
+            self.call(2, w.0, w.1);
+        }
+        let clock = u64::from(self.txn);
+        let Answer::Closing(slot) = self.call(4, 0, clock) else { panic!("no slot is free") };
+        while !matches!(self.call(5, 0, 0), Answer::Done(_)) {}
+        for w in writes {
+            self.written(slot, w.0, w.1);
+        }
+    }
+
+    fn collect(&mut self) {
+        for d in 0..64 {
+            if self.station.entries[usize::from(d)].count != 0 && self.keys[usize::from(d)] == 0 {
+                assert!(matches!(self.call(7, d, 0), Answer::Collected(_)));
+            }
+        }
+    }
+
+    fn make_room(&mut self, slots: usize) {
+        self.collect();
+        while self.station.entries.iter().filter(|e| e.count == 0).count() < slots {
+            let alone = |k: &u8| self.newest[usize::from(*k)].filter(|n| self.keys[usize::from(n.0)] == 1).map(|n| (*k, n.1));
+            let again: Vec<(u8, u64)> = (0..KEYS as u8).filter_map(|k| alone(&k)).take(8).collect();
+            self.transaction(&[], &again);
+            self.collect();
+        }
+    }
+}
+
+/// The calls of each crossing.
+fn crossings(jobs: &[Job], together: usize) -> Vec<Vec<Call>> {
+    let mut client = Client::new();
+    jobs.chunks(together)
+        .map(|some| {
+            client.make_room(together + 1);
+            some.iter().for_each(|j| client.transaction(&j.reads, &j.writes));
+            std::mem::take(&mut client.calls)
+        })
+        .collect()
+}
+
+fn bytes(calls: &[Call]) -> Vec<u8> {
+    let mut out = Vec::new();
+    for c in calls {
+        out.extend([c.verb, c.key, 0, 0]);
+        out.extend(c.txn.to_le_bytes());
+        out.extend(c.number.to_le_bytes());
+    }
+    out
+}
+
+// ── the proved library and the plain version; how many transactions were acknowledged ──
+
+fn proved(crossings: &[Vec<u8>]) -> u64 {
+    let (mut image, mut store, mut answers) = (vec![0; 4800], vec![0; STORE], vec![0; 32 * 1024]);
     unsafe { gorehimu_empty(image.as_mut_ptr(), image.len()) };
     let mut done = 0;
-    for (i, j) in jobs.iter().enumerate() {
-        requests(&mut out, i, j);
-        let n = out.len() / 16;
+    for out in crossings {
+        let n = 2 * out.len();
         let code = unsafe {
-            gorehimu_run(image.as_mut_ptr(), image.len(), store.as_mut_ptr(), store.len(), out.as_ptr(), out.len(), answers.as_mut_ptr(), 32 * n)
+            gorehimu_run(image.as_mut_ptr(), image.len(), store.as_mut_ptr(), store.len(), out.as_ptr(), out.len(), answers.as_mut_ptr(), n)
         };
         assert_eq!(code, 0);
-        done += u64::from(answers[32 * (n - 5)] == 9);
+        done += answers[..n].iter().step_by(32).filter(|k| **k == 9).count() as u64;
     }
     done
 }
 
-fn plain(jobs: &[Job]) -> u64 {
+fn plain(crossings: &[Vec<Call>]) -> u64 {
     let (mut s, mut store) = (Station::empty(), vec![0; STORE]);
     let mut done = 0;
-    for (i, j) in jobs.iter().enumerate() {
-        let (txn, clock) = (i as u32 + 1, i as u64 + 1);
-        s.start(txn);
-        for half in 0..2 {
-            black_box(s.get(&store, txn, j.reads[2 * half]));
-            black_box(s.get(&store, txn, j.reads[2 * half + 1]));
-            s.put(txn, j.writes[half].0, j.writes[half].1);
-        }
-        s.commit(txn, clock);
-        let records = if j.writes[0].0 == j.writes[1].0 { 3 } else { 4 };
-        let mut last = Answer::Empty;
-        for _ in 0..records {
-            last = s.step(&mut store, txn);
-        }
-        done += u64::from(matches!(last, Answer::Done(_)));
-        for slot in 0..4 {
-            black_box(s.collect(&mut store, ((4 * i + slot) % 64) as u8));
-        }
+    for c in crossings.iter().flatten() {
+        done += u64::from(matches!(run(&mut s, &mut store, c), Answer::Done(_)));
     }
     done
+}
+
+// ── a sheet: transactions of two reads and two writes over 24 keys, collects, some cuts and malformed lines ──
+
+fn sheet(lines: usize) -> (Vec<u8>, Vec<Job>) {
+    let mut state: u64 = 88172645463325252;
+    let mut below = |n: u64| {
+        state ^= state << 13;
+        state ^= state >> 7;
+        state ^= state << 17;
+        (state >> 33) % n
+    };
+    let (mut text, mut n, mut jobs) = (Vec::new(), 0, Vec::new());
+    let mut txn = 0;
+    while n < lines {
+        txn += 1;
+        let k: [u8; 4] = std::array::from_fn(|_| below(24) as u8);
+        let j = Job { reads: [k[0], k[1], k[0], k[1]], writes: [(k[2], txn), (k[3], txn)] };
+        let mut line = |l: String| {
+            text.extend(l.as_bytes());
+            text.push(b'\n');
+            n += 1;
+        };
+        line(format!("start,{txn},0,0"));
+        line(format!("get,{txn},{},0", k[0]));
+        line(format!("get,{txn},{},0", k[1]));
+        line(format!("put,{txn},{},{txn}", k[2]));
+        line(format!("put,{txn},{},{txn}", k[3]));
+        line(format!("commit,{txn},0,{txn}"));
+        (0..if k[2] == k[3] { 3 } else { 4 }).for_each(|_| line(format!("step,{txn},0,0")));
+        (0..3).for_each(|_| line(format!("collect,0,{},0", below(64))));
+        if below(500) == 0 {
+            line("cut,0,0,0".to_string());
+        }
+        if below(100) == 0 {
+            line(format!("put,{txn},x,0"));
+        }
+        jobs.push(j);
+    }
+    (text, jobs)
+}
+
+/// Runs a program over the sheet and hands back what it wrote.
+fn run_sheet(program: &str, path: &str) -> Vec<u8> {
+    let input = std::fs::File::open(path).unwrap();
+    let out = std::process::Command::new(program).stdin(input).output().unwrap();
+    assert!(out.status.success(), "{program}");
+    out.stdout
 }
 
 // ── SQLite, in memory: a table of 64 rows, a transaction with prepared statements ──
@@ -157,7 +273,8 @@ mod sqlite {
         fn sqlite3_column_int64(s: *mut c_void, i: c_int) -> i64;
     }
 
-    pub fn run(jobs: &[Job]) -> u64 {
+    /// `reads` of each half of a transaction: 2, or 1 for a sheet's.
+    pub fn run(jobs: &[Job], reads: usize) -> u64 {
         let text = |s: &str| CString::new(s).unwrap();
         let mut sum = 0;
         unsafe {
@@ -180,7 +297,7 @@ mod sqlite {
             for j in jobs {
                 plain(begin);
                 for half in 0..2 {
-                    for k in &j.reads[2 * half..2 * half + 2] {
+                    for k in &j.reads[reads * half..reads * half + reads] {
                         sqlite3_bind_int64(get, 1, i64::from(*k));
                         if sqlite3_step(get) == 100 {
                             sum += sqlite3_column_int64(get, 0) as u64 % 2;
@@ -250,14 +367,13 @@ impl Redis {
         }
     }
 
-    fn run(&mut self, jobs: &[Job]) -> u64 {
+    fn run(&mut self, jobs: &[Job], reads: usize) -> u64 {
         let words = |list: &[&str]| list.iter().map(|w| w.to_string()).collect::<Vec<String>>();
         for j in jobs {
             for half in 0..2 {
-                let gets: Vec<Vec<String>> = j.reads[2 * half..2 * half + 2].iter().map(|k| words(&["GET", &k.to_string()])).collect();
+                let gets: Vec<Vec<String>> = j.reads[reads * half..reads * half + reads].iter().map(|k| words(&["GET", &k.to_string()])).collect();
                 self.send(&gets);
-                self.reply();
-                self.reply();
+                gets.iter().for_each(|_| self.reply());
             }
             let set = |w: (u8, u64)| words(&["SET", &w.0.to_string(), &w.1.to_string()]);
             self.send(&[words(&["MULTI"]), set(j.writes[0]), set(j.writes[1]), words(&["EXEC"])]);
@@ -275,25 +391,68 @@ fn timed(best: &mut f64, n: usize, f: impl FnOnce() -> u64) -> u64 {
     x
 }
 
-fn main() {
-    let mut redis = std::env::var("REDIS_PORT").ok().and_then(|p| Redis::open(&p));
+fn other(x: f64) -> String {
+    if x == f64::MAX { "not there".to_string() } else { format!("{x:.1}") }
+}
+
+fn transactions(redis: &mut Option<Redis>) {
     println!("| the paper's transaction | proved, µs | Rust, µs | ratio | SQLite, µs | Redis, µs |");
     println!("|---|---|---|---|---|---|");
-    for s in [1.0, 1.5] {
+    for (s, together) in [(1.0, 1), (1.5, 1), (1.0, 8), (1.5, 8)] {
         let list = jobs(s, 20000);
+        let calls = crossings(&list, together);
+        let requests: Vec<Vec<u8>> = calls.iter().map(|c| bytes(c)).collect();
         let (mut a, mut b, mut c, mut d) = (f64::MAX, f64::MAX, f64::MAX, f64::MAX);
         for _ in 0..5 {
-            let x = timed(&mut a, list.len(), || proved(&list));
-            let y = timed(&mut b, list.len(), || plain(&list));
+            let x = timed(&mut a, list.len(), || proved(&requests));
+            let y = timed(&mut b, list.len(), || plain(&calls));
             assert_eq!(x, y, "the two versions differ");
+            assert!(x >= list.len() as u64);
             #[cfg(sqlite)]
-            timed(&mut c, list.len(), || sqlite::run(&list));
-            if let Some(r) = &mut redis {
+            timed(&mut c, list.len(), || sqlite::run(&list, 2));
+            if let Some(r) = redis {
                 let few = &list[..2000];
-                timed(&mut d, few.len(), || r.run(few));
+                timed(&mut d, few.len(), || r.run(few, 2));
             }
         }
-        let other = |x: &mut f64| if *x == f64::MAX { "not there".to_string() } else { format!("{x:.1}") };
-        println!("| Zipf {s:.1} | {a:.1} | {b:.1} | {:.2} | {} | {} |", a / b, other(&mut c), other(&mut d));
+        let many = if together == 1 { String::new() } else { format!(", {together} in a crossing") };
+        println!("| Zipf {s:.1}{many} | {a:.1} | {b:.1} | {:.2} | {} | {} |", a / b, other(c), other(d));
     }
+}
+
+fn million(programs: &[String], redis: &mut Option<Redis>) {
+    let path = "target/million.csv";
+    let (text, list) = sheet(1_000_000);
+    std::fs::write(path, text).unwrap();
+    let (mut a, mut b, mut c, mut d) = (f64::MAX, f64::MAX, f64::MAX, f64::MAX);
+    for _ in 0..3 {
+        let (mut x, mut y) = (Vec::new(), Vec::new());
+        timed(&mut a, 1000, || {
+            x = run_sheet(&programs[0], path);
+            0
+        });
+        timed(&mut b, 1000, || {
+            y = run_sheet(&programs[1], path);
+            0
+        });
+        assert!(x == y, "the two programs differ");
+    }
+    #[cfg(sqlite)]
+    timed(&mut c, 1000, || sqlite::run(&list, 1));
+    if let Some(r) = redis {
+        let few = &list[..list.len() / 20];
+        timed(&mut d, 50, || r.run(few, 1));
+    }
+    println!("| a sheet of a million lines | proved, ms | Rust, ms | ratio | SQLite, ms | Redis, ms |");
+    println!("|---|---|---|---|---|---|");
+    println!("| {} transactions | {a:.0} | {b:.0} | {:.2} | {} | {} |", list.len(), a / b, other(c), other(d));
+}
+
+fn main() {
+    let programs: Vec<String> = std::env::args().skip(1).collect();
+    assert_eq!(programs.len(), 2, "the proved program, the plain one");
+    let mut redis = std::env::var("REDIS_PORT").ok().and_then(|p| Redis::open(&p));
+    transactions(&mut redis);
+    println!();
+    million(&programs, &mut redis);
 }
