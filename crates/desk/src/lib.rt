@@ -1,4 +1,5 @@
-// One line's command, carried out: the desk's step, by value and lent.
+// A command of a sheet's line or of a host's request, carried out: as a change, by value, and over a lent station. Who calls these knows what the
+// soundness test says of the station; the public calls (crate calls) are for who does not.
 use calls::Answer;
 use calls::Outcome;
 use calls::Station;
@@ -20,12 +21,13 @@ ghost use Rattle.model.specs.Sound.{sound};
 ghost use Rattle.stations.specs.Changes.{IsChange};
 ghost use Rattle.desk.specs.Acts.{effectOf, acted, kept, isCut};
 
-// A line as it was parsed, and what the soundness test says of the station.
+// A command as it was read, and what the soundness test says of the station.
 pub struct Request {
     pub command: Command,
     pub tested: bool,
 }
 
+// A cut reads the station anew.
 pub fn is_cut(command: Command) -> bool
     ensures { λ r. ⌜ r ≡ isCut command ⌝ }
 {
@@ -50,6 +52,7 @@ pub fn decide(station: Station, store: &mut [u8], request: Request) -> Change
         Command::Step(txn) => step(station, tested, store, txn),
         Command::Abort(txn) => abort(station, tested, txn),
         Command::Collect(slot) => collect(station, tested, store, slot),
+        // not asked
         Command::Cut => refused(station, 19),
         Command::Malformed => refused(station, 19),
     }

@@ -24,7 +24,7 @@ pub record Returned : Type 0 where
   pub outcome : Outcome
   pub store : List ℕ
 
--- eight functions, and the contracts of crates transactions, storing and recovery, word for word
+-- eight functions, and the contracts of crates calls and recovery, word for word
 pub record Functions : Type 0 where
   pub start : Station → ℕ → Outcome
   pub put : Station → ℕ → ℕ → ℕ → Outcome

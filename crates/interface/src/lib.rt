@@ -128,7 +128,7 @@ fn run_scan(store: &[u8], out: &mut [u8]) -> Current
     }
 }
 
-// Requests one after the other. The station is changed in place, and its soundness was tested once: a call leaves it as it was.
+// Requests one after the other. The station is changed in place. Its soundness was tested once: no call but a scan alters what the test says.
 fn run_requests(first: Current, store: &mut [u8], requests: &[u8], answers: &mut [u8]) -> Current
     requires { ⌜ (length (now requests) % requestSize ≡ 0) × (length (now answers) ≡ answerSize * (length (now requests) / requestSize)) ⌝ }
     requires { ⌜ first .tested ≡ sound (first .station) ⌝ }

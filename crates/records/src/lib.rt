@@ -60,7 +60,7 @@ pub fn value_in(r: &[u8]) -> u64
     number_in(&r[16..24])
 }
 
-// The id of either kind of record: transaction and clock, in the first 16 bytes.
+// The id in the first 16 bytes of a record of either kind (and of a request, or an item of an image): transaction, then clock.
 pub fn id_in(r: &[u8]) -> Id
     requires { ⌜ 16 ≤ length (now r) ⌝ }
     ensures { λ i. ⌜ i ≡ idIn (now (r .entry)) ⌝ }

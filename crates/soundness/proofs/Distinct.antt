@@ -1,4 +1,4 @@
--- Laws of a list in which no number but 0 stands twice: what a count of a number tells, and what a table of the last bytes seen.
+-- Laws of a list in which no number but 0 stands twice: what a count of a number tells, and what a table of the lowest bytes seen.
 use Prim.Native.Nat.{ℕ, zero, suc, _+_, _-_, _%_, _<_, _≤_}
 use mathlib.Core.Path.{_≡_, refl, sym, ap, subst, _∙_}
 use mathlib.Core.Logic.{_≢_, _⊎_, inl, inr}
@@ -76,7 +76,7 @@ distinct-twice x xs n c = go (bool-cases (distinct xs))
     go (inl e) = absurd (lt-irrefl 1 (omega (arith, c, once-count x xs n e)))
     go (inr e) = e
 
--- ── numbers one by one, with a table of the last bytes seen ──
+-- ── numbers one by one, with a table of the lowest bytes seen ──
 -- no place before i has its number
 abbrev pub New : List ℕ → ℕ → Type 0
 New xs i = (j : ℕ) → j < i → getD xs i 0 ≢ 0 → getD xs j 0 ≢ getD xs i 0

@@ -338,7 +338,7 @@ fn times(xs: &[u32], x: u32) -> u32
     n
 }
 
-// No number but 0 stands twice. Numbers are told apart by their last byte first: only where it was seen before is a number counted.
+// No number but 0 stands twice. Numbers are told apart by their lowest byte first: only where it was seen before is a number counted.
 fn differ(xs: &[u32]) -> bool
     requires { ⌜ length (now xs) ≤ 72 ⌝ }
     ensures { λ r. ⌜ r ≡ distinct (now (xs .entry)) ⌝ }

@@ -1,4 +1,5 @@
-// What is found, set and cleared in a station: the transaction at a place, the entry in a slot, a write set and a read set.
+// What is found, set and cleared in a station: the transaction at a place, the entry in a slot, a write set and a read set; and what a
+// call comes to, as a change of a station.
 ghost use mathlib.Core.Path.{_≡_};
 ghost use mathlib.Core.Bool.{true, false, not, cond};
 ghost use mathlib.Core.List.{map};

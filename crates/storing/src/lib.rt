@@ -208,6 +208,7 @@ pub fn step(station: Station, tested: bool, store: &mut [u8], txn: u32) -> Chang
     if row != 0 {
         return refused(station, row);
     }
+    // Measured: here an index costs less than live_at.
     let l = station.live[place];
     let phase = l.phase;
     let Phase::Closing(slot, clock, n) = phase else {

@@ -66,7 +66,7 @@ fn fill(part: &mut [u8], len: usize, input: &[u8], start: usize) -> Filled
     Filled { len: n, end: i }
 }
 
-// A whole line: parsed, carried out and answered. A sound station stays sound, so it is not tested.
+// A whole line: parsed, carried out and answered. The station is sound and stays so: what a test would say is known.
 fn run_line(station: Station, store: &mut [u8], line: &[u8], number: u64, out: &mut [u8]) -> Ran
     requires { ⌜ (96 ≤ length (now out)) × (sound station ≡ true) ⌝ }
     ensures { λ r. ⌜ (deskOf (r .station) (now (store .exit)) (number + 1) ≡ afterLine (now (line .entry)) (deskOf station (now (store .entry)) number)) × (r .used ≤ 96) × (take (r .used) (now (out .exit)) ≡ lineOutput (now (line .entry)) (deskOf station (now (store .entry)) number)) × (drop (r .used) (now (out .exit)) ≡ drop (r .used) (now (out .entry))) × (sound (r .station) ≡ true) ⌝ }

@@ -31,8 +31,6 @@ use Rattle.model.proofs.SoundFacts.{held-not-live, live-facts}
 use Rattle.model.proofs.SoundLaws.{Used, write-limit}
 use Rattle.model.proofs.StationLaws.{place-hit, live-out}
 use Rattle.model.proofs.Tests.{and-intro, or-none, or-intro-left, or-intro-right, not-of-false, not-of-true, and-none-left, and-none-right, and-left, and-right, and-second}
-use Rattle.stations.specs.declared.Change.{Change}
-use Rattle.stations.specs.Changes.{IsChange}
 use Rattle.stations.specs.Found.{liveTxn, entryTxn, liveIn, namedRow}
 use Rattle.stations.proofs.Callers.{place-eq, place-live, place-none, slot-eq, slot-held, slot-none, free-some, free-none, named-elim}
 use Rattle.transactions.specs.Committing.{unknownRow, slotFor, afterCommit, commitAnswer}

@@ -1,7 +1,6 @@
 -- `desk::act` meets its contract. Assumes nothing.
-use mathlib.Core.Path.{sym, ap, _∙_}
+use mathlib.Core.Path.{sym, _∙_}
 use borrow.Author.Needs.{needs}
-use Rattle.model.specs.Effects.{outcomeOf}
 use Rattle.stations.proofs.Changes.{comes-to, is-inside}
 use Rattle.desk.specs.Acts.{acted}
 use Rattle.desk.proofs.ActLaws.{scan-acts}

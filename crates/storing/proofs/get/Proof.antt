@@ -1,6 +1,6 @@
 -- `storing::get` meets its contract.
 use Prim.Native.Nat.{ℕ, _<_, _≤_}
-use mathlib.Core.Path.{_≡_, refl, sym, ap, subst, _∙_}
+use mathlib.Core.Path.{_≡_, refl, sym, subst, _∙_}
 use mathlib.Core.Logic.{_≢_}
 use mathlib.Core.Bool.{true, false}
 use mathlib.Core.List.{List}
@@ -10,7 +10,6 @@ use borrow.Author.Needs.{needs}
 use borrow.Author.Tests.{not-true, not-false}
 use Rattle.model.specs.declared.Live.{Live}
 use Rattle.model.specs.declared.Station.{Station}
-use Rattle.model.specs.Effects.{outcomeOf}
 use Rattle.model.specs.Get.{choiceOf, versionAt, noRoom}
 use Rattle.model.specs.Limits.{slots, storeSize}
 use Rattle.model.specs.Reading.{Choice, version, choose}
