@@ -158,6 +158,7 @@ pub fn commit(station: Station, tested: bool, txn: u32, clock: u64) -> Change
     }
     // A held transaction is not live, so rows 9 and 13 are for the others.
     if held < Station::SLOTS {
+        // Measured: from the station this costs less than from `entries`.
         let e = station.entries[held];
         let id = e.id;
         return unchanged(station, Answer::Done(id));
