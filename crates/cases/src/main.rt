@@ -28,12 +28,8 @@ ghost use mathlib.Core.Path.{_≡_};
 ghost use Prim.Native.Nat.{_≤_};
 ghost use lib.ListN.{length};
 
-// The bytes of a slot and of a store. One byte more is at hand, to lend a store that is too long.
-const SLOT: usize = 216;
-
-const STORE: usize = SLOT * Station::SLOTS;
-
-const SPACE: usize = STORE + 1;
+// A store and one byte more, to lend a store that is too long.
+const SPACE: usize = Station::STORE + 1;
 
 fn wide(x: u8) -> u64
     ensures { λ r. ⌜ r ≡ x ⌝ }
@@ -153,7 +149,7 @@ fn damage(bytes: &mut [u8], line: &[u8]) {
     let slot = low8(number_in(line, 0)) as usize;
     let at = low8(number_in(line, 1)) as usize;
     let x = low8(number_in(line, 2));
-    let i = slot * SLOT + at;
+    let i = slot * Station::SLOT + at;
     if i < bytes.len() {
         bytes[i] = x;
     }
@@ -334,11 +330,11 @@ fn act_whole(
     let txn = low32(number_in(line, 0));
     let key = low8(number_in(line, 1));
     let number = number_in(line, 2);
-    if STORE > bytes.len() {
+    if Station::STORE > bytes.len() {
         return station;
     }
     copy_over(copy, bytes);
-    let o = whole(station, &mut bytes[..STORE], txn, key, number);
+    let o = whole(station, &mut bytes[..Station::STORE], txn, key, number);
     let is_kept = same_bytes(bytes, copy);
     report(line, station, o, is_kept, is_quiet)
 }
@@ -380,7 +376,7 @@ fn carried_out(
     if kind == b'<' {
         return act_short(station, bytes, copy, line, is_quiet);
     }
-    act(station, bytes, copy, line, line, STORE, is_quiet)
+    act(station, bytes, copy, line, line, Station::STORE, is_quiet)
 }
 
 // The busy station and its store.

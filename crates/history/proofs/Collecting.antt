@@ -17,7 +17,8 @@ use Rattle.model.specs.declared.Phase.the-variants.{Closing}
 use Rattle.model.specs.Lists.{_and_, any, first, member, same}
 use Rattle.model.specs.Limits.{slots, width}
 use Rattle.model.specs.Ids.{older}
-use Rattle.model.specs.Stations.{noEntry, keysOf, wrote, wroteAs, liveAt, entryAt, setEntry}
+use Rattle.model.specs.Entries.{noEntry, keysOf, wrote, wroteAs}
+use Rattle.model.specs.Stations.{liveAt, entryAt, setEntry}
 use Rattle.model.specs.Records.{zeroRecord, recordAt, withRecord}
 use Rattle.model.specs.Slots.{free, committed, seen}
 use Rattle.model.specs.Sound.{sound}

@@ -15,8 +15,8 @@ use Rattle.model.specs.declared.Id.{Id}
 use Rattle.model.specs.declared.Entry.{Entry}
 use Rattle.model.specs.Lists.{from, same}
 use Rattle.model.specs.Limits.{slots, writeLimit, width}
-use Rattle.model.specs.Stations.{wrote}
-use Rattle.model.specs.Records.{valueIn, recordAt, recordOf}
+use Rattle.model.specs.Entries.{wrote, recordOf}
+use Rattle.model.specs.Records.{valueIn, recordAt}
 use Rattle.model.specs.Slots.{Seen, free, committed, damaged, seen}
 use Rattle.model.specs.Scan.{slotsSeen, entrySeen}
 use Rattle.model.specs.Answers.{values}

@@ -16,11 +16,12 @@ use Rattle.model.specs.declared.Phase.{Phase}
 use Rattle.model.specs.declared.Phase.the-variants.{Closing}
 use Rattle.model.specs.Lists.{_and_, anyBelow}
 use Rattle.model.specs.Limits.{slots, numberRange}
-use Rattle.model.specs.Stations.{writesOf, readsOf, isClosing, liveAt, setLive, isLive, isHeld, placeOf, isFree}
+use Rattle.model.specs.Lives.{writesOf, readsOf, isClosing, withPhase}
+use Rattle.model.specs.Stations.{liveAt, setLive, isLive, isHeld, placeOf, isFree}
 use Rattle.model.specs.Slots.{free, seen}
 use Rattle.model.specs.Sound.{sound}
 use Rattle.model.specs.Reading.{Atomic}
-use Rattle.model.specs.Commit.{withPhase, highestFree, commit}
+use Rattle.model.specs.Commit.{highestFree, commit}
 use Rattle.model.specs.Calls.{Commit, txnOf, numberOf}
 use Rattle.model.proofs.Tests.{and-left, and-right, and-intro, and-second, not-of-false, bool-cases}
 use Rattle.model.proofs.ListLaws.{greatest-below}

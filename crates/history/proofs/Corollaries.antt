@@ -20,11 +20,13 @@ use Rattle.model.specs.declared.Answer.the-variants as A
 use Rattle.model.specs.Lists.{all}
 use Rattle.model.specs.Limits.{slots}
 use Rattle.model.specs.Ids.{older}
-use Rattle.model.specs.Stations.{isClosing, closingSlot, recordsStored, liveAt, entryAt, isHeld, placeOf, slotOf}
+use Rattle.model.specs.Lives.{isClosing, closingSlot, recordsStored}
+use Rattle.model.specs.Entries.{entryFor}
+use Rattle.model.specs.Stations.{liveAt, entryAt, isHeld, placeOf, slotOf}
 use Rattle.model.specs.Effects.{Effect, says, saysStoring}
 use Rattle.model.specs.Get.{versionAt}
 use Rattle.model.specs.Commit.{commit}
-use Rattle.model.specs.Step.{entryFor, stepped, step}
+use Rattle.model.specs.Step.{stepped, step}
 use Rattle.model.specs.Calls.{Call, Get, Commit, Step, Scan, does, txnOf}
 use Rattle.model.specs.Answers.{refusedWith}
 use Rattle.model.proofs.Tests.{bool-cases}

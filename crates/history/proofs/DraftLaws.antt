@@ -9,7 +9,8 @@ use native.Mathlib.Decide.{ℕ-discrete}
 use borrow.Author.Tests.{eq-eqb, ne-eqb}
 use Rattle.model.specs.declared.Live.{Live}
 use Rattle.model.specs.declared.Station.{Station}
-use Rattle.model.specs.Stations.{noLive, liveAt, setLive, isLive, placeOf}
+use Rattle.model.specs.Lives.{noLive}
+use Rattle.model.specs.Stations.{liveAt, setLive, isLive, placeOf}
 use Rattle.model.specs.Sound.{sound}
 use Rattle.model.specs.Reading.{own}
 use Rattle.model.proofs.StationLaws.{place-hit, setLive-at, liveAt-same, liveAt-other}

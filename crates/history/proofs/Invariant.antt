@@ -15,13 +15,14 @@ use Rattle.model.specs.declared.Phase.the-variants.{Closing}
 use Rattle.model.specs.declared.Answer.{Answer}
 use Rattle.model.specs.declared.Answer.the-variants as A
 use Rattle.model.specs.Limits.{slots, writeLimit, storeSize, txnRange, numberRange}
-use Rattle.model.specs.Stations.{noWrite, writesOf, readsOf, liveAt, entryAt}
+use Rattle.model.specs.Lives.{noWrite, writesOf, readsOf}
+use Rattle.model.specs.Entries.{entryFor}
+use Rattle.model.specs.Stations.{liveAt, entryAt}
 use Rattle.model.specs.Records.{versionRecord, recordAt, withRecord}
 use Rattle.model.specs.Slots.{free, committed, seen}
 use Rattle.model.specs.Sound.{sound}
 use Rattle.model.specs.Reading.{Atomic}
 use Rattle.model.specs.Effects.{Effect, stored, says, saysStoring, Row, _when_, refusals}
-use Rattle.model.specs.Step.{entryFor}
 use Rattle.model.specs.Scan.{slotsSeen, entrySeen}
 use Rattle.model.specs.Calls.{Call}
 use Rattle.model.proofs.RefusalLaws.{guard, unguarded, cond-rule}

@@ -11,7 +11,8 @@ use Rattle.model.specs.declared.Live.{Live}
 use Rattle.model.specs.declared.Entry.{Entry}
 use Rattle.model.specs.declared.Station.{Station}
 use Rattle.model.specs.declared.Phase.the-variants.{Unused, Closing}
-use Rattle.model.specs.Stations.{noLive, writesOf, readsOf, isClosing, liveAt, setLive, isLive, placeOf}
+use Rattle.model.specs.Lives.{noLive, writesOf, readsOf, isClosing}
+use Rattle.model.specs.Stations.{liveAt, setLive, isLive, placeOf}
 use Rattle.model.specs.Sound.{sound}
 use Rattle.model.specs.Reading.{Atomic}
 use Rattle.model.proofs.StationLaws.{place-hit, setLive-at, liveAt-other, setLive-entry, not-closing}

@@ -11,7 +11,8 @@ use Rattle.model.specs.declared.Answer.{Answer}
 use Rattle.model.specs.declared.Answer.the-variants as A
 use Rattle.model.specs.Lists.{any, member}
 use Rattle.model.specs.Limits.{storeSize}
-use Rattle.model.specs.Stations.{recordsStored, liveAt, entryAt, isHeld, placeOf}
+use Rattle.model.specs.Lives.{recordsStored}
+use Rattle.model.specs.Stations.{liveAt, entryAt, isHeld, placeOf}
 use Rattle.model.specs.Sound.{sound}
 use Rattle.model.specs.Reading.{Choice, own, absent, nofit, version}
 use Rattle.model.specs.Effects.{Effect, says, saysStoring, Row, _when_, refusals, wrongLength, unsound}

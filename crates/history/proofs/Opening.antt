@@ -17,11 +17,12 @@ use Rattle.model.specs.declared.Phase.the-variants.{Open}
 use Rattle.model.specs.declared.Answer.the-variants as A
 use Rattle.model.specs.Lists.{_and_, insert}
 use Rattle.model.specs.Limits.{keys, writeLimit, txnRange, numberRange}
-use Rattle.model.specs.Stations.{noWrite, writesOf, readsOf, writeKey, hasWritten, isClosing, liveAt, setLive, isLive, placeOf}
+use Rattle.model.specs.Lives.{noWrite, writesOf, readsOf, writeKey, hasWritten, isClosing, withWrites}
+use Rattle.model.specs.Stations.{liveAt, setLive, isLive, placeOf}
 use Rattle.model.specs.Sound.{sound}
 use Rattle.model.specs.Reading.{Atomic}
 use Rattle.model.specs.Start.{opened, start}
-use Rattle.model.specs.Put.{withWrites, withWrite, put}
+use Rattle.model.specs.Put.{withWrite, put}
 use Rattle.model.specs.Abort.{abort}
 use Rattle.model.specs.Calls.{Start, Put, Abort, txnOf, keyOf, numberOf}
 use Rattle.model.proofs.Tests.{or-left}

@@ -14,10 +14,12 @@ use Rattle.model.specs.declared.Entry.{Entry}
 use Rattle.model.specs.declared.Station.{Station}
 use Rattle.model.specs.declared.Answer.the-variants as A
 use Rattle.model.specs.Lists.{insert}
-use Rattle.model.specs.Stations.{noEntry, writesOf, readsOf, wrote, wroteAs, readKey, isClosing, liveAt, entryAt, setLive, isLive, placeOf}
+use Rattle.model.specs.Lives.{writesOf, readsOf, readKey, isClosing, withReads}
+use Rattle.model.specs.Entries.{noEntry, wrote, wroteAs}
+use Rattle.model.specs.Stations.{liveAt, entryAt, setLive, isLive, placeOf}
 use Rattle.model.specs.Sound.{names, sound}
 use Rattle.model.specs.Reading.{passes, Choice, own, absent, nofit, version, choose, Atomic}
-use Rattle.model.specs.Get.{choiceOf, withReads, withRead, answered, get}
+use Rattle.model.specs.Get.{choiceOf, withRead, answered, get}
 use Rattle.model.specs.Calls.{Get, txnOf, keyOf}
 use Rattle.model.proofs.ListLaws.{all-mem}
 use Rattle.model.proofs.InsertLaws.{insert-has, insert-mem, insert-keeps}

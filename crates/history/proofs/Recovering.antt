@@ -19,7 +19,9 @@ use Rattle.model.specs.declared.Answer.the-variants as A
 use Rattle.model.specs.Lists.{count, from}
 use Rattle.model.specs.Limits.{livePlaces, slots, storeSize}
 use Rattle.model.specs.Ids.{older}
-use Rattle.model.specs.Stations.{noLive, writesOf, readsOf, wrote, wroteAs, isClosing, liveAt, entryAt}
+use Rattle.model.specs.Lives.{noLive, writesOf, readsOf, isClosing, liveBeyond}
+use Rattle.model.specs.Entries.{wrote, wroteAs}
+use Rattle.model.specs.Stations.{liveAt, entryAt, idleStation}
 use Rattle.model.specs.Slots.{Seen, free, committed, damaged, seen}
 use Rattle.model.specs.Sound.{sound}
 use Rattle.model.specs.Reading.{Atomic}
@@ -59,12 +61,12 @@ rules-kept st s sl = record {
 
 -- ── the recovered station ──
 -- with no live transaction, what holds of an unused place holds of every place
-pub idle : (es : List Entry) (P : Live → Type 0) → P noLive → P (record { txn = 0; phase = Unused; «write_count» = 0; writes = []; «read_count» = 0; reads = [] })
-    → (j : ℕ) → P (liveAt (record { live = replicate livePlaces noLive; entries = es }) j)
+pub idle : (es : List Entry) (P : Live → Type 0) → P noLive → P liveBeyond
+    → (j : ℕ) → P (liveAt (idleStation es) j)
 idle es P x y j = go (decLt j livePlaces)
   where
     new : Station
-    new = record { live = replicate livePlaces noLive; entries = es }
+    new = idleStation es
 
     inside : j < livePlaces → liveAt new j ≡ noLive
     inside o = unfold liveAt in getD-replicate livePlaces j noLive _ o
@@ -75,8 +77,8 @@ idle es P x y j = go (decLt j livePlaces)
 
 -- slots in order and standing transactions: drafts, reads and ranges of a station with no live transaction hold by themselves
 pub idle-inv : (es : List Entry) (s : List ℕ) (standing past : List Committed) → length s ≡ storeSize → length es ≡ slots
-    → ((d : ℕ) → d < slots → entryAt (record { live = replicate livePlaces noLive; entries = es }) d ≡ entrySeen (seen s d)) → KeepsRules s → Standing s standing past
-    → Inv (record { live = replicate livePlaces noLive; entries = es }) s (record { drafts = λ t. none; standing = standing; past = past })
+    → ((d : ℕ) → d < slots → entryAt (idleStation es) d ≡ entrySeen (seen s d)) → KeepsRules s → Standing s standing past
+    → Inv (idleStation es) s (record { drafts = λ t. none; standing = standing; past = past })
 idle-inv es s standing past size count entry rules sd = record {
   slots = record {
     size = size;
@@ -98,7 +100,7 @@ idle-inv es s standing past size count entry rules sd = record {
 }
   where
     new : Station
-    new = record { live = replicate livePlaces noLive; entries = es }
+    new = idleStation es
 
     low : (d : ℕ) → entryAt new d .id .txn ≢ 0 → d < slots
     low d n = omega (arith, entry-in new d n, count)
@@ -117,7 +119,7 @@ idle-inv es s standing past size count entry rules sd = record {
 
 module _ (st : Station) (s : List ℕ) (b : Ledger) (inv : Inv st s b) where
   abbrev new : Station
-  new = record { live = replicate livePlaces noLive; entries = map entrySeen (slotsSeen s) }
+  new = idleStation (map entrySeen (slotsSeen s))
 
   pub scan-is : scan s ≡ says (A.Found (count isCommitted (slotsSeen s))) new
   scan-is = scan-finds s (inv .slots .size) (rules-kept st s (inv .slots))
@@ -180,7 +182,7 @@ newest-of k (x ∷ xs) = go (x .values k) refl (newest-of k xs)
 
 -- ── the claim ──
 module _ (s : List ℕ) (b : Ledger) (st : Station) (h : sound st ≡ true) (inv : Inv st s b) where
-  sc : scan s ≡ says (A.Found (count isCommitted (slotsSeen s))) (record { live = replicate livePlaces noLive; entries = map entrySeen (slotsSeen s) })
+  sc : scan s ≡ says (A.Found (count isCommitted (slotsSeen s))) (idleStation (map entrySeen (slotsSeen s)))
   sc = scan-is st s b inv
 
   figure : count isCommitted (slotsSeen s) ≡ length (b .standing)

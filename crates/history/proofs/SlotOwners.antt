@@ -14,12 +14,12 @@ use Rattle.model.specs.declared.Phase.{Phase}
 use Rattle.model.specs.declared.Phase.the-variants.{Closing}
 use Rattle.model.specs.Lists.{first, member}
 use Rattle.model.specs.Limits.{slots, writeLimit, width}
-use Rattle.model.specs.Stations.{writeKey, closingClock, recordsStored, liveAt, entryAt, closingSlots}
+use Rattle.model.specs.Lives.{writeKey, closingClock, recordsStored, withPhase}
+use Rattle.model.specs.Entries.{entryFor}
+use Rattle.model.specs.Stations.{liveAt, entryAt, closingSlots}
 use Rattle.model.specs.Records.{recordAt}
 use Rattle.model.specs.Slots.{Seen, free, committed, seen}
 use Rattle.model.specs.Sound.{sound}
-use Rattle.model.specs.Commit.{withPhase}
-use Rattle.model.specs.Step.{entryFor}
 use Rattle.model.proofs.ListLaws.{member-finds}
 use Rattle.model.proofs.SlotLaws.{committed-injective, committed≢free, seen-frame}
 use Rattle.model.proofs.StationLaws.{mark-at, closing-same, marked, slot-marked}

@@ -23,13 +23,14 @@ use Rattle.model.specs.declared.Phase.{Phase}
 use Rattle.model.specs.declared.Phase.the-variants.{Unused, Open, Closing}
 use Rattle.model.specs.Lists.{any, first, member, same}
 use Rattle.model.specs.Limits.{slots, recordSize, width, storeSize, numberRange}
-use Rattle.model.specs.Stations.{noWrite, noLive, writesOf, readsOf, keysOf, wrote, wroteAs, writeKey, isClosing, closingSlot, closingClock, recordsStored, liveAt, entryAt, setLive, setEntry, isLive, placeOf}
-use Rattle.model.specs.Records.{entryIn, valueIn, commitRecord, versionRecord, entryRules, carriesVersion, recordAt, withRecord, recordOf}
+use Rattle.model.specs.Lives.{noWrite, noLive, writesOf, readsOf, writeKey, isClosing, closingSlot, closingClock, recordsStored, withPhase}
+use Rattle.model.specs.Entries.{keysOf, wrote, wroteAs, entryIn, commitRecord, entryRules, recordOf, entryFor}
+use Rattle.model.specs.Stations.{liveAt, entryAt, setLive, setEntry, isLive, placeOf}
+use Rattle.model.specs.Records.{valueIn, versionRecord, carriesVersion, recordAt, withRecord}
 use Rattle.model.specs.Slots.{free, committed, seen}
 use Rattle.model.specs.Sound.{sound}
 use Rattle.model.specs.Reading.{Atomic}
-use Rattle.model.specs.Commit.{withPhase}
-use Rattle.model.specs.Step.{entryFor, oneMore, stepped, step}
+use Rattle.model.specs.Step.{oneMore, stepped, step}
 use Rattle.model.specs.Calls.{Step, txnOf}
 use Rattle.model.specs.Answers.{values}
 use Rattle.model.proofs.ListLaws.{first-yes, first-no, getD-mem, member-yes, member-no, member-finds, take-map}

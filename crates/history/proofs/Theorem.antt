@@ -11,8 +11,9 @@ use native.Mathlib.Omega.{arith}
 use borrow.Author.Tests.{le-leb, lt-leb}
 use Rattle.model.specs.declared.Station.{Station}
 use Rattle.model.specs.Limits.{slots, recordSize, storeSize}
-use Rattle.model.specs.Stations.{noEntry, emptyStation, entryAt}
-use Rattle.model.specs.Records.{markIn, recordPlace, recordAt}
+use Rattle.model.specs.Entries.{noEntry, markIn}
+use Rattle.model.specs.Stations.{emptyStation, entryAt}
+use Rattle.model.specs.Records.{recordPlace, recordAt}
 use Rattle.model.specs.Slots.{free, seen}
 use Rattle.model.specs.Sound.{sound}
 use Rattle.model.specs.Effects.{RecordWrite, Effect, stored}

@@ -11,8 +11,8 @@ use Rattle.model.specs.declared.Read.{Read}
 use Rattle.model.specs.declared.Entry.{Entry}
 use Rattle.model.specs.declared.Answer.the-variants as A
 use Rattle.model.specs.Ids.{older}
-use Rattle.model.specs.Stations.{wrote}
-use Rattle.model.specs.Records.{valueIn, recordAt, recordOf}
+use Rattle.model.specs.Entries.{wrote, recordOf}
+use Rattle.model.specs.Records.{valueIn, recordAt}
 use Rattle.model.specs.Scan.{scan}
 use Rattle.history.specs.Ledger.{Draft, Committed, Ledger}
 use Rattle.history.specs.Histories.{Event, begin, run, AllInRange}

@@ -11,7 +11,8 @@ use Rattle.model.specs.declared.Read.{Read}
 use Rattle.model.specs.declared.Live.{Live}
 use Rattle.model.specs.declared.Station.{Station}
 use Rattle.model.specs.declared.Phase.the-variants.{Closing}
-use Rattle.model.specs.Stations.{writesOf, readsOf, liveAt}
+use Rattle.model.specs.Lives.{writesOf, readsOf}
+use Rattle.model.specs.Stations.{liveAt}
 use Rattle.history.specs.Ledger.{Draft}
 
 -- the value under a key of a write set, if any

@@ -7,8 +7,9 @@ use lib.ListN.{replicate}
 use Rattle.model.specs.declared.Live.{Live}
 use Rattle.model.specs.declared.Phase.the-variants.{Closing}
 use Rattle.model.specs.Lists.{_and_, same}
-use Rattle.model.specs.Records.{bytes, number, idIn}
-use Rattle.model.specs.Stations.{noWrite, noRead, emptyStation, closingSlot, closingClock, recordsStored}
+use Rattle.model.specs.Bytes.{bytes, number, idIn}
+use Rattle.model.specs.Lives.{noWrite, noRead, closingSlot, closingClock, recordsStored}
+use Rattle.model.specs.Stations.{emptyStation}
 use Rattle.image.specs.Layout.{flat, parts, writeBytes, writeIn, startBytes, readBytes, readIn, entryBytes, entryIn, phaseMark, phaseOf, placeHead, phaseIn, placeSize, placesSize, imageSize}
 use Rattle.image.specs.Images.{placeBytes, placeIn, stationBytes, stationIn, isImage}
 

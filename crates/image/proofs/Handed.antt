@@ -16,7 +16,8 @@ use Rattle.model.specs.declared.Entry.{Entry}
 use Rattle.model.specs.declared.Station.{Station}
 use Rattle.model.specs.declared.Phase.{Phase}
 use Rattle.model.specs.declared.Phase.the-variants.{Unused, Open, Closing}
-use Rattle.model.specs.Stations.{closingSlot, closingClock, recordsStored}
+use Rattle.model.specs.Lives.{closingSlot, closingClock, recordsStored}
+use Rattle.model.specs.Ranges.{Every, IsByte, IdFits, WriteFits, ReadFits, PhaseFits, LiveFits, EntryFits, StationFits}
 use Rattle.model.proofs.Id as IdType
 use Rattle.model.proofs.Write as WriteType
 use Rattle.model.proofs.Read as ReadType
@@ -24,7 +25,6 @@ use Rattle.model.proofs.Phase as PhaseType
 use Rattle.model.proofs.Live as LiveType
 use Rattle.model.proofs.Entry as EntryType
 use Rattle.model.proofs.Station as StationType
-use Rattle.image.specs.Ranges.{Every, IsByte, IdFits, WriteFits, ReadFits, PhaseFits, LiveFits, EntryFits, StationFits}
 
 -- each element of an array is handed
 each-handed : (F : Field) (P : F .Value → Type 0) → ((x : F .Value) (vs : List Val) → shadow (F .row .own (F .into x) vs) → P x)

@@ -14,9 +14,9 @@ use Rattle.model.specs.declared.Read.{Read}
 use Rattle.model.specs.declared.Live.{Live}
 use Rattle.model.specs.declared.Entry.{Entry}
 use Rattle.model.specs.declared.Phase.{Phase}
-use Rattle.model.specs.Limits.{livePlaces, slots, writeLimit, readLimit, recordSize}
 use Rattle.model.specs.Lists.{_and_, all, same}
-use Rattle.model.specs.Records.{bytes, idIn}
+use Rattle.model.specs.Limits.{livePlaces, slots, writeLimit, readLimit, recordSize}
+use Rattle.model.specs.Bytes.{bytes, idIn}
 use Rattle.model.proofs.Tests.{and-left}
 use Rattle.image.specs.Layout.{headSize, itemSize, writesSize, readsSize, placeSize, placesSize, entriesSize, imageSize, flat, parts, writeBytes, writeIn, startBytes, readBytes, readIn, entryBytes, entryIn, placeHead, phaseIn}
 use Rattle.image.specs.Images.{placeBytes, placeIn, stationBytes, stationIn, isWrite, isRead, isEntry, isHead, isPlace, isImage}

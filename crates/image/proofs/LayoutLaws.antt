@@ -12,10 +12,10 @@ use native.Mathlib.Omega.{arith}
 use borrow.Author.Tests.{eqb-true}
 use Rattle.model.specs.declared.Phase.{Phase}
 use Rattle.model.specs.declared.Phase.the-variants.{Unused, Open, Closing}
-use Rattle.model.specs.Limits.{recordSize}
 use Rattle.model.specs.Lists.{all, same}
-use Rattle.model.specs.Records.{bytes, number, idIn}
-use Rattle.model.specs.Stations.{closingSlot, closingClock, recordsStored}
+use Rattle.model.specs.Limits.{recordSize}
+use Rattle.model.specs.Bytes.{bytes, number, idIn}
+use Rattle.model.specs.Lives.{closingSlot, closingClock, recordsStored}
 use Rattle.model.proofs.ListLaws.{all-head, all-tail}
 use Rattle.model.proofs.RecordLaws.{Bytes, bytes-take, bytes-drop, bytes-number, same-refl, same-true}
 use Rattle.image.specs.Layout.{headSize, itemSize, writeBytes, writeIn, startBytes, readBytes, readIn, entryBytes, entryIn, phaseMark, phaseOf, placeHead, phaseIn}

@@ -17,15 +17,16 @@ use Rattle.model.specs.declared.Entry.{Entry}
 use Rattle.model.specs.declared.Station.{Station}
 use Rattle.model.specs.declared.Phase.{Phase}
 use Rattle.model.specs.declared.Phase.the-variants.{Unused, Open, Closing}
-use Rattle.model.specs.Limits.{livePlaces, slots, writeLimit, readLimit, recordSize, txnRange, byteRange}
 use Rattle.model.specs.Lists.{same}
-use Rattle.model.specs.Records.{bytes, idIn}
-use Rattle.model.specs.Stations.{emptyStation, closingSlot, closingClock, recordsStored}
+use Rattle.model.specs.Limits.{livePlaces, slots, writeLimit, readLimit, recordSize, txnRange, byteRange}
+use Rattle.model.specs.Bytes.{bytes, idIn}
+use Rattle.model.specs.Lives.{closingSlot, closingClock, recordsStored}
+use Rattle.model.specs.Stations.{emptyStation}
+use Rattle.model.specs.Ranges.{Every, IsByte, IdFits, WriteFits, ReadFits, PhaseFits, LiveFits, EntryFits, StationFits}
 use Rattle.model.proofs.Tests.{and-right, and-intro}
 use Rattle.model.proofs.RecordLaws.{number-bytes, same-refl, same-true}
 use Rattle.image.specs.Layout.{headSize, itemSize, writesSize, readsSize, placeSize, placesSize, entriesSize, imageSize, flat, parts, writeBytes, writeIn, startBytes, readBytes, readIn, entryBytes, entryIn, phaseMark, phaseOf, placeHead, phaseIn}
 use Rattle.image.specs.Images.{placeBytes, placeIn, stationBytes, stationIn, isImage}
-use Rattle.image.specs.Ranges.{Every, IsByte, IdFits, WriteFits, ReadFits, PhaseFits, LiveFits, EntryFits, StationFits}
 use Rattle.image.proofs.ImageLaws.{length-write, length-read, length-entry, length-head, length-place}
 
 -- ── elements one after the other ──

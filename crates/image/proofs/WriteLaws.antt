@@ -9,8 +9,8 @@ use borrow.Rule.Slice.PartMut.{midOf, putMid, mid-len, same-len-mid}
 use Rattle.model.specs.declared.Id.{Id}
 use Rattle.model.specs.declared.Phase.{Phase}
 use Rattle.model.specs.Limits.{byteRange}
-use Rattle.model.specs.Records.{bytes}
-use Rattle.model.specs.Stations.{closingSlot, closingClock, recordsStored}
+use Rattle.model.specs.Bytes.{bytes}
+use Rattle.model.specs.Lives.{closingSlot, closingClock, recordsStored}
 use Rattle.model.proofs.RecordLaws.{length-bytes}
 use Rattle.records.proofs.ByteLaws.{put-end}
 use Rattle.image.specs.Layout.{itemSize, startBytes, phaseMark}

@@ -6,9 +6,9 @@ use lib.Dec.{eqb}
 use lib.ListN.{length, take, drop, getD}
 use Rattle.model.specs.declared.Live.{Live}
 use Rattle.model.specs.declared.Station.{Station}
-use Rattle.model.specs.Limits.{livePlaces, slots, writeLimit, readLimit, recordSize}
 use Rattle.model.specs.Lists.{_and_, same}
-use Rattle.model.specs.Records.{idIn}
+use Rattle.model.specs.Limits.{livePlaces, slots, writeLimit, readLimit, recordSize}
+use Rattle.model.specs.Bytes.{idIn}
 use Rattle.image.specs.Layout.{headSize, itemSize, writesSize, readsSize, placeSize, placesSize, entriesSize, imageSize, flat, parts, writeBytes, writeIn, readBytes, readIn, entryBytes, entryIn, placeHead, phaseIn}
 
 -- ── "then 8 writes of 16 bytes ..; then 16 reads of 16 bytes" ──

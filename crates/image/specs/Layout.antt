@@ -14,8 +14,8 @@ use Rattle.model.specs.declared.Entry.{Entry}
 use Rattle.model.specs.declared.Phase.{Phase}
 use Rattle.model.specs.declared.Phase.the-variants.{Unused, Open, Closing}
 use Rattle.model.specs.Limits.{livePlaces, slots, writeLimit, readLimit, recordSize}
-use Rattle.model.specs.Records.{bytes, number, idIn}
-use Rattle.model.specs.Stations.{closingSlot, closingClock, recordsStored}
+use Rattle.model.specs.Bytes.{bytes, number, idIn}
+use Rattle.model.specs.Lives.{closingSlot, closingClock, recordsStored}
 
 -- ── sizes ──
 -- the 24 bytes before a place's sets; "writes of 16 bytes", "reads of 16 bytes"

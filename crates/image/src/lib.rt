@@ -15,10 +15,11 @@ ghost use mathlib.Core.Bool.{true, cond};
 ghost use mathlib.Core.List.{map};
 ghost use lib.Dec.{eqb};
 ghost use lib.ListN.{length};
-ghost use Rattle.model.specs.Limits.{livePlaces, slots, writeLimit, readLimit, recordSize};
 ghost use Rattle.model.specs.Lists.{all};
-ghost use Rattle.model.specs.Records.{bytes, idIn};
-ghost use Rattle.model.specs.Stations.{emptyStation, closingSlot, closingClock, recordsStored};
+ghost use Rattle.model.specs.Limits.{livePlaces, slots, writeLimit, readLimit, recordSize};
+ghost use Rattle.model.specs.Bytes.{bytes, idIn};
+ghost use Rattle.model.specs.Lives.{closingSlot, closingClock, recordsStored};
+ghost use Rattle.model.specs.Stations.{emptyStation};
 ghost use Rattle.image.specs.Layout.{headSize, itemSize, writesSize, readsSize, placeSize, placesSize, entriesSize, imageSize, flat, parts, writeBytes, writeIn, startBytes, readBytes, readIn, entryBytes, entryIn, phaseMark, placeHead, phaseIn};
 ghost use Rattle.image.specs.Images.{placeBytes, placeIn, stationBytes, stationIn, isWrite, isRead, isEntry, isHead, isPlace, isImage};
 

@@ -12,7 +12,7 @@ use borrow.Author.Tests.{eq-eqb}
 use borrow.Rule.Slice.PartMut.{midOf, putMid, same-len-mid}
 use Rattle.model.specs.declared.Id.{Id}
 use Rattle.model.specs.Lists.{_and_, _or_}
-use Rattle.model.specs.Records.{bytes, idIn}
+use Rattle.model.specs.Bytes.{bytes, idIn}
 use Rattle.sheet.specs.Words.{Verb}
 use Rattle.sheet.specs.Lines.{ofFields}
 use Rattle.image.proofs.LayoutLaws.{spread-all}

@@ -6,7 +6,7 @@ use mathlib.Core.Option.{some, none}
 use lib.ListN.{replicate}
 use Rattle.model.specs.declared.Answer.the-variants as A
 use Rattle.model.specs.Lists.{_and_}
-use Rattle.model.specs.Records.{bytes, number, idIn}
+use Rattle.model.specs.Bytes.{bytes, number, idIn}
 use Rattle.model.specs.Calls.{Put, Commit, Collect, Scan}
 use Rattle.model.specs.Answers.{valuesOf}
 use Rattle.sheet.specs.Lines.{ifUnused, callIn, ofFields}

@@ -11,9 +11,10 @@ use Rattle.model.specs.declared.Live.{Live}
 use Rattle.model.specs.declared.Phase.{Phase}
 use Rattle.model.specs.declared.Answer.{Answer}
 use Rattle.model.specs.declared.Answer.the-variants as A
-use Rattle.model.specs.Effects.{Effect, Row, says, saysStoring, refusals}
-use Rattle.model.specs.Stations.{recordsStored, liveAt, isHeld, placeOf}
+use Rattle.model.specs.Lives.{recordsStored}
+use Rattle.model.specs.Stations.{liveAt, isHeld, placeOf}
 use Rattle.model.specs.Reading.{Choice, own, absent, nofit, version}
+use Rattle.model.specs.Effects.{Effect, Row, says, saysStoring, refusals}
 use Rattle.model.specs.Start.{start}
 use Rattle.model.specs.Put.{put}
 use Rattle.model.specs.Get.{answered, get}

@@ -11,9 +11,9 @@ use native.Mathlib.Omega.{arith}
 use Rattle.model.specs.declared.Station.{Station}
 use Rattle.model.specs.Lists.{_and_, _or_, all}
 use Rattle.model.specs.Ids.{sameId}
-use Rattle.model.specs.Records.{entryRules}
+use Rattle.model.specs.Entries.{entryRules, isNoEntry}
 use Rattle.model.specs.Stations.{emptyStation, setEntry}
-use Rattle.model.specs.Sound.{isNoEntry, entryRight, sound}
+use Rattle.model.specs.Sound.{entryRight, sound}
 use Rattle.model.specs.Effects.{RecordWrite, Effect, Row, says, stored, _when_, refusals, unsound}
 use Rattle.model.specs.Start.{start}
 use Rattle.model.specs.Put.{put}
@@ -29,7 +29,7 @@ use Rattle.model.proofs.RefusalLaws.{guard, hit}
 use Rattle.image.specs.Images.{isImage}
 use Rattle.image.proofs.Round.{image-only}
 use Rattle.sheet.specs.Sheets.{lineEffect}
-use Rattle.interface.specs.Exchange.{requestSize, requestCall, isScan, Held, unsoundStation, heldIn, effectOf, afterRequest, afterRequests, imageAfter, afterRun}
+use Rattle.interface.specs.Exchange.{requestSize, requestCall, isScan, Held, unsoundStation, heldIn, requestEffect, afterRequest, afterRequests, imageAfter, afterRun}
 use Rattle.interface.proofs.RefusedLaws.{Unaltered, refused-unaltered}
 use Rattle.interface.proofs.ByteLaws.{or-false}
 use Rattle.interface.proofs.LengthLaws.{one-part}
@@ -44,9 +44,9 @@ image-held image s = go (isImage image) refl
     go false e = rw e
 
 -- ── a refused request ──
-module _ (image s q : List ℕ) (n : isScan (requestCall q) ≡ false) (r : refusedWith (effectOf q (heldIn image s) .answer) ≢ 0) where
-  unaltered : Unaltered (heldIn image s .station) (effectOf q (heldIn image s))
-  unfolding effectOf
+module _ (image s q : List ℕ) (n : isScan (requestCall q) ≡ false) (r : refusedWith (requestEffect q (heldIn image s) .answer) ≢ 0) where
+  unaltered : Unaltered (heldIn image s .station) (requestEffect q (heldIn image s))
+  unfolding requestEffect
   unaltered = refused-unaltered (requestCall q) (heldIn image s .station) (heldIn image s .store) n r
 
   pub refused-held : afterRequest q (heldIn image s) ≡ heldIn image s
@@ -101,8 +101,8 @@ module _ (st : Station) (h : sound st ≡ false) where
   call-barred Scan s n = absurd (true≢false n)
 
 pub no-station : (image s q : List ℕ) (c : Call) → isImage image ≡ false → requestCall q ≡ some c → isScan (some c) ≡ false
-    → (refusedWith (effectOf q (heldIn image s) .answer) ≡ 1) ⊎ (refusedWith (effectOf q (heldIn image s) .answer) ≡ 2)
-unfolding effectOf heldIn lineEffect
+    → (refusedWith (requestEffect q (heldIn image s) .answer) ≡ 1) ⊎ (refusedWith (requestEffect q (heldIn image s) .answer) ≡ 2)
+unfolding requestEffect heldIn lineEffect
 no-station image s q c e f n = rw (f, e) (call-barred unsoundStation unsound-station c s n .barred)
 
 one-two : _≡_ {A = ℕ} 1 0 → ⊥
@@ -113,11 +113,11 @@ two-one z = absurd (omega arith)
 
 -- ── an image that is no station's, and the store, stay as they were until a scan ──
 module _ (image s q : List ℕ) (e : isImage image ≡ false) where
-  always-refused : isScan (requestCall q) ≡ false → refusedWith (effectOf q (heldIn image s) .answer) ≢ 0
+  always-refused : isScan (requestCall q) ≡ false → refusedWith (requestEffect q (heldIn image s) .answer) ≢ 0
   always-refused n = go (requestCall q) refl n
     where
-      go : (c : Option Call) → requestCall q ≡ c → isScan c ≡ false → refusedWith (effectOf q (heldIn image s) .answer) ≢ 0
-      go none f m = unfold effectOf in unfold lineEffect in unfold says in unfold refusedWith in rw f (λ (z : _≡_ {A = ℕ} 19 0). absurd (omega arith))
+      go : (c : Option Call) → requestCall q ≡ c → isScan c ≡ false → refusedWith (requestEffect q (heldIn image s) .answer) ≢ 0
+      go none f m = unfold requestEffect in unfold lineEffect in unfold says in unfold refusedWith in rw f (λ (z : _≡_ {A = ℕ} 19 0). absurd (omega arith))
       go (some c) f m = λ z. ⊎-elim (λ x. one-two (sym x ∙ z)) (λ x. two-one (sym x ∙ z)) (no-station image s q c e f m)
 
 -- once the image is to be the station's it stays so

@@ -28,7 +28,7 @@ use Rattle.image.specs.Layout.{parts}
 use Rattle.image.specs.Images.{stationBytes, stationIn, isImage}
 use Rattle.image.proofs.PartLaws.{next-place, part-is, parts-next, put-front}
 use Rattle.interface.specs.declared.Current.{Current}
-use Rattle.interface.specs.Exchange.{requestSize, answerSize, requestCall, isScan, answerBytes, Held, unsoundStation, heldIn, effectOf, afterRequest, afterRequests, answersTo, imageAfter, requestsIn, afterRun, answersIn}
+use Rattle.interface.specs.Exchange.{requestSize, answerSize, requestCall, isScan, answerBytes, Held, unsoundStation, heldIn, requestEffect, afterRequest, afterRequests, answersTo, imageAfter, requestsIn, afterRun, answersIn}
 use Rattle.interface.specs.Parts.{heldOf}
 use Rattle.interface.proofs.ByteLaws.{or-false}
 use Rattle.interface.proofs.LengthLaws.{one-part}
@@ -57,15 +57,15 @@ module _ (q : List ℕ) (h : Current) (s : List ℕ) (r : Request) (e : r .comma
   module _ (o : Outcome) (p : o ≡ acted (h .station) s r) where
     request-run : (l : Current) → l .whole ≡ (h .whole or isScan (requestCall q)) → l .station ≡ o .station → (s′ : List ℕ) → s′ ≡ kept (h .station) s r
         → heldOf l s′ ≡ afterRequest q (heldOf h s)
-    unfolding heldOf afterRequest effectOf acted kept D.effectOf outcomeOf
+    unfolding heldOf afterRequest requestEffect acted kept D.effectOf outcomeOf
     request-run l w g s′ k = λ i. record {
       whole = w i;
       station = (g ∙ ap (λ (x : Outcome). x .station) p ∙ ap (λ (x : Option Call). lineEffect x (h .station) s .station) call-is) i;
       store = (k ∙ ap (λ (x : Option Call). stored (lineEffect x (h .station) s .stores) s) call-is) i;
     }
 
-    request-answered : answerBytes (o .answer) ≡ answerBytes (effectOf q (heldOf h s) .answer)
-    unfolding heldOf effectOf acted D.effectOf outcomeOf
+    request-answered : answerBytes (o .answer) ≡ answerBytes (requestEffect q (heldOf h s) .answer)
+    unfolding heldOf requestEffect acted D.effectOf outcomeOf
     request-answered = ap (λ (x : Outcome). answerBytes (x .answer)) p ∙ ap (λ (x : Option Call). answerBytes (lineEffect x (h .station) s .answer)) call-is
 
   -- a cut: the scan's station
@@ -77,7 +77,7 @@ module _ (q : List ℕ) (h : Current) (s : List ℕ) (r : Request) (e : r .comma
     unfolding outcomeOf
     scan-run l w g = request-run _ scan-is l (w ∙ sym (or-intro-right (h .whole) _ (sym cut-is ∙ n))) g s (scan-acts (h .station) s r n _ refl .1)
 
-    pub scan-answered : answerBytes (scan s .answer) ≡ answerBytes (effectOf q (heldOf h s) .answer)
+    pub scan-answered : answerBytes (scan s .answer) ≡ answerBytes (requestEffect q (heldOf h s) .answer)
     unfolding outcomeOf
     scan-answered = request-answered _ scan-is
 
@@ -91,7 +91,7 @@ module _ (q : List ℕ) (h : Current) (s : List ℕ) (r : Request) (e : r .comma
         → heldOf (record { whole = h .whole; tested = t; station = changedBy (h .station) c .station }) s′ ≡ afterRequest q (heldOf h s)
     change-run t s′ k = request-run _ change-is _ (sym (ap (λ (b : Bool). h .whole or b) (sym cut-is ∙ n) ∙ or-false (h .whole))) refl s′ k
 
-    pub change-answered : answerBytes (c .answer) ≡ answerBytes (effectOf q (heldOf h s) .answer)
+    pub change-answered : answerBytes (c .answer) ≡ answerBytes (requestEffect q (heldOf h s) .answer)
     unfolding changedBy
     change-answered = request-answered _ change-is
 
@@ -117,7 +117,7 @@ passed-none n b h out =
 module _ (n : ℕ) (b : List ℕ) (done : Held) (said : List ℕ) (i : ℕ) (h : Held) (out : List ℕ) (p : Passed n b done said i h out) where
   pub passed-more : i < n → answerSize * i + answerSize ≤ length out → (h′ : Held) (y : List ℕ) → length y ≡ answerSize
       → h′ ≡ afterRequest (take (requestSize * i + requestSize - requestSize * i) (drop (requestSize * i) b)) h
-      → y ≡ answerBytes (effectOf (take (requestSize * i + requestSize - requestSize * i) (drop (requestSize * i) b)) h .answer)
+      → y ≡ answerBytes (requestEffect (take (requestSize * i + requestSize - requestSize * i) (drop (requestSize * i) b)) h .answer)
       → Passed n b done said (i + 1) h′ (putMid (answerSize * i) (answerSize * i + answerSize - answerSize * i) out y)
   unfolding afterRequests answersTo
   passed-more o l h′ y k e f =
@@ -127,7 +127,7 @@ module _ (n : ℕ) (b : List ℕ) (done : Held) (said : List ℕ) (i : ℕ) (h :
         answers-are =
             ap (λ (x : List ℕ). x ++ answersTo (left n b (i + 1)) h′) (ap (λ (m : ℕ). take m (putMid (answerSize * i) (answerSize * i + answerSize - answerSize * i) out y)) (next-place answerSize i) ∙ put-front out y (answerSize * i) answerSize l k)
             ∙ append-assoc (take (answerSize * i) out) y (answersTo (left n b (i + 1)) h′)
-            ∙ ap₂ (λ (x : List ℕ) (z : Held). take (answerSize * i) out ++ (x ++ answersTo (left n b (i + 1)) z)) (f ∙ ap (λ (x : List ℕ). answerBytes (effectOf x h .answer)) q) (e ∙ ap (λ (x : List ℕ). afterRequest x h) q)
+            ∙ ap₂ (λ (x : List ℕ) (z : Held). take (answerSize * i) out ++ (x ++ answersTo (left n b (i + 1)) z)) (f ∙ ap (λ (x : List ℕ). answerBytes (requestEffect x h .answer)) q) (e ∙ ap (λ (x : List ℕ). afterRequest x h) q)
             ∙ sym (ap (λ (x : List (List ℕ)). take (answerSize * i) out ++ answersTo x h) (parts-next requestSize n i b o))
             ∙ p .answers-are;
       }
@@ -160,7 +160,7 @@ module _ (image s b : List ℕ) (f : Current) (e : f .whole ≡ isImage image) (
     unfolding afterRequests
     one-held c s′ h = h ∙ ap₂ afterRequests (one-part b l) first-held
 
-    pub one-answered : answersTo (requestsIn b) (heldOf f s) ≡ answerBytes (effectOf b (heldIn image s) .answer)
+    pub one-answered : answersTo (requestsIn b) (heldOf f s) ≡ answerBytes (requestEffect b (heldIn image s) .answer)
     unfolding answersTo
     one-answered = ap₂ answersTo (one-part b l) first-held ∙ append-nil _
 

@@ -10,7 +10,7 @@ use native.Mathlib.Omega.{arith}
 use Rattle.image.specs.Layout.{parts}
 use Rattle.image.specs.Images.{stationBytes, stationIn, isImage}
 use Rattle.interface.specs.declared.Current.{Current}
-use Rattle.interface.specs.Exchange.{requestSize, answerBytes, Held, unsoundStation, heldIn, effectOf, afterRequest, afterRequests, answersTo, imageAfter, requestsIn, afterRun, answersIn}
+use Rattle.interface.specs.Exchange.{requestSize, answerBytes, Held, unsoundStation, heldIn, requestEffect, afterRequest, afterRequests, answersTo, imageAfter, requestsIn, afterRun, answersIn}
 use Rattle.interface.specs.Parts.{heldOf}
 use Rattle.interface.proofs.LengthLaws.{cond-yes, cond-no}
 use Rattle.interface.proofs.RefusedRequests.{whole-stays, untouched}
@@ -62,8 +62,8 @@ answers-append : (ps qs : List (List ℕ)) (h : Held) → answersTo (ps ++ qs) h
 unfolding afterRequests answersTo
 answers-append [] qs h = refl
 answers-append (p ∷ ps) qs h =
-    ap (λ (x : List ℕ). answerBytes (effectOf p h .answer) ++ x) (answers-append ps qs (afterRequest p h))
-    ∙ sym (append-assoc (answerBytes (effectOf p h .answer)) (answersTo ps (afterRequest p h)) (answersTo qs (afterRequests ps (afterRequest p h))))
+    ap (λ (x : List ℕ). answerBytes (requestEffect p h .answer) ++ x) (answers-append ps qs (afterRequest p h))
+    ∙ sym (append-assoc (answerBytes (requestEffect p h .answer)) (answersTo ps (afterRequest p h)) (answersTo qs (afterRequests ps (afterRequest p h))))
 
 parts-append : (k n m : ℕ) (b c : List ℕ) → length b ≡ k * n → parts k (n + m) (b ++ c) ≡ parts k n b ++ parts k m c
 unfolding parts

@@ -8,11 +8,11 @@ use lib.ListN.{length, getD, replicate}
 use Rattle.model.specs.declared.Station.{Station}
 use Rattle.model.specs.declared.Answer.{Answer}
 use Rattle.model.specs.declared.Answer.the-variants as A
-use Rattle.model.specs.Limits.{writeLimit}
 use Rattle.model.specs.Lists.{_and_, _or_}
+use Rattle.model.specs.Limits.{writeLimit}
 use Rattle.model.specs.Ids.{noId}
+use Rattle.model.specs.Bytes.{bytes, idIn}
 use Rattle.model.specs.Stations.{emptyStation, setEntry}
-use Rattle.model.specs.Records.{bytes, idIn}
 use Rattle.model.specs.Effects.{Effect, stored}
 use Rattle.model.specs.Calls.{Call, Start, Put, Get, Commit, Step, Abort, Collect, Scan}
 use Rattle.model.specs.Answers.{valuesOf}
@@ -98,12 +98,12 @@ unfoldable pub heldIn : List ℕ → List ℕ → Held
 heldIn image s = record { whole = isImage image; station = cond (isImage image) (stationIn image) unsoundStation; store = s }
 
 -- a request comes to what a sheet's line does: its call's effect, or 19 where it asks for none
-unfoldable pub effectOf : List ℕ → Held → Effect
-effectOf q h = lineEffect (requestCall q) (h .station) (h .store)
+unfoldable pub requestEffect : List ℕ → Held → Effect
+requestEffect q h = lineEffect (requestCall q) (h .station) (h .store)
 
 -- a scan's station is its own, whatever the image was
 unfoldable pub afterRequest : List ℕ → Held → Held
-afterRequest q h = record { whole = h .whole or isScan (requestCall q); station = effectOf q h .station; store = stored (effectOf q h .stores) (h .store) }
+afterRequest q h = record { whole = h .whole or isScan (requestCall q); station = requestEffect q h .station; store = stored (requestEffect q h .stores) (h .store) }
 
 -- requests one after the other, and their answers
 unfoldable pub afterRequests : List (List ℕ) → Held → Held
@@ -112,7 +112,7 @@ afterRequests (q ∷ qs) h = afterRequests qs (afterRequest q h)
 
 unfoldable pub answersTo : List (List ℕ) → Held → List ℕ
 answersTo [] h = []
-answersTo (q ∷ qs) h = answerBytes (effectOf q h .answer) ++ answersTo qs (afterRequest q h)
+answersTo (q ∷ qs) h = answerBytes (requestEffect q h .answer) ++ answersTo qs (afterRequest q h)
 
 -- afterwards: an image that is no station's stays as it was until a scan
 unfoldable pub imageAfter : List ℕ → Held → List ℕ

@@ -28,7 +28,7 @@ ghost use Rattle.sheet.specs.Commands.{commandOf};
 ghost use Rattle.sheet.specs.Parts.{verbOf};
 ghost use Rattle.image.specs.Layout.{imageSize};
 ghost use Rattle.image.specs.Images.{stationBytes, stationIn, isImage};
-ghost use Rattle.interface.specs.Exchange.{requestSize, answerSize, verbNumbered, requestCall, kindOf, answerBytes, unsoundStation, heldIn, effectOf, afterRequest, afterRequests, answersTo, imageAfter, requestsIn, afterRun, answersIn, fits, fitsOne};
+ghost use Rattle.interface.specs.Exchange.{requestSize, answerSize, verbNumbered, requestCall, kindOf, answerBytes, unsoundStation, heldIn, requestEffect, afterRequest, afterRequests, answersTo, imageAfter, requestsIn, afterRun, answersIn, fits, fitsOne};
 ghost use Rattle.interface.specs.Parts.{heldOf};
 
 // The bytes of a request and of an answer.
@@ -294,7 +294,7 @@ pub extern "C" fn gorehimu_call(
     ensures { λ r. ⌜ r ≡ cond (fitsOne (length (now (image .entry))) (length (now (request .entry))) (length (now (answer .entry)))) 0 1 ⌝ }
     ensures { λ _. ⌜ now (image .exit) ≡ cond (fitsOne (length (now (image .entry))) (length (now (request .entry))) (length (now (answer .entry)))) (imageAfter (now (image .entry)) (afterRequest (now (request .entry)) (heldIn (now (image .entry)) (now (store .entry))))) (now (image .entry)) ⌝ }
     ensures { λ _. ⌜ now (store .exit) ≡ cond (fitsOne (length (now (image .entry))) (length (now (request .entry))) (length (now (answer .entry)))) (afterRequest (now (request .entry)) (heldIn (now (image .entry)) (now (store .entry))) .store) (now (store .entry)) ⌝ }
-    ensures { λ _. ⌜ now (answer .exit) ≡ cond (fitsOne (length (now (image .entry))) (length (now (request .entry))) (length (now (answer .entry)))) (answerBytes (effectOf (now (request .entry)) (heldIn (now (image .entry)) (now (store .entry))) .answer)) (now (answer .entry)) ⌝ }
+    ensures { λ _. ⌜ now (answer .exit) ≡ cond (fitsOne (length (now (image .entry))) (length (now (request .entry))) (length (now (answer .entry)))) (answerBytes (requestEffect (now (request .entry)) (heldIn (now (image .entry)) (now (store .entry))) .answer)) (now (answer .entry)) ⌝ }
 {
     if !one_fits(image.len(), request.len(), answer.len()) {
         return 1;

@@ -15,7 +15,9 @@ use Rattle.model.specs.declared.Entry.{Entry}
 use Rattle.model.specs.declared.Station.{Station}
 use Rattle.model.specs.declared.Answer.the-variants as A
 use Rattle.model.specs.Lists.{all, first, insert, member}
-use Rattle.model.specs.Stations.{noWrite, writesOf, readsOf, wrote, wroteAs, writeKey, hasWritten, valueUnder, liveAt, entryAt, placeOf}
+use Rattle.model.specs.Lives.{noWrite, writesOf, readsOf, writeKey, hasWritten, valueUnder}
+use Rattle.model.specs.Entries.{wrote, wroteAs}
+use Rattle.model.specs.Stations.{liveAt, entryAt, placeOf}
 use Rattle.model.specs.Records.{valueIn}
 use Rattle.model.specs.Reading.{Choice, own, absent, nofit, version, choose}
 use Rattle.model.specs.Effects.{Effect, says}

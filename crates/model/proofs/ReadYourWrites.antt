@@ -11,11 +11,12 @@ use Rattle.model.specs.declared.Station.{Station}
 use Rattle.model.specs.declared.Answer.the-variants as A
 use Rattle.model.specs.Lists.{all}
 use Rattle.model.specs.Limits.{keys, storeSize}
-use Rattle.model.specs.Stations.{writesOf, hasWritten, valueUnder, isClosing, liveAt, setLive, isLive, placeOf}
+use Rattle.model.specs.Lives.{writesOf, hasWritten, valueUnder, isClosing, withWrites}
+use Rattle.model.specs.Stations.{liveAt, setLive, isLive, placeOf}
 use Rattle.model.specs.Sound.{sound}
 use Rattle.model.specs.Reading.{Choice, own}
 use Rattle.model.specs.Effects.{Effect, says, wrongLength, unsound}
-use Rattle.model.specs.Put.{withWrites, withWrite, put}
+use Rattle.model.specs.Put.{withWrite, put}
 use Rattle.model.specs.Get.{choiceOf, noRoom, notCarried, answered, get}
 use Rattle.model.specs.Calls.{Put, does}
 use Rattle.model.specs.Answers.{refusedWith}

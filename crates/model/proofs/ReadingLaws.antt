@@ -14,7 +14,7 @@ use Rattle.model.specs.declared.Read.{Read}
 use Rattle.model.specs.declared.Entry.{Entry}
 use Rattle.model.specs.Lists.{_and_, any, filter}
 use Rattle.model.specs.Ids.{older, sameId}
-use Rattle.model.specs.Stations.{noEntry, wrote, wroteAs}
+use Rattle.model.specs.Entries.{noEntry, wrote, wroteAs}
 use Rattle.model.specs.Reading.{lowerBound, conflictsWith, conflicts, passes, keepNewer, newest, absent, nofit, version, chosen, choose, Atomic}
 use Rattle.model.specs.Step.{step}
 use Rattle.model.proofs.Tests.{and-left, and-right, and-intro, and-second}

@@ -17,7 +17,9 @@ use Rattle.model.specs.declared.Entry.{Entry}
 use Rattle.model.specs.Lists.{_and_, same}
 use Rattle.model.specs.Limits.{slots, writeLimit, recordSize, width, storeSize, txnRange, numberRange, byteRange}
 use Rattle.model.specs.Ids.{sameId}
-use Rattle.model.specs.Records.{bytes, number, idIn, markIn, entryIn, valueIn, freeMark, committedMark, headBytes, commitRecord, versionRecord, zeroRecord, entryRules, commitRules, carriesEntry, carriesVersion, recordPlace, recordAt, withRecord}
+use Rattle.model.specs.Bytes.{bytes, number, idIn, headBytes}
+use Rattle.model.specs.Entries.{markIn, entryIn, freeMark, committedMark, commitRecord, entryRules, commitRules, carriesEntry}
+use Rattle.model.specs.Records.{valueIn, versionRecord, zeroRecord, carriesVersion, recordPlace, recordAt, withRecord}
 use Rattle.model.proofs.Tests.{and-left, and-right, and-intro}
 use Rattle.model.proofs.IdLaws.{same-id, id-same}
 

@@ -14,9 +14,10 @@ use Rattle.model.specs.declared.Live.{Live}
 use Rattle.model.specs.declared.Entry.{Entry}
 use Rattle.model.specs.declared.Answer.the-variants as A
 use Rattle.model.specs.Lists.{first, count, from, member}
-use Rattle.model.specs.Limits.{livePlaces, slots, recordSize, storeSize}
-use Rattle.model.specs.Stations.{noLive, emptyStation, entryAt}
-use Rattle.model.specs.Records.{markIn, freeMark, recordPlace, recordAt}
+use Rattle.model.specs.Limits.{slots, recordSize, storeSize}
+use Rattle.model.specs.Entries.{markIn, freeMark}
+use Rattle.model.specs.Stations.{emptyStation, entryAt, idleStation}
+use Rattle.model.specs.Records.{recordPlace, recordAt}
 use Rattle.model.specs.Slots.{Seen, free, committed, damaged, seen}
 use Rattle.model.specs.Effects.{says, refusals, wrongLength}
 use Rattle.model.specs.Scan.{slotsSeen, entrySeen, isCommitted, breaks, lowestBroken, scanned, scan}
@@ -84,7 +85,7 @@ module _ (xs : List Seen) where
   unfolding lowestBroken
   lowest-before j o h = of-number false j o (first-before breaksAt numbers 0 j h)
 
-  scanned-found : lowestBroken xs ≡ length xs → scanned xs ≡ says (A.Found (count isCommitted xs)) (record { live = replicate livePlaces noLive; entries = map entrySeen xs })
+  scanned-found : lowestBroken xs ≡ length xs → scanned xs ≡ says (A.Found (count isCommitted xs)) (idleStation (map entrySeen xs))
   unfolding scanned
   scanned-found h = rw (le-ltb (lowestBroken xs) (length xs) (omega arith))
 
@@ -189,7 +190,7 @@ module _ (s : List ℕ) (l : length s ≡ storeSize) where
   of-slot b j o h = subst (λ (x : Seen). breaks (take j (slotsSeen s)) x ≡ b) (seen-at s j free o) h
 
   -- a store that keeps the rules: one entry for each committed slot
-  pub scan-finds : KeepsRules s → scan s ≡ says (A.Found (count isCommitted (slotsSeen s))) (record { live = replicate livePlaces noLive; entries = map entrySeen (slotsSeen s) })
+  pub scan-finds : KeepsRules s → scan s ≡ says (A.Found (count isCommitted (slotsSeen s))) (idleStation (map entrySeen (slotsSeen s)))
   scan-finds k = scan-judged ∙ scanned-found (slotsSeen s) (lowest-none (slotsSeen s) (λ j o. let oj : j < slots = omega (arith, seen-length s) in at-slot false j oj (keeps-none s k j oj)))
 
   -- any other: the lowest slot that breaks them

@@ -14,8 +14,8 @@ use Rattle.model.specs.declared.Id.{Id}
 use Rattle.model.specs.declared.Entry.{Entry}
 use Rattle.model.specs.Lists.{_and_, first, ascending}
 use Rattle.model.specs.Limits.{keys, slots, writeLimit, recordSize, width, slotSize, storeSize}
-use Rattle.model.specs.Stations.{keysOf, wrote}
-use Rattle.model.specs.Records.{markIn, entryIn, freeMark, zeroRecord, entryRules, commitRules, carriesEntry, carriesVersion, recordPlace, recordAt, withRecord, recordOf}
+use Rattle.model.specs.Entries.{keysOf, wrote, markIn, entryIn, freeMark, entryRules, commitRules, carriesEntry, recordOf}
+use Rattle.model.specs.Records.{zeroRecord, carriesVersion, recordPlace, recordAt, withRecord}
 use Rattle.model.specs.Slots.{free, committed, damaged, versionsCarry, judged, seen, slotBytes}
 use Rattle.model.proofs.Tests.{and-left, and-right, and-intro}
 use Rattle.model.proofs.ListLaws.{member-finds}

@@ -12,7 +12,9 @@ use Rattle.model.specs.declared.Station.{Station}
 use Rattle.model.specs.declared.Phase.{Phase}
 use Rattle.model.specs.declared.Phase.the-variants.{Unused, Open, Closing}
 use Rattle.model.specs.Limits.{slots}
-use Rattle.model.specs.Stations.{readsOf, wrote, isClosing, closingSlot, closingClock, recordsStored, liveAt, entryAt, isLive, isHeld, placeOf, slotOf, holds}
+use Rattle.model.specs.Lives.{readsOf, isClosing, closingSlot, closingClock, recordsStored}
+use Rattle.model.specs.Entries.{wrote}
+use Rattle.model.specs.Stations.{liveAt, entryAt, isLive, isHeld, placeOf, slotOf, holds}
 use Rattle.model.specs.Sound.{isNoLive, placeRight, sound}
 use Rattle.model.proofs.Tests.{and-left, and-right, bool-cases}
 use Rattle.model.proofs.StationLaws.{place-hit, slot-hit, unheld-txn, mark-closing}

@@ -5,7 +5,7 @@ use mathlib.Core.Logic.{_≢_, ⊎-elim}
 use mathlib.Core.Bool.{Bool, true, false, not, true≢false}
 use mathlib.Core.List.{List, _∷_, map, List·Memᴰ, List·Memᴰ·not-nil}
 use lib.Dec.{eqb, ltb, leb}
-use lib.ListN.{length, getD, replicate, List·getD-eq-default, length-map, List·getD-map}
+use lib.ListN.{length, getD, List·getD-eq-default, length-map, List·getD-map}
 use native.Mathlib.Nat.{suc-ne-zero}
 use native.Mathlib.Decide.{ℕ-discrete, decLt}
 use native.Mathlib.Omega.{arith}
@@ -21,17 +21,19 @@ use Rattle.model.specs.declared.Answer.{Answer}
 use Rattle.model.specs.Lists.{_and_, _or_, all, from, ascending, distinct, anyBelow}
 use Rattle.model.specs.Limits.{keys, livePlaces, slots, writeLimit, readLimit, storeSize}
 use Rattle.model.specs.Ids.{sameId}
-use Rattle.model.specs.Stations.{noLive, noEntry, emptyStation, writesOf, readsOf, wrote, wroteAs, hasWritten, hasRead, isClosing, closingSlot, closingClock, recordsStored, liveAt, entryAt, setLive, setEntry, liveTxns, heldTxns, isLive, isHeld, placeOf, holds, slotMark, closingSlots, isFree}
+use Rattle.model.specs.Lives.{noLive, writesOf, readsOf, hasWritten, hasRead, isClosing, closingSlot, closingClock, recordsStored, slotMark, withWrites, withReads, withPhase}
+use Rattle.model.specs.Entries.{noEntry, wrote, wroteAs, isNoEntry, entryFor}
+use Rattle.model.specs.Stations.{emptyStation, liveAt, entryAt, setLive, setEntry, liveTxns, heldTxns, isLive, isHeld, placeOf, holds, closingSlots, isFree, idleStation}
 use Rattle.model.specs.Slots.{Seen, free, committed, damaged, seen}
-use Rattle.model.specs.Sound.{isNoWrite, isNoRead, isNoEntry, isNoLive, zeroPastCounts, setsRight, placeRight, entryRight, sound}
+use Rattle.model.specs.Sound.{isNoWrite, isNoRead, isNoLive, zeroPastCounts, setsRight, placeRight, entryRight, sound}
 use Rattle.model.specs.Reading.{Choice, own, absent, nofit, version}
 use Rattle.model.specs.Supersedence.{isReadBy, isRead}
 use Rattle.model.specs.Effects.{Effect, says, saysStoring, Row, _when_, refusals}
 use Rattle.model.specs.Start.{opened, start}
-use Rattle.model.specs.Put.{withWrites, withWrite, put}
-use Rattle.model.specs.Get.{choiceOf, withReads, withRead, noRoom, answered, get}
-use Rattle.model.specs.Commit.{withPhase, highestFree, commit}
-use Rattle.model.specs.Step.{entryFor, oneMore, stepped, step}
+use Rattle.model.specs.Put.{withWrite, put}
+use Rattle.model.specs.Get.{choiceOf, withRead, noRoom, answered, get}
+use Rattle.model.specs.Commit.{highestFree, commit}
+use Rattle.model.specs.Step.{oneMore, stepped, step}
 use Rattle.model.specs.Abort.{abort}
 use Rattle.model.specs.Collect.{collect}
 use Rattle.model.specs.Scan.{slotsSeen, entrySeen, scan}
@@ -434,7 +436,7 @@ all-seen s (suc n) i = all-cons entryRight (entrySeen (seen s i)) (map entrySeen
 
 -- the station made of what is seen
 abbrev found : List Seen → Station
-found xs = record { live = replicate livePlaces noLive; entries = map entrySeen xs }
+found xs = idleStation (map entrySeen xs)
 
 -- no number stands twice where the rules are kept
 held-distinct : (s : List ℕ) → KeepsRules s → distinct (map (λ (e : Entry). e .id .txn) (map entrySeen (slotsSeen s))) ≡ true

@@ -22,12 +22,12 @@ use Rattle.model.specs.declared.Phase.the-variants.{Unused, Open, Closin
 use Rattle.model.specs.Lists.{_and_, _or_, all, any, insert, member, ascending, distinct}
 use Rattle.model.specs.Limits.{keys, slots, writeLimit, readLimit}
 use Rattle.model.specs.Ids.{sameId}
-use Rattle.model.specs.Stations.{noWrite, noRead, noLive, writesOf, readsOf, keysOf, wrote, wroteAs, writeKey, readKey, hasWritten, hasRead, isClosing, closingSlot, closingClock, recordsStored, liveAt, entryAt, setLive, setEntry, liveTxns, heldTxns, holds, slotMark, closingSlots}
-use Rattle.model.specs.Records.{entryRules}
-use Rattle.model.specs.Sound.{isNoWrite, isNoRead, isNoEntry, isNoLive, zeroPastCounts, setsRight, names, inUse, closingRight, placeRight, entryRight, sound}
-use Rattle.model.specs.Put.{withWrites, withWrite}
-use Rattle.model.specs.Get.{withReads, withRead}
-use Rattle.model.specs.Step.{entryFor}
+use Rattle.model.specs.Lives.{noWrite, noRead, noLive, writesOf, readsOf, writeKey, readKey, hasWritten, hasRead, isClosing, closingSlot, closingClock, recordsStored, slotMark, withWrites, withReads}
+use Rattle.model.specs.Entries.{keysOf, wrote, wroteAs, entryRules, isNoEntry, entryFor}
+use Rattle.model.specs.Stations.{liveAt, entryAt, setLive, setEntry, liveTxns, heldTxns, holds, closingSlots}
+use Rattle.model.specs.Sound.{isNoWrite, isNoRead, isNoLive, zeroPastCounts, setsRight, names, inUse, closingRight, placeRight, entryRight, sound}
+use Rattle.model.specs.Put.{withWrite}
+use Rattle.model.specs.Get.{withRead}
 use Rattle.model.proofs.Tests.{and-left, and-right, and-intro, or-intro-right, or-cases, not-of-false}
 use Rattle.model.proofs.ListLaws.{all-of, all-by, all-replicate, all-everywhere, any-set, take-map, drop-map, all-map}
 use Rattle.model.proofs.DistinctLaws.{Once, once-by, once-set, once-at, once-of, once-left, once-right, once-apart, distinct-append}

@@ -3,7 +3,6 @@ use Prim.Native.Nat.{ℕ, suc, _<_, _≤_}
 use mathlib.Core.Path.{_≡_, refl, sym, ap, subst, _∙_}
 use mathlib.Core.Logic.{_≢_}
 use mathlib.Core.Bool.{true, false, true≢false, false≢true}
-use mathlib.Core.List.{[]}
 use lib.ListN.{length, getD, length-set, List·getD-eq-default, length-map, List·getD-map}
 use lib.Seq.{getD-set-same, getD-set-other}
 use native.Mathlib.Nat.{suc-ne-zero}
@@ -16,8 +15,9 @@ use Rattle.model.specs.declared.Station.{Station}
 use Rattle.model.specs.declared.Phase.{Phase}
 use Rattle.model.specs.declared.Phase.the-variants.{Unused, Open, Closing}
 use Rattle.model.specs.Lists.{member}
-use Rattle.model.specs.Ids.{noId}
-use Rattle.model.specs.Stations.{noEntry, isClosing, closingSlot, closingClock, recordsStored, liveAt, entryAt, setLive, setEntry, liveTxns, heldTxns, isLive, isHeld, placeOf, slotOf, holds, slotMark, closingSlots}
+use Rattle.model.specs.Lives.{isClosing, closingSlot, closingClock, recordsStored, slotMark, liveBeyond}
+use Rattle.model.specs.Entries.{noEntry, entryBeyond}
+use Rattle.model.specs.Stations.{liveAt, entryAt, setLive, setEntry, liveTxns, heldTxns, isLive, isHeld, placeOf, slotOf, holds, closingSlots}
 use Rattle.model.proofs.Tests.{not-of-true}
 use Rattle.model.proofs.ListLaws.{at-set, getD-inside, member-finds, member-at}
 use Rattle.model.proofs.DistinctLaws.{member-never}
@@ -26,7 +26,7 @@ use Rattle.model.proofs.DistinctLaws.{member-never}
 module _ (st : Station) where
   pub txn-at : (i : ℕ) → getD (liveTxns st) i 0 ≡ liveAt st i .txn
   unfolding liveTxns liveAt
-  txn-at i = List·getD-map (λ (l : Live). l .txn) (st .live) i (record { txn = 0; phase = Unused; «write_count» = 0; writes = []; «read_count» = 0; reads = [] })
+  txn-at i = List·getD-map (λ (l : Live). l .txn) (st .live) i liveBeyond
 
   pub txns-length : length (liveTxns st) ≡ length (st .live)
   unfolding liveTxns
@@ -34,7 +34,7 @@ module _ (st : Station) where
 
   pub held-at : (d : ℕ) → getD (heldTxns st) d 0 ≡ entryAt st d .id .txn
   unfolding heldTxns entryAt
-  held-at d = List·getD-map (λ (e : Entry). e .id .txn) (st .entries) d (record { id = noId; count = 0; keys = [] })
+  held-at d = List·getD-map (λ (e : Entry). e .id .txn) (st .entries) d entryBeyond
 
   pub held-length : length (heldTxns st) ≡ length (st .entries)
   unfolding heldTxns
@@ -42,7 +42,7 @@ module _ (st : Station) where
 
   pub mark-at : (i : ℕ) → getD (closingSlots st) i 0 ≡ slotMark (liveAt st i .phase)
   unfolding closingSlots liveAt slotMark
-  mark-at i = List·getD-map (λ (l : Live). slotMark (l .phase)) (st .live) i (record { txn = 0; phase = Unused; «write_count» = 0; writes = []; «read_count» = 0; reads = [] })
+  mark-at i = List·getD-map (λ (l : Live). slotMark (l .phase)) (st .live) i liveBeyond
 
   pub marks-length : length (closingSlots st) ≡ length (st .live)
   unfolding closingSlots
@@ -58,11 +58,11 @@ module _ (st : Station) where
   slot-hit t h = let r = member-finds t (heldTxns st) h in (subst (λ (n : ℕ). slotOf t st < n) held-length (r .0), sym (held-at (slotOf t st)) ∙ r .1)
 
   -- past the arrays' ends nothing is in use
-  pub live-out : (i : ℕ) → length (st .live) ≤ i → liveAt st i ≡ record { txn = 0; phase = Unused; «write_count» = 0; writes = []; «read_count» = 0; reads = [] }
+  pub live-out : (i : ℕ) → length (st .live) ≤ i → liveAt st i ≡ liveBeyond
   unfolding liveAt
   live-out i h = List·getD-eq-default (st .live) _ h
 
-  pub entry-out : (d : ℕ) → length (st .entries) ≤ d → entryAt st d ≡ record { id = noId; count = 0; keys = [] }
+  pub entry-out : (d : ℕ) → length (st .entries) ≤ d → entryAt st d ≡ entryBeyond
   unfolding entryAt
   entry-out d h = List·getD-eq-default (st .entries) _ h
 

@@ -5,7 +5,8 @@ use mathlib.Core.List.{[], _∷_}
 use lib.Dec.{eqb}
 use Rattle.model.specs.declared.Station.{Station}
 use Rattle.model.specs.declared.Answer.the-variants as A
-use Rattle.model.specs.Stations.{noLive, isClosing, liveAt, setLive, isLive, placeOf}
+use Rattle.model.specs.Lives.{noLive, isClosing}
+use Rattle.model.specs.Stations.{liveAt, setLive, isLive, placeOf}
 use Rattle.model.specs.Effects.{Effect, says, _when_, refusals, unsound}
 
 unfoldable pub abort : Station → ℕ → Effect

@@ -1,5 +1,6 @@
 -- The eight calls as one type, and what each does: 01's column 'By' and its section 'Calls'.
 use Prim.Native.Nat.{ℕ, _<_}
+use mathlib.Core.Bool.{Bool, true, false}
 use mathlib.Core.List.{List, [], _∷_}
 use Rattle.model.specs.declared.Station.{Station}
 use Rattle.model.specs.declared.Answer.{Answer}
@@ -33,6 +34,17 @@ does (Step t) st s = step st s t
 does (Abort t) st s = abort st t
 does (Collect d) st s = collect st s d
 does Scan st s = scan s
+
+-- the call that needs no station
+unfoldable pub isScan : Call → Bool
+isScan (Start t) = false
+isScan (Put t k v) = false
+isScan (Get t k) = false
+isScan (Commit t c) = false
+isScan (Step t) = false
+isScan (Abort t) = false
+isScan (Collect d) = false
+isScan Scan = true
 
 -- what a call was handed: transaction, key (or slot), number (value or clock); 0 where it takes none
 unfoldable pub txnOf : Call → ℕ

@@ -9,8 +9,9 @@ use Rattle.model.specs.declared.Station.{Station}
 use Rattle.model.specs.declared.Answer.the-variants as A
 use Rattle.model.specs.Lists.{_or_}
 use Rattle.model.specs.Limits.{slots}
-use Rattle.model.specs.Stations.{noEntry, entryAt, setEntry, holds}
-use Rattle.model.specs.Records.{zeroRecord, carriesEntry, recordAt}
+use Rattle.model.specs.Entries.{noEntry, carriesEntry}
+use Rattle.model.specs.Stations.{entryAt, setEntry, holds}
+use Rattle.model.specs.Records.{zeroRecord, recordAt}
 use Rattle.model.specs.Supersedence.{superseded, isRead}
 use Rattle.model.specs.Effects.{Effect, saysStoring, _when_, refusals, wrongLength, unsound}
 

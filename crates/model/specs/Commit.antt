@@ -5,16 +5,13 @@ use mathlib.Core.List.{[], _∷_}
 use lib.Dec.{eqb, leb}
 use Rattle.model.specs.declared.Live.{Live}
 use Rattle.model.specs.declared.Station.{Station}
-use Rattle.model.specs.declared.Phase.{Phase}
 use Rattle.model.specs.declared.Phase.the-variants.{Closing}
 use Rattle.model.specs.declared.Answer.the-variants as A
 use Rattle.model.specs.Lists.{_and_, anyBelow, greatestBelow}
 use Rattle.model.specs.Limits.{slots}
-use Rattle.model.specs.Stations.{noLive, isClosing, liveAt, entryAt, setLive, isLive, isHeld, placeOf, slotOf, isFree}
+use Rattle.model.specs.Lives.{noLive, isClosing, withPhase}
+use Rattle.model.specs.Stations.{liveAt, entryAt, setLive, isLive, isHeld, placeOf, slotOf, isFree}
 use Rattle.model.specs.Effects.{Effect, says, _when_, refusals, unsound}
-
-unfoldable pub withPhase : Phase → Live → Live
-withPhase p l = record { txn = l .txn; phase = p; «write_count» = l .«write_count»; writes = l .writes; «read_count» = l .«read_count»; reads = l .reads }
 
 -- "the highest-numbered free drawer"
 unfoldable pub highestFree : Station → ℕ

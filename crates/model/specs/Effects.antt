@@ -32,12 +32,15 @@ stored (w ∷ ws) s = stored ws (withRecord s (w .slot) (w .index) (w .content))
 unfoldable pub outcomeOf : Effect → Outcome
 outcomeOf e = record { answer = e .answer; station = e .station }
 
--- an answer with nothing stored; with one record stored
+-- an answer with some records stored; with none; with one
+abbrev pub saysStoringAll : Answer → Station → List RecordWrite → Effect
+saysStoringAll a st ws = record { answer = a; station = st; stores = ws }
+
 unfoldable pub says : Answer → Station → Effect
-says a st = record { answer = a; station = st; stores = [] }
+says a st = saysStoringAll a st []
 
 unfoldable pub saysStoring : Answer → Station → ℕ → ℕ → List ℕ → Effect
-saysStoring a st d n r = record { answer = a; station = st; stores = record { slot = d; index = n; content = r } ∷ [] }
+saysStoring a st d n r = saysStoringAll a st (record { slot = d; index = n; content = r } ∷ [])
 
 -- ── 01 'What a refused call says' ──
 -- a row: the number returned, and when

@@ -3,16 +3,16 @@ use Prim.Native.Nat.{ℕ}
 use mathlib.Core.Bool.{Bool, false, not, cond}
 use mathlib.Core.List.{List, [], _∷_}
 use lib.Dec.{eqb, leb}
-use lib.ListN.{length}
 use Rattle.model.specs.declared.Id.{Id}
-use Rattle.model.specs.declared.Read.{Read}
 use Rattle.model.specs.declared.Live.{Live}
 use Rattle.model.specs.declared.Station.{Station}
 use Rattle.model.specs.declared.Answer.the-variants as A
-use Rattle.model.specs.Lists.{_and_, insert, padded}
+use Rattle.model.specs.Lists.{_and_, insert}
 use Rattle.model.specs.Limits.{keys, readLimit}
-use Rattle.model.specs.Stations.{noRead, writesOf, readsOf, readKey, hasWritten, hasRead, valueUnder, isClosing, liveAt, entryAt, setLive, isLive, placeOf}
-use Rattle.model.specs.Records.{valueIn, carriesVersion, recordAt, recordOf}
+use Rattle.model.specs.Lives.{writesOf, readsOf, readKey, hasWritten, hasRead, valueUnder, isClosing, withReads}
+use Rattle.model.specs.Entries.{recordOf}
+use Rattle.model.specs.Stations.{liveAt, entryAt, setLive, isLive, placeOf}
+use Rattle.model.specs.Records.{valueIn, carriesVersion, recordAt}
 use Rattle.model.specs.Reading.{Choice, own, absent, nofit, version, choose}
 use Rattle.model.specs.Effects.{Effect, says, _when_, refusals, wrongLength, unsound}
 
@@ -20,9 +20,6 @@ unfoldable pub choiceOf : Station → Live → ℕ → Choice
 choiceOf st l k = cond (hasWritten k l) (own (valueUnder k (writesOf l))) (choose (st .entries) (readsOf l) k)
 
 -- "The key and id join the read list."
-unfoldable pub withReads : List Read → Live → Live
-withReads rs l = record { txn = l .txn; phase = l .phase; «write_count» = l .«write_count»; writes = l .writes; «read_count» = length rs; reads = padded noRead readLimit rs }
-
 unfoldable pub withRead : ℕ → Id → Live → Live
 withRead k i l = withReads (insert readKey (record { key = k; id = i }) (readsOf l)) l
 

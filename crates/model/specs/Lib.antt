@@ -1,7 +1,11 @@
 pub mod Lists
 pub mod Limits
 pub mod Ids
+pub mod Bytes
+pub mod Lives
+pub mod Entries
 pub mod Stations
+pub mod Ranges
 pub mod Records
 pub mod Slots
 pub mod Sound

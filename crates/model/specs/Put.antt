@@ -1,20 +1,16 @@
 -- 01 'Calls': "put ticket, key, value: adds the key or replaces its value."
 use Prim.Native.Nat.{ℕ}
 use mathlib.Core.Bool.{not}
-use mathlib.Core.List.{List, [], _∷_}
+use mathlib.Core.List.{[], _∷_}
 use lib.Dec.{eqb, leb}
-use lib.ListN.{length}
-use Rattle.model.specs.declared.Write.{Write}
 use Rattle.model.specs.declared.Live.{Live}
 use Rattle.model.specs.declared.Station.{Station}
 use Rattle.model.specs.declared.Answer.the-variants as A
-use Rattle.model.specs.Lists.{_and_, insert, padded}
+use Rattle.model.specs.Lists.{_and_, insert}
 use Rattle.model.specs.Limits.{keys, writeLimit}
-use Rattle.model.specs.Stations.{noWrite, writesOf, writeKey, hasWritten, isClosing, liveAt, setLive, isLive, placeOf}
+use Rattle.model.specs.Lives.{writesOf, writeKey, hasWritten, isClosing, withWrites}
+use Rattle.model.specs.Stations.{liveAt, setLive, isLive, placeOf}
 use Rattle.model.specs.Effects.{Effect, says, _when_, refusals, unsound}
-
-unfoldable pub withWrites : List Write → Live → Live
-withWrites ws l = record { txn = l .txn; phase = l .phase; «write_count» = length ws; writes = padded noWrite writeLimit ws; «read_count» = l .«read_count»; reads = l .reads }
 
 unfoldable pub withWrite : ℕ → ℕ → Live → Live
 withWrite k v l = withWrites (insert writeKey (record { key = k; value = v }) (writesOf l)) l

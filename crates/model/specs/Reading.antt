@@ -10,7 +10,7 @@ use Rattle.model.specs.declared.Read.{Read}
 use Rattle.model.specs.declared.Entry.{Entry}
 use Rattle.model.specs.Lists.{_and_, any, filter}
 use Rattle.model.specs.Ids.{older, greatest}
-use Rattle.model.specs.Stations.{noEntry, wrote, wroteAs}
+use Rattle.model.specs.Entries.{noEntry, wrote, wroteAs}
 
 -- "The lower bound is the greatest id in the read list whose transaction wrote this key, or none."
 unfoldable pub lowerBound : List Entry → List Read → ℕ → Id

@@ -3,12 +3,13 @@ use Prim.Native.Nat.{ℕ}
 use mathlib.Core.Bool.{Bool, true, false, cond}
 use mathlib.Core.List.{List, [], _∷_, map}
 use lib.Dec.{ltb}
-use lib.ListN.{length, take, getD, replicate}
+use lib.ListN.{length, take, getD}
 use Rattle.model.specs.declared.Entry.{Entry}
 use Rattle.model.specs.declared.Answer.the-variants as A
 use Rattle.model.specs.Lists.{first, count, from, member}
-use Rattle.model.specs.Limits.{livePlaces, slots}
-use Rattle.model.specs.Stations.{noLive, noEntry, emptyStation}
+use Rattle.model.specs.Limits.{slots}
+use Rattle.model.specs.Entries.{noEntry}
+use Rattle.model.specs.Stations.{idleStation, emptyStation}
 use Rattle.model.specs.Slots.{Seen, free, committed, damaged, seen}
 use Rattle.model.specs.Effects.{Effect, says, _when_, refusals, wrongLength}
 
@@ -39,7 +40,7 @@ lowestBroken xs = first (λ d. breaks (take d xs) (getD xs d free)) (from (lengt
 unfoldable pub scanned : List Seen → Effect
 scanned xs =
     cond (ltb (lowestBroken xs) (length xs)) (says (A.Refused 18 (lowestBroken xs)) emptyStation)
-    (says (A.Found (count isCommitted xs)) (record { live = replicate livePlaces noLive; entries = map entrySeen xs }))
+    (says (A.Found (count isCommitted xs)) (idleStation (map entrySeen xs)))
 
 -- "a refused scan hands back the empty station"
 unfoldable pub scan : List ℕ → Effect

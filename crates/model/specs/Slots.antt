@@ -8,8 +8,8 @@ use Rattle.model.specs.declared.Id.{Id}
 use Rattle.model.specs.declared.Entry.{Entry}
 use Rattle.model.specs.Lists.{_and_}
 use Rattle.model.specs.Limits.{slotSize}
-use Rattle.model.specs.Stations.{keysOf}
-use Rattle.model.specs.Records.{markIn, entryIn, freeMark, commitRules, carriesVersion, recordAt}
+use Rattle.model.specs.Entries.{keysOf, markIn, entryIn, freeMark, commitRules}
+use Rattle.model.specs.Records.{carriesVersion, recordAt}
 
 pub data Seen : Type 0 where
   free : Seen

@@ -14,8 +14,9 @@ use Rattle.model.specs.declared.Phase.the-variants.{Unused, Open, Closin
 use Rattle.model.specs.Lists.{_and_, _or_, all, ascending, distinct}
 use Rattle.model.specs.Limits.{keys, slots, writeLimit, readLimit}
 use Rattle.model.specs.Ids.{sameId, noId}
-use Rattle.model.specs.Stations.{writesOf, readsOf, wroteAs, writeKey, readKey, closingSlot, closingClock, recordsStored, liveTxns, heldTxns, holds, closingSlots}
-use Rattle.model.specs.Records.{entryRules}
+use Rattle.model.specs.Lives.{writesOf, readsOf, writeKey, readKey, closingSlot, closingClock, recordsStored}
+use Rattle.model.specs.Entries.{wroteAs, entryRules, isNoEntry}
+use Rattle.model.specs.Stations.{liveTxns, heldTxns, holds, closingSlots}
 
 -- ── "All fields of unused places, entries and list positions are zero." ──
 unfoldable pub isNoWrite : Write → Bool
@@ -23,9 +24,6 @@ isNoWrite w = eqb (w .key) 0 and eqb (w .value) 0
 
 unfoldable pub isNoRead : Read → Bool
 isNoRead r = eqb (r .key) 0 and sameId (r .id) noId
-
-unfoldable pub isNoEntry : Entry → Bool
-isNoEntry e = sameId (e .id) noId and eqb (e .count) 0 and all (eqb 0) (e .keys)
 
 unfoldable pub isNoLive : Live → Bool
 isNoLive l = eqb (l .txn) 0 and eqb (l .«write_count») 0 and eqb (l .«read_count») 0 and all isNoWrite (l .writes) and all isNoRead (l .reads)

@@ -3,18 +3,17 @@ use Prim.Native.Nat.{ℕ}
 use mathlib.Core.Bool.{not}
 use mathlib.Core.List.{[], _∷_}
 use lib.Dec.{eqb}
-use lib.ListN.{replicate}
 use Rattle.model.specs.declared.Live.{Live}
 use Rattle.model.specs.declared.Station.{Station}
 use Rattle.model.specs.declared.Phase.the-variants.{Open}
 use Rattle.model.specs.declared.Answer.the-variants as A
 use Rattle.model.specs.Lists.{_or_}
-use Rattle.model.specs.Limits.{writeLimit, readLimit}
-use Rattle.model.specs.Stations.{noWrite, noRead, setLive, isLive, isHeld, placeOf}
+use Rattle.model.specs.Lives.{blank}
+use Rattle.model.specs.Stations.{setLive, isLive, isHeld, placeOf}
 use Rattle.model.specs.Effects.{Effect, says, _when_, refusals, unsound}
 
 unfoldable pub opened : ℕ → Live
-opened t = record { txn = t; phase = Open; «write_count» = 0; writes = replicate writeLimit noWrite; «read_count» = 0; reads = replicate readLimit noRead }
+opened t = blank t Open
 
 unfoldable pub start : Station → ℕ → Effect
 start st t =

@@ -1,24 +1,20 @@
 -- 01 'Calls': "step ticket (closing, n keys)."
 use Prim.Native.Nat.{ℕ, _+_}
 use mathlib.Core.Bool.{not, cond}
-use mathlib.Core.List.{List, [], _∷_, map}
+use mathlib.Core.List.{List, [], _∷_}
 use lib.Dec.{eqb, ltb}
 use lib.ListN.{getD}
 use Rattle.model.specs.declared.Write.{Write}
 use Rattle.model.specs.declared.Live.{Live}
-use Rattle.model.specs.declared.Entry.{Entry}
 use Rattle.model.specs.declared.Station.{Station}
 use Rattle.model.specs.declared.Phase.{Phase}
 use Rattle.model.specs.declared.Phase.the-variants.{Unused, Open, Closing}
 use Rattle.model.specs.declared.Answer.the-variants as A
-use Rattle.model.specs.Stations.{noWrite, noLive, writeKey, isClosing, closingSlot, closingClock, recordsStored, liveAt, setLive, setEntry, isLive, placeOf}
-use Rattle.model.specs.Records.{commitRecord, versionRecord}
+use Rattle.model.specs.Lives.{noWrite, noLive, isClosing, closingSlot, recordsStored, withPhase}
+use Rattle.model.specs.Entries.{entryFor, commitRecord}
+use Rattle.model.specs.Stations.{liveAt, setLive, setEntry, isLive, placeOf}
+use Rattle.model.specs.Records.{versionRecord}
 use Rattle.model.specs.Effects.{Effect, says, saysStoring, _when_, refusals, wrongLength, unsound}
-use Rattle.model.specs.Commit.{withPhase}
-
--- the entry that a closing transaction becomes
-unfoldable pub entryFor : Live → Entry
-entryFor l = record { id = record { clock = closingClock (l .phase); txn = l .txn }; count = l .«write_count»; keys = map writeKey (l .writes) }
 
 -- one record more is stored
 unfoldable pub oneMore : Phase → Phase

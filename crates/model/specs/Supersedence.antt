@@ -7,7 +7,8 @@ use Rattle.model.specs.declared.Entry.{Entry}
 use Rattle.model.specs.declared.Station.{Station}
 use Rattle.model.specs.Lists.{_and_, all, any}
 use Rattle.model.specs.Ids.{older, sameId}
-use Rattle.model.specs.Stations.{readsOf, keysOf, wrote}
+use Rattle.model.specs.Lives.{readsOf}
+use Rattle.model.specs.Entries.{keysOf, wrote}
 
 -- some entry that wrote the key is newer than e
 unfoldable pub newerOn : List Entry → Entry → ℕ → Bool

@@ -77,7 +77,7 @@ pub struct Outcome {
 }
 
 impl Station {
-    // Live transactions, slots, keys in a write set and keys in a read set, each at most.
+    // Live transactions, slots, keys in a write set and keys in a read set, each at most; keys are below KEYS.
     pub const LIVE: usize = 8;
 
     pub const SLOTS: usize = 64;
@@ -85,6 +85,28 @@ impl Station {
     pub const WRITES: usize = 8;
 
     pub const READS: usize = 16;
+
+    pub const KEYS: usize = 64;
+
+    // The last place and slot; the limits of a write set, a read set and a key as the bytes that these are counted in.
+    pub const LAST_PLACE: usize = Station::LIVE - 1;
+
+    pub const LAST_SLOT: usize = Station::SLOTS - 1;
+
+    pub const WRITES_U8: u8 = Station::WRITES as u8;
+
+    pub const READS_U8: u8 = Station::READS as u8;
+
+    pub const KEYS_U8: u8 = Station::KEYS as u8;
+
+    pub const LAST_KEY: u8 = Station::KEYS_U8 - 1;
+
+    // The bytes of a record; of a slot, which has a commit record and one for each key of a write set; of a store.
+    pub const RECORD: usize = 24;
+
+    pub const SLOT: usize = Station::RECORD * (Station::WRITES + 1);
+
+    pub const STORE: usize = Station::SLOT * Station::SLOTS;
 
     // The station made from nothing.
     pub fn empty() -> Station

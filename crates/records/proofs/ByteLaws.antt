@@ -10,7 +10,7 @@ use borrow.Rule.Slice.PartMut.{midOf, putMid, mid-len, same-len-mid}
 use native.Mathlib.Numerals.{add-one}
 use Rattle.model.specs.declared.Id.{Id}
 use Rattle.model.specs.Limits.{writeLimit, recordSize, byteRange}
-use Rattle.model.specs.Records.{bytes, number, headBytes}
+use Rattle.model.specs.Bytes.{bytes, number, headBytes}
 use Rattle.model.proofs.RecordLaws.{length-bytes}
 use Rattle.records.proofs.ListSteps.{rest-next}
 

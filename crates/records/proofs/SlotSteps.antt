@@ -13,14 +13,14 @@ use native.Mathlib.Numerals.{add-one}
 use borrow.Author.Tests.{eq-eqb, ne-eqb}
 use Rattle.model.specs.declared.Id.{Id}
 use Rattle.model.specs.declared.Entry.{Entry}
-use Rattle.model.specs.Limits.{recordSize}
 use Rattle.model.specs.Lists.{_and_}
-use Rattle.model.specs.Records.{markIn, entryIn, freeMark, committedMark, entryRules, commitRules, carriesVersion, recordPlace, recordAt}
+use Rattle.model.specs.Limits.{recordSize}
+use Rattle.model.specs.Entries.{markIn, entryIn, freeMark, committedMark, entryRules, commitRules, noEntry, keysOf}
+use Rattle.model.specs.Records.{carriesVersion, recordPlace, recordAt}
 use Rattle.model.specs.Slots.{versionsCarry, judged, seen}
-use Rattle.model.specs.Stations.{noEntry, keysOf}
 use Rattle.model.proofs.Tests.{and-intro}
 use Rattle.records.specs.declared.Mark.the-variants.{Free, Committed, Damaged}
-use Rattle.records.specs.SlotView.{slotOf, slotWith}
+use Rattle.records.specs.SlotView.{asSlot, slotWith}
 use Rattle.records.proofs.ListSteps.{taken-next, taken-end, and-left-no, and-right-no}
 
 -- ── the version records ──
@@ -62,38 +62,38 @@ module _ (w : List ℕ) where
   abbrev kept : Bool
   kept = commitRules (recordAt w 0 0) and versionsCarry (recordAt w 0) (entryIn (recordAt w 0 0) .id) 1 (keysOf (entryIn (recordAt w 0 0)))
 
-  slot-is : (a b : Bool) → eqb (markIn (recordAt w 0 0)) freeMark ≡ a → kept ≡ b → slotOf (seen w 0) ≡ slotOf (judged a b (entryIn (recordAt w 0 0)))
+  slot-is : (a b : Bool) → eqb (markIn (recordAt w 0 0)) freeMark ≡ a → kept ≡ b → asSlot (seen w 0) ≡ asSlot (judged a b (entryIn (recordAt w 0 0)))
   unfolding seen
-  slot-is a b p q = ap₂ (λ (x y : Bool). slotOf (judged x y (entryIn (recordAt w 0 0)))) p q
+  slot-is a b p q = ap₂ (λ (x y : Bool). asSlot (judged x y (entryIn (recordAt w 0 0)))) p q
 
-  pub slot-free : getD w 0 0 ≡ freeMark → slotOf (seen w 0) ≡ slotWith Free noEntry
-  unfolding slotOf judged
+  pub slot-free : getD w 0 0 ≡ freeMark → asSlot (seen w 0) ≡ slotWith Free noEntry
+  unfolding asSlot judged
   slot-free h = slot-is true kept (eq-eqb _ freeMark (first-byte ∙ h)) refl
 
   module _ (m : getD w 0 0 ≢ freeMark) where
     mark-set : eqb (markIn (recordAt w 0 0)) freeMark ≡ false
     mark-set = ne-eqb (markIn (recordAt w 0 0)) freeMark (λ e. m (sym first-byte ∙ e))
 
-    slot-damaged : kept ≡ false → slotOf (seen w 0) ≡ slotWith Damaged noEntry
-    unfolding slotOf judged
+    slot-damaged : kept ≡ false → asSlot (seen w 0) ≡ slotWith Damaged noEntry
+    unfolding asSlot judged
     slot-damaged h = slot-is false false mark-set h
 
     -- by its mark and zeros, by its entry's rules, and by its version records
-    pub slot-no-commit : head (take recordSize w) ≡ false → slotOf (seen w 0) ≡ slotWith Damaged noEntry
+    pub slot-no-commit : head (take recordSize w) ≡ false → asSlot (seen w 0) ≡ slotWith Damaged noEntry
     unfolding recordAt commitRules
     slot-no-commit h = slot-damaged (and-left-no _ _ (and-left-no _ _ h))
 
     module _ (e : Entry) (q : e ≡ entryIn (take recordSize w)) where
-      pub slot-no-entry : entryRules e ≡ false → slotOf (seen w 0) ≡ slotWith Damaged noEntry
+      pub slot-no-entry : entryRules e ≡ false → asSlot (seen w 0) ≡ slotWith Damaged noEntry
       unfolding recordAt commitRules
       slot-no-entry h = slot-damaged (and-left-no _ _ (and-right-no _ _ (subst (λ (x : Entry). entryRules x ≡ false) q h)))
 
-      pub slot-no-versions : versionsCarry (recordAt w 0) (e .id) 1 (keysOf e) ≡ false → slotOf (seen w 0) ≡ slotWith Damaged noEntry
+      pub slot-no-versions : versionsCarry (recordAt w 0) (e .id) 1 (keysOf e) ≡ false → asSlot (seen w 0) ≡ slotWith Damaged noEntry
       unfolding recordAt
       slot-no-versions h = slot-damaged (and-right-no _ _ (subst (λ (x : Entry). versionsCarry (recordAt w 0) (x .id) 1 (keysOf x) ≡ false) q h))
 
-      pub slot-committed : head (take recordSize w) ≡ true → entryRules e ≡ true → versionsCarry (recordAt w 0) (e .id) 1 (keysOf e) ≡ true → slotOf (seen w 0) ≡ slotWith Committed e
-      unfolding slotOf judged recordAt commitRules
+      pub slot-committed : head (take recordSize w) ≡ true → entryRules e ≡ true → versionsCarry (recordAt w 0) (e .id) 1 (keysOf e) ≡ true → asSlot (seen w 0) ≡ slotWith Committed e
+      unfolding asSlot judged recordAt commitRules
       slot-committed h k v =
           slot-is false true mark-set
           (and-intro _ _ (and-intro _ _ h (subst (λ (x : Entry). entryRules x ≡ true) q k)) (subst (λ (x : Entry). versionsCarry (recordAt w 0) (x .id) 1 (keysOf x) ≡ true) q v))

@@ -1,4 +1,4 @@
-// The bytes of a record and of a slot, read and written. Their meaning is defined in model's specs/Records and specs/Slots.
+// The bytes of a record and of a slot, read and written. Their meaning is defined in model's specs/Bytes, Entries, Records and Slots.
 use model::Entry;
 use model::Id;
 use model::Station;
@@ -7,24 +7,19 @@ ghost use Prim.Native.Nat.{_≤_, _<_, _^_};
 ghost use mathlib.Core.List.{_++_};
 ghost use lib.Dec.{eqb};
 ghost use lib.ListN.{length, take, drop, getD};
-ghost use Rattle.model.specs.Ids.{sameId};
-ghost use Rattle.model.specs.Limits.{keys, writeLimit, recordSize, slotSize, byteRange};
 ghost use Rattle.model.specs.Lists.{_and_, all, ascending, same};
-ghost use Rattle.model.specs.Records.{bytes, number, idIn, markIn, entryIn, valueIn, committedMark, headBytes, commitRecord, versionRecord, zeroRecord, entryRules, carriesEntry, carriesVersion, recordAt};
+ghost use Rattle.model.specs.Limits.{keys, writeLimit, recordSize, slotSize, byteRange};
+ghost use Rattle.model.specs.Ids.{sameId};
+ghost use Rattle.model.specs.Bytes.{bytes, number, idIn, headBytes};
+ghost use Rattle.model.specs.Entries.{markIn, entryIn, committedMark, commitRecord, entryRules, carriesEntry, noEntry, keysOf};
+ghost use Rattle.model.specs.Records.{valueIn, versionRecord, zeroRecord, carriesVersion, recordAt};
 ghost use Rattle.model.specs.Slots.{versionsCarry, seen};
-ghost use Rattle.model.specs.Stations.{noEntry, keysOf};
-ghost use Rattle.records.specs.SlotView.{slotWith, slotOf};
-
-// The bytes of a record, 01's slip.
-const RECORD: usize = 24;
+ghost use Rattle.records.specs.SlotView.{slotWith, asSlot};
 
 // A commit record's first byte, 01's mark.
 const FREE_MARK: u8 = 0;
 
 const COMMITTED_MARK: u8 = 1;
-
-// Keys are below this.
-const KEYS: u8 = 64;
 
 pub enum Mark {
     Free,
@@ -172,7 +167,7 @@ fn keys_ascend(ks: [u8; Station::WRITES], count: usize) -> bool
         if k < low {
             return false;
         }
-        if k >= KEYS {
+        if k >= Station::KEYS_U8 {
             return false;
         }
         low = k + 1;
@@ -232,8 +227,8 @@ fn versions_carry(w: &[u8], e: Entry) -> bool
     let id = e.id;
     let mut n = 0;
     while n < count {
-        let at = RECORD * (n + 1);
-        if !carries_version(&w[at..at + RECORD], keys[n], id) {
+        let at = Station::RECORD * (n + 1);
+        if !carries_version(&w[at..at + Station::RECORD], keys[n], id) {
             return false;
         }
         n += 1;
@@ -256,15 +251,15 @@ fn without_entry(mark: Mark) -> Slot
 // What a slot's 216 bytes are read as; a free slot's are not read on.
 pub fn read_slot(w: &[u8]) -> Slot
     requires { ⌜ length (now w) ≡ slotSize ⌝ }
-    ensures { λ r. ⌜ r ≡ slotOf (seen (now (w .entry)) 0) ⌝ }
+    ensures { λ r. ⌜ r ≡ asSlot (seen (now (w .entry)) 0) ⌝ }
 {
     if w[0] == FREE_MARK {
         return without_entry(Mark::Free);
     }
-    if !is_commit(&w[0..RECORD]) {
+    if !is_commit(&w[0..Station::RECORD]) {
         return without_entry(Mark::Damaged);
     }
-    let e = entry_in(&w[0..RECORD]);
+    let e = entry_in(&w[0..Station::RECORD]);
     if !keeps_rules(e) {
         return without_entry(Mark::Damaged);
     }

@@ -17,8 +17,8 @@ use Rattle.model.specs.declared.Station.{Station}
 use Rattle.model.specs.declared.Answer.{Answer}
 use Rattle.model.specs.declared.Answer.the-variants as A
 use Rattle.model.specs.Lists.{any, count, member}
-use Rattle.model.specs.Limits.{livePlaces, slots, slotSize, storeSize}
-use Rattle.model.specs.Stations.{noLive, emptyStation}
+use Rattle.model.specs.Limits.{slots, slotSize, storeSize}
+use Rattle.model.specs.Stations.{emptyStation, idleStation}
 use Rattle.model.specs.Slots.{Seen, free, committed, damaged, seen, slotBytes}
 use Rattle.model.specs.Effects.{outcomeOf, says}
 use Rattle.model.specs.Scan.{slotsSeen, entrySeen, isCommitted, breaks, scan}
@@ -28,7 +28,7 @@ use Rattle.model.proofs.ScanLaws.{seen-length, seen-at, txnSeen, none-keeps, sc
 use Rattle.records.specs.declared.Slot.{Slot}
 use Rattle.records.specs.declared.Mark.{Mark}
 use Rattle.records.specs.declared.Mark.the-variants.{Free, Committed, Damaged}
-use Rattle.records.specs.SlotView.{slotOf}
+use Rattle.records.specs.SlotView.{asSlot}
 use Rattle.records.proofs.ListSteps.{taken-next, taken-end}
 
 -- ── a column of numbers searched ──
@@ -52,26 +52,26 @@ part-slot s d =
 pub part-length : (s : List ℕ) (d : ℕ) → length s ≡ storeSize → d < slots → length (take (slotSize * d + slotSize - slotSize * d) (drop (slotSize * d) s)) ≡ slotSize
 part-length s d l o = mid-len (slotSize * d) (slotSize * d + slotSize) s (omega arith) ∙ omega arith
 
-mark-free : (x : Seen) → slotOf x .mark ≡ Free → x ≡ free
-unfolding slotOf
+mark-free : (x : Seen) → asSlot x .mark ≡ Free → x ≡ free
+unfolding asSlot
 mark-free free h = refl
 mark-free (committed e) h = absurd (let z : _≡_ {A = ℕ} 0 1 = cc in omega arith)
 mark-free damaged h = absurd (let z : _≡_ {A = ℕ} 0 1 = cc in omega arith)
 
-mark-damaged : (x : Seen) → slotOf x .mark ≡ Damaged → x ≡ damaged
-unfolding slotOf
+mark-damaged : (x : Seen) → asSlot x .mark ≡ Damaged → x ≡ damaged
+unfolding asSlot
 mark-damaged free h = absurd (let z : _≡_ {A = ℕ} 0 1 = cc in omega arith)
 mark-damaged (committed e) h = absurd (let z : _≡_ {A = ℕ} 0 1 = cc in omega arith)
 mark-damaged damaged h = refl
 
-mark-committed : (x : Seen) → slotOf x .mark ≡ Committed → x ≡ committed (entrySeen x)
-unfolding slotOf entrySeen
+mark-committed : (x : Seen) → asSlot x .mark ≡ Committed → x ≡ committed (entrySeen x)
+unfolding asSlot entrySeen
 mark-committed free h = absurd (let z : _≡_ {A = ℕ} 0 1 = cc in omega arith)
 mark-committed (committed e) h = refl
 mark-committed damaged h = absurd (let z : _≡_ {A = ℕ} 0 1 = cc in omega arith)
 
-entry-of : (x : Seen) → slotOf x .entry ≡ entrySeen x
-unfolding slotOf entrySeen
+entry-of : (x : Seen) → asSlot x .entry ≡ entrySeen x
+unfolding asSlot entrySeen
 entry-of free = refl
 entry-of (committed e) = refl
 entry-of damaged = refl
@@ -131,7 +131,7 @@ passed-none s st q = record {
   unbroken = λ j o. absurd (not-suc-le-zero o);
 }
 
-module _ (s : List ℕ) (es : List Entry) (ts : List ℕ) (n d : ℕ) (p : Passed s es ts n d) (o : d < slots) (r : Slot) (q : r ≡ slotOf (seen s d)) where
+module _ (s : List ℕ) (es : List Entry) (ts : List ℕ) (n d : ℕ) (p : Passed s es ts n d) (o : d < slots) (r : Slot) (q : r ≡ asSlot (seen s d)) where
   -- a slot that keeps the rules and counts for m
   more : (m : ℕ) → m ≤ 1 → breaks (take d (slotsSeen s)) (seen s d) ≡ false → count isCommitted (seen s d ∷ []) ≡ m → Passed s (set es d (r .entry)) (set ts d (r .entry .id .txn)) (n + m) (d + 1)
   more m om h g = subst (λ (e : Entry). Passed s (set es d e) (set ts d (e .id .txn)) (n + m) (d + 1)) (sym (ap (λ (x : Slot). x .entry) q ∙ entry-of (seen s d))) (record {
@@ -149,7 +149,7 @@ module _ (s : List ℕ) (es : List Entry) (ts : List ℕ) (n d : ℕ) (p : Passe
       upto j oj (yes e) = subst (λ (k : ℕ). breaks (take k (slotsSeen s)) (seen s k) ≡ false) (sym e) h
       upto j oj (no f) = p .unbroken j (omega arith)
 
-  mark-seen : (m : Mark) → r .mark ≡ m → slotOf (seen s d) .mark ≡ m
+  mark-seen : (m : Mark) → r .mark ≡ m → asSlot (seen s d) .mark ≡ m
   mark-seen m h = sym (ap (λ (x : Slot). x .mark) q) ∙ h
 
   repeated : member (r .entry .id .txn) (take d ts) ≡ breaks (take d (slotsSeen s)) (committed (entrySeen (seen s d)))
@@ -186,7 +186,7 @@ pub found-all : (s : List ℕ) (es : List Entry) (ts : List ℕ) (n d : ℕ) →
 unfolding emptyStation
 found-all s es ts n d p o l =
     scan-finds s l (none-keeps s (λ j oj. p .unbroken j (omega arith)))
-    ∙ ap₂ (λ (k : ℕ) (e : List Entry). says (A.Found k) (record { live = replicate livePlaces noLive; entries = e })) (sym (p .figure ∙ ap (count isCommitted) every)) (sym (sym (take-all d es (omega (arith, p .entry-places))) ∙ p .entries ∙ ap (map entrySeen) every))
+    ∙ ap₂ (λ (k : ℕ) (e : List Entry). says (A.Found k) (idleStation e)) (sym (p .figure ∙ ap (count isCommitted) every)) (sym (sym (take-all d es (omega (arith, p .entry-places))) ∙ p .entries ∙ ap (map entrySeen) every))
   where
     every : take d (slotsSeen s) ≡ slotsSeen s
     every = take-all d (slotsSeen s) (omega (arith, seen-length s))

@@ -11,11 +11,6 @@ ghost use Rattle.model.specs.Lists.{member};
 ghost use Rattle.model.specs.Effects.{outcomeOf};
 ghost use Rattle.model.specs.Scan.{scan};
 
-// The bytes of a slot, 01's drawer, and of a store.
-const SLOT: usize = 216;
-
-const STORE: usize = SLOT * Station::SLOTS;
-
 // One of the first `below` numbers is the transaction's.
 fn has_txn(txns: &[u32; Station::SLOTS], below: usize, txn: u32) -> bool
     requires { ⌜ below ≤ slots ⌝ }
@@ -37,7 +32,7 @@ pub fn scan(store: &[u8]) -> Outcome
     ensures { λ r. ⌜ r ≡ outcomeOf (scan (now (store .entry))) ⌝ }
 {
     let empty = Station::empty();
-    if store.len() != STORE {
+    if store.len() != Station::STORE {
         return Outcome {
             answer: Answer::Refused(1, 0),
             station: empty,
@@ -49,8 +44,8 @@ pub fn scan(store: &[u8]) -> Outcome
     let mut found: u8 = 0;
     let mut d = 0;
     while d < Station::SLOTS {
-        let at = SLOT * d;
-        let slot = records::read_slot(&store[at..at + SLOT]);
+        let at = Station::SLOT * d;
+        let slot = records::read_slot(&store[at..at + Station::SLOT]);
         let mark = slot.mark;
         let entry = slot.entry;
         let id = entry.id;

@@ -15,9 +15,7 @@ ghost use Prim.Native.Nat.{_+_, _^_, _≤_, _<_};
 ghost use lib.ListN.{length};
 ghost use Rattle.model.specs.Sound.{sound};
 
-// The bytes of a store, of a line that are kept, of a read and of the output's buffer.
-const STORE: usize = 13824;
-
+// The bytes of a line that are kept, of a read and of the output's buffer.
 const KEPT: usize = 65;
 
 const READ: usize = 65536;
@@ -222,7 +220,7 @@ fn report(stop: Stop) {
 
 // The desk starts as it does after a cut: with a scan of its store, here of zeros. What a scan hands back is sound.
 fn main() {
-    let mut store = [0u8; STORE];
+    let mut store = [0u8; Station::STORE];
     let scanned = scan(&store);
     let station = scanned.station;
     let mut part = [0u8; KEPT];

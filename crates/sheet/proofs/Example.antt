@@ -4,18 +4,21 @@ use mathlib.Core.Path.{_≡_, refl}
 use mathlib.Core.List.{List, [], _∷_}
 use Rattle.model.specs.Lists.{_and_, _or_, all, any, first, filter, count, insert, padded, from, member, ascending, distinct, same, anyBelow, greatestBelow}
 use Rattle.model.specs.Ids.{older, sameId, newerOf, greatest}
-use Rattle.model.specs.Stations.{emptyStation, writesOf, readsOf, keysOf, wrote, wroteAs, hasWritten, hasRead, valueUnder, isClosing, closingSlot, closingClock, recordsStored, liveAt, entryAt, setLive, setEntry, liveTxns, heldTxns, isLive, isHeld, placeOf, slotOf, holds, slotMark, closingSlots, isFree}
-use Rattle.model.specs.Records.{bytes, number, idIn, markIn, entryIn, valueIn, headBytes, commitRecord, versionRecord, zeroRecord, entryRules, commitRules, carriesEntry, carriesVersion, recordAt, withRecord, recordOf}
+use Rattle.model.specs.Bytes.{bytes, number, idIn, headBytes}
+use Rattle.model.specs.Lives.{writesOf, readsOf, hasWritten, hasRead, valueUnder, isClosing, closingSlot, closingClock, recordsStored, slotMark, withWrites, withReads, withPhase}
+use Rattle.model.specs.Entries.{keysOf, wrote, wroteAs, markIn, entryIn, commitRecord, entryRules, commitRules, carriesEntry, recordOf, isNoEntry, entryFor}
+use Rattle.model.specs.Stations.{emptyStation, liveAt, entryAt, setLive, setEntry, liveTxns, heldTxns, isLive, isHeld, placeOf, slotOf, holds, closingSlots, isFree}
+use Rattle.model.specs.Records.{valueIn, versionRecord, zeroRecord, carriesVersion, recordAt, withRecord}
 use Rattle.model.specs.Slots.{versionsCarry, judged, seen}
-use Rattle.model.specs.Sound.{isNoWrite, isNoRead, isNoEntry, isNoLive, zeroPastCounts, setsRight, names, inUse, closingRight, placeRight, entryRight, sound}
+use Rattle.model.specs.Sound.{isNoWrite, isNoRead, isNoLive, zeroPastCounts, setsRight, names, inUse, closingRight, placeRight, entryRight, sound}
 use Rattle.model.specs.Reading.{lowerBound, conflictsWith, conflicts, passes, keepNewer, newest, chosen, choose}
 use Rattle.model.specs.Supersedence.{newerOn, superseded, isReadBy, isRead}
 use Rattle.model.specs.Effects.{stored, says, saysStoring, refusals, wrongLength, unsound}
 use Rattle.model.specs.Start.{opened, start}
-use Rattle.model.specs.Put.{withWrites, withWrite, put}
-use Rattle.model.specs.Get.{choiceOf, withReads, withRead, versionAt, noRoom, notCarried, answered, get}
-use Rattle.model.specs.Commit.{withPhase, highestFree, commit}
-use Rattle.model.specs.Step.{entryFor, oneMore, stepped, step}
+use Rattle.model.specs.Put.{withWrite, put}
+use Rattle.model.specs.Get.{choiceOf, withRead, versionAt, noRoom, notCarried, answered, get}
+use Rattle.model.specs.Commit.{highestFree, commit}
+use Rattle.model.specs.Step.{oneMore, stepped, step}
 use Rattle.model.specs.Abort.{abort}
 use Rattle.model.specs.Collect.{collect}
 use Rattle.model.specs.Scan.{slotsSeen, entrySeen, isCommitted, breaks, lowestBroken, scanned, scan}

@@ -13,13 +13,12 @@ use borrow.Author.Tests.{lt-ltb, le-ltb, le-leb, lt-leb, eq-eqb, ne-eqb}
 use Rattle.model.specs.declared.Read.{Read}
 use Rattle.model.specs.declared.Live.{Live}
 use Rattle.model.specs.declared.Entry.{Entry}
-use Rattle.model.specs.declared.Phase.the-variants.{Unused}
 use Rattle.model.specs.Lists.{_and_, _or_, all, count, ascending}
 use Rattle.model.specs.Limits.{keys}
 use Rattle.model.specs.Ids.{sameId, noId}
-use Rattle.model.specs.Stations.{readsOf, keysOf, writeKey, readKey, slotMark}
-use Rattle.model.specs.Records.{entryRules}
-use Rattle.model.specs.Sound.{isNoWrite, isNoRead, isNoEntry, entryRight}
+use Rattle.model.specs.Lives.{readsOf, writeKey, readKey, slotMark, liveBeyond}
+use Rattle.model.specs.Entries.{keysOf, entryRules, isNoEntry, entryBeyond}
+use Rattle.model.specs.Sound.{isNoWrite, isNoRead, entryRight}
 use Rattle.soundness.specs.Parts.{fits, setRight, keysRight, writesRight, readsRight, liveColumn, heldColumn, txnColumn, markColumn, slotIn}
 use Rattle.soundness.specs.Parts.{shape, isNamed, namedBy, placeFits, slotFree}
 use Rattle.soundness.proofs.Loops.{all-more, all-stop, all-end, all-split}
@@ -82,7 +81,7 @@ read-at l j d h = getD-take (l .«read_count») (l .reads) j d (omega (arith, le
 -- ── named reads: the rest of a place's reads from place j on, and the places after it ──
 module _ (es : List Entry) (ts : List ℕ) (l : Live) (j : ℕ) (rest whole : Bool) (v : whole ≡ (all (namedBy es ts) (drop j (readsOf l)) and rest)) where
   module _ (d : ℕ) (e : d ≡ slotIn ts (getD (l .reads) j (record { key = 0; id = noId }) .id .txn)) (o : j < length (readsOf l)) where
-    named-is : d ≤ 63 → namedBy es ts (getD (readsOf l) j (record { key = 0; id = noId })) ≡ isNamed (getD es d (record { id = noId; count = 0; keys = [] })) (getD (l .reads) j (record { key = 0; id = noId }))
+    named-is : d ≤ 63 → namedBy es ts (getD (readsOf l) j (record { key = 0; id = noId })) ≡ isNamed (getD es d entryBeyond) (getD (l .reads) j (record { key = 0; id = noId }))
     unfolding namedBy _and_
     named-is h = rw (read-at l j (record { key = 0; id = noId }) o, ← e, lt-ltb d 64 (omega arith))
 
@@ -92,11 +91,11 @@ module _ (es : List Entry) (ts : List ℕ) (l : Live) (j : ℕ) (rest whole : Bo
         let q : namedBy es ts (getD (readsOf l) j (record { key = 0; id = noId })) ≡ false = rw (read-at l j (record { key = 0; id = noId }) o, ← e, le-ltb d 64 (omega arith)) in
         v ∙ rw (all-stop (namedBy es ts) (readsOf l) j (record { key = 0; id = noId }) o q)
 
-    pub named-stop : d ≤ 63 → isNamed (getD es d (record { id = noId; count = 0; keys = [] })) (getD (l .reads) j (record { key = 0; id = noId })) ≡ false → whole ≡ false
+    pub named-stop : d ≤ 63 → isNamed (getD es d entryBeyond) (getD (l .reads) j (record { key = 0; id = noId })) ≡ false → whole ≡ false
     unfolding _and_
     named-stop h n = v ∙ rw (all-stop (namedBy es ts) (readsOf l) j (record { key = 0; id = noId }) o (named-is h ∙ n))
 
-    pub named-more : d ≤ 63 → isNamed (getD es d (record { id = noId; count = 0; keys = [] })) (getD (l .reads) j (record { key = 0; id = noId })) ≡ true
+    pub named-more : d ≤ 63 → isNamed (getD es d entryBeyond) (getD (l .reads) j (record { key = 0; id = noId })) ≡ true
         → whole ≡ (all (namedBy es ts) (drop (j + 1) (readsOf l)) and rest)
     named-more h n = v ∙ rw (all-more (namedBy es ts) (readsOf l) j (record { key = 0; id = noId }) o (named-is h ∙ n))
 
@@ -118,15 +117,15 @@ module _ (es : List Entry) (ts : List ℕ) (l : Live) where
   place-unread e h = place-reads e ∙ all-end (namedBy es ts) (readsOf l) 0 h
 
 -- ── columns ──
-pub mark-at : (ls : List Live) (i : ℕ) → getD (markColumn ls) i 0 ≡ slotMark (getD ls i (record { txn = 0; phase = Unused; «write_count» = 0; writes = []; «read_count» = 0; reads = [] }) .phase)
+pub mark-at : (ls : List Live) (i : ℕ) → getD (markColumn ls) i 0 ≡ slotMark (getD ls i liveBeyond .phase)
 unfolding slotMark
-mark-at ls i = List·getD-map (λ (l : Live). slotMark (l .phase)) ls i (record { txn = 0; phase = Unused; «write_count» = 0; writes = []; «read_count» = 0; reads = [] })
+mark-at ls i = List·getD-map (λ (l : Live). slotMark (l .phase)) ls i liveBeyond
 
-pub live-at : (ls : List Live) (i : ℕ) → getD (liveColumn ls) i 0 ≡ getD ls i (record { txn = 0; phase = Unused; «write_count» = 0; writes = []; «read_count» = 0; reads = [] }) .txn
-live-at ls i = List·getD-map (λ (l : Live). l .txn) ls i (record { txn = 0; phase = Unused; «write_count» = 0; writes = []; «read_count» = 0; reads = [] })
+pub live-at : (ls : List Live) (i : ℕ) → getD (liveColumn ls) i 0 ≡ getD ls i liveBeyond .txn
+live-at ls i = List·getD-map (λ (l : Live). l .txn) ls i liveBeyond
 
-pub held-txn-at : (es : List Entry) (d : ℕ) → getD (heldColumn es) d 0 ≡ getD es d (record { id = noId; count = 0; keys = [] }) .id .txn
-held-txn-at es d = List·getD-map (λ (e : Entry). e .id .txn) es d (record { id = noId; count = 0; keys = [] })
+pub held-txn-at : (es : List Entry) (d : ℕ) → getD (heldColumn es) d 0 ≡ getD es d entryBeyond .id .txn
+held-txn-at es d = List·getD-map (λ (e : Entry). e .id .txn) es d entryBeyond
 
 pub marks-count : (ls : List Live) → length ls ≡ 8 → 8 ≡ length (markColumn ls)
 marks-count ls h = sym (length-map ls (λ (l : Live). slotMark (l .phase)) ∙ h)

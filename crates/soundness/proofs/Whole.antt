@@ -17,11 +17,10 @@ use Rattle.model.specs.declared.Entry.{Entry}
 use Rattle.model.specs.declared.Station.{Station}
 use Rattle.model.specs.declared.Phase.{Phase}
 use Rattle.model.specs.declared.Phase.the-variants.{Unused, Open, Closing}
-use Rattle.model.specs.Lists.{_and_, all, any, first, count, distinct, same}
-use Rattle.model.specs.Limits.{keys}
-use Rattle.model.specs.Ids.{noId}
-use Rattle.model.specs.Stations.{writesOf, readsOf, wroteAs, writeKey, readKey, closingSlot, closingClock, recordsStored, entryAt, liveTxns, heldTxns}
-use Rattle.model.specs.Stations.{holds, slotMark, closingSlots}
+use Rattle.model.specs.Lists.{_and_, all, any, first, distinct, same}
+use Rattle.model.specs.Lives.{writesOf, readsOf, writeKey, readKey, closingSlot, closingClock, recordsStored, slotMark}
+use Rattle.model.specs.Entries.{wroteAs, entryBeyond}
+use Rattle.model.specs.Stations.{entryAt, liveTxns, heldTxns, holds, closingSlots}
 use Rattle.model.specs.Sound.{isNoWrite, isNoRead, isNoLive, names, placeRight, entryRight, sound}
 use Rattle.model.proofs.Tests.{and-left, and-right, and-intro, bool-cases}
 use Rattle.model.proofs.ListLaws.{first-finds, all-head, all-tail, all-cons, all-at, all-mem, all-by, any-finds, any-at, all-map}
@@ -130,9 +129,6 @@ module _ (st : Station) (ts : List ℕ) (at-slot : (d : ℕ) → d < 64 → getD
         and-intro _ _ (used-of (st .entries) l (used-lists (st .entries) l (and-right _ _ h) n)) (shut-of st l (shut-counts st l d c n′ e (and-left _ _ h) (free-slot d f)))
 
 -- ── reads: where entries are right and transactions distinct, the entry found by its transaction is the only one that a read can name ──
-abbrev past : Entry
-past = record { id = noId; count = 0; keys = [] }
-
 module _ (ls : List Live) (es : List Entry) (hl : length ls ≡ 8) (he : length es ≡ 64) where
   slot-is : (t : ℕ) → slotIn (txnColumn ls es) t ≡ first (eqb t) (heldColumn es)
   unfolding slotIn
@@ -146,24 +142,24 @@ module _ (ls : List Live) (es : List Entry) (hl : length ls ≡ 8) (he : length 
   unfolding namedBy
   named-names r h =
       let o : slotIn (txnColumn ls es) (r .id .txn) < length es = omega (arith, ltb-true (slotIn (txnColumn ls es) (r .id .txn)) 64 (and-left _ _ h)) in
-      names-is r ∙ any-at (λ e. isNamed e r) es past (slotIn (txnColumn ls es) (r .id .txn)) o (and-right _ _ h)
+      names-is r ∙ any-at (λ e. isNamed e r) es entryBeyond (slotIn (txnColumn ls es) (r .id .txn)) o (and-right _ _ h)
 
   names-named : all entryRight es ≡ true → distinct (txnColumn ls es) ≡ true → (r : Read) → names es r ≡ true → namedBy es (txnColumn ls es) r ≡ true
   unfolding namedBy isNamed
-  names-named a u r h = go (any-finds (λ e. isNamed e r) es past (sym (names-is r) ∙ h))
+  names-named a u r h = go (any-finds (λ e. isNamed e r) es entryBeyond (sym (names-is r) ∙ h))
     where
-      go : (j : ℕ) × (j < length es) × (isNamed (getD es j past) r ≡ true) → namedBy es (txnColumn ls es) r ≡ true
+      go : (j : ℕ) × (j < length es) × (isNamed (getD es j entryBeyond) r ≡ true) → namedBy es (txnColumn ls es) r ≡ true
       go (j, o, q) =
           let t : ℕ = r .id .txn in
-          let e : Entry = getD es j past in
+          let e : Entry = getD es j entryBeyond in
           let x : e .id .txn ≡ t = ap (λ (i : Id). i .txn) (same-id (e .id) (r .id) (and-left _ _ q)) in
           let hj : getD (heldColumn es) j 0 ≡ t = held-txn-at es j ∙ x in
           let k : j < length (heldColumn es) = omega (arith, length-map es (λ (y : Entry). y .id .txn)) in
           let f = first-finds (eqb t) (heldColumn es) 0 j (eq-eqb t (getD (heldColumn es) j 0) (sym hj)) k in
           let hd : getD (heldColumn es) (first (eqb t) (heldColumn es)) 0 ≡ t = sym (eqb-true t (getD (heldColumn es) (first (eqb t) (heldColumn es)) 0) (f .1)) in
           let same : first (eqb t) (heldColumn es) ≡ j =
-          once-right (liveColumn ls) (heldColumn es) u (first (eqb t) (heldColumn es)) j (hd ∙ sym hj) (λ z. true≢false (sym (and-right _ _ q) ∙ unheld-wrote e (all-at entryRight es past a j o) (x ∙ sym hd ∙ z) (r .key))) in
-          and-intro _ _ (lt-ltb (slotIn (txnColumn ls es) t) 64 (omega (arith, slot-is t))) (subst (λ (i : ℕ). isNamed (getD es i past) r ≡ true) (sym (slot-is t ∙ same)) q)
+          once-right (liveColumn ls) (heldColumn es) u (first (eqb t) (heldColumn es)) j (hd ∙ sym hj) (λ z. true≢false (sym (and-right _ _ q) ∙ unheld-wrote e (all-at entryRight es entryBeyond a j o) (x ∙ sym hd ∙ z) (r .key))) in
+          and-intro _ _ (lt-ltb (slotIn (txnColumn ls es) t) 64 (omega (arith, slot-is t))) (subst (λ (i : ℕ). isNamed (getD es i entryBeyond) r ≡ true) (sym (slot-is t ∙ same)) q)
 
 -- ── the whole ──
 all-unmap : {A B : Type 0} (f : A → B) (q : B → Bool) (l : List A) → all q (map f l) ≡ true → all (λ x. q (f x)) l ≡ true

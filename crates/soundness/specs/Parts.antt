@@ -11,8 +11,9 @@ use Rattle.model.specs.declared.Phase.{Phase}
 use Rattle.model.specs.declared.Phase.the-variants.{Unused, Open, Closing}
 use Rattle.model.specs.Lists.{_and_, _or_, all, first, distinct}
 use Rattle.model.specs.Limits.{keys, livePlaces, slots, writeLimit, readLimit}
-use Rattle.model.specs.Ids.{sameId, noId}
-use Rattle.model.specs.Stations.{readsOf, wrote, writeKey, readKey, slotMark}
+use Rattle.model.specs.Ids.{sameId}
+use Rattle.model.specs.Lives.{readsOf, writeKey, readKey, slotMark}
+use Rattle.model.specs.Entries.{wrote, entryBeyond}
 use Rattle.model.specs.Sound.{isNoWrite, isNoRead, isNoLive, entryRight}
 
 -- a key of an ascending set: at least lo, below the limit
@@ -79,7 +80,7 @@ isNamed e r = sameId (e .id) (r .id) and wrote e (r .key)
 
 -- the entry that a read names, found by its transaction, has the id and wrote the key
 unfoldable pub namedBy : List Entry → List ℕ → Read → Bool
-namedBy es ts r = ltb (slotIn ts (r .id .txn)) slots and isNamed (getD es (slotIn ts (r .id .txn)) (record { id = noId; count = 0; keys = [] })) r
+namedBy es ts r = ltb (slotIn ts (r .id .txn)) slots and isNamed (getD es (slotIn ts (r .id .txn)) entryBeyond) r
 
 abbrev pub allNamed : List Entry → List ℕ → Live → Bool
 allNamed es ts l = all (namedBy es ts) (readsOf l)

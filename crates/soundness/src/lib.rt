@@ -6,11 +6,13 @@ use model::Read;
 use model::Station;
 use model::Write;
 ghost use mathlib.Core.Path.{_≡_};
-ghost use Prim.Native.Nat.{_≤_};
+ghost use Prim.Native.Nat.{_+_, _≤_};
 ghost use lib.Dec.{eqb};
 ghost use lib.ListN.{length};
+ghost use Rattle.model.specs.Limits.{livePlaces, slots, readLimit};
 ghost use Rattle.model.specs.Lists.{all, count, distinct};
-ghost use Rattle.model.specs.Stations.{readsOf, wrote, slotMark};
+ghost use Rattle.model.specs.Lives.{readsOf, slotMark};
+ghost use Rattle.model.specs.Entries.{wrote};
 ghost use Rattle.model.specs.Sound.{isNoWrite, isNoRead, isNoLive, entryRight, sound};
 ghost use Rattle.soundness.specs.Parts.{fits, keysRight, writesRight, readsRight, noWrites, noReads, listsRight, countsRight, shape, txnColumn, markColumn, slotIn, isNamed, placeFits, slotFree};
 
@@ -20,6 +22,12 @@ fn wide(x: u8) -> usize
     x as usize
 }
 
+// Transactions, live and held, at most.
+const TXNS: usize = Station::LIVE + Station::SLOTS;
+
+// The greatest mark: slots counted from 1.
+const MARKS: u32 = Station::SLOTS as u32;
+
 // ---- entries ----
 fn key_fits(low: u8, key: u8) -> bool
     ensures { λ r. ⌜ r ≡ fits low key ⌝ }
@@ -27,14 +35,14 @@ fn key_fits(low: u8, key: u8) -> bool
     if key < low {
         return false;
     }
-    key < 64
+    key < Station::KEYS_U8
 }
 
-fn no_keys(keys: [u8; 8]) -> bool
+fn no_keys(keys: [u8; Station::WRITES]) -> bool
     ensures { λ r. ⌜ r ≡ all (eqb 0) keys ⌝ }
 {
     let mut j = 0;
-    while j < 8 {
+    while j < Station::WRITES {
         if keys[j] != 0 {
             return false;
         }
@@ -44,12 +52,12 @@ fn no_keys(keys: [u8; 8]) -> bool
 }
 
 // The first n keys ascend below 64, the others are zero.
-fn keys_right(keys: [u8; 8], n: usize) -> bool
+fn keys_right(keys: [u8; Station::WRITES], n: usize) -> bool
     ensures { λ r. ⌜ r ≡ keysRight n keys ⌝ }
 {
     let mut low = 0u8;
     let mut j = 0;
-    while j < 8 {
+    while j < Station::WRITES {
         let k = keys[j];
         if j < n {
             if !key_fits(low, k) {
@@ -81,7 +89,7 @@ fn entry_right(e: Entry) -> bool
         }
         return no_keys(keys);
     }
-    if 8 < n {
+    if Station::WRITES_U8 < n {
         return false;
     }
     if id.txn == 0 {
@@ -93,11 +101,11 @@ fn entry_right(e: Entry) -> bool
     keys_right(keys, wide(n))
 }
 
-fn entries_right(entries: [Entry; 64]) -> bool
+fn entries_right(entries: [Entry; Station::SLOTS]) -> bool
     ensures { λ r. ⌜ r ≡ all entryRight entries ⌝ }
 {
     let mut d = 0;
-    while d < 64 {
+    while d < Station::SLOTS {
         let e = entries[d];
         if !entry_right(e) {
             return false;
@@ -135,12 +143,12 @@ fn writes_right(l: Live) -> bool
     ensures { λ r. ⌜ r ≡ writesRight l ⌝ }
 {
     let n = wide(l.write_count);
-    if 8 < n {
+    if Station::WRITES < n {
         return false;
     }
     let mut low = 0u8;
     let mut j = 0;
-    while j < 8 {
+    while j < Station::WRITES {
         let w = l.writes[j];
         if j < n {
             if !key_fits(low, w.key) {
@@ -162,12 +170,12 @@ fn reads_right(l: Live) -> bool
     ensures { λ r. ⌜ r ≡ readsRight l ⌝ }
 {
     let n = wide(l.read_count);
-    if 16 < n {
+    if Station::READS < n {
         return false;
     }
     let mut low = 0u8;
     let mut j = 0;
-    while j < 16 {
+    while j < Station::READS {
         let read = l.reads[j];
         if j < n {
             if !key_fits(low, read.key) {
@@ -188,7 +196,7 @@ fn no_writes(l: Live) -> bool
     ensures { λ r. ⌜ r ≡ noWrites l ⌝ }
 {
     let mut j = 0;
-    while j < 8 {
+    while j < Station::WRITES {
         let w = l.writes[j];
         if !no_write(w) {
             return false;
@@ -202,7 +210,7 @@ fn no_reads(l: Live) -> bool
     ensures { λ r. ⌜ r ≡ noReads l ⌝ }
 {
     let mut j = 0;
-    while j < 16 {
+    while j < Station::READS {
         let read = l.reads[j];
         if !no_read(read) {
             return false;
@@ -276,21 +284,21 @@ fn live_right(l: Live) -> bool
 
 // ---- columns ----
 // The transactions of the live places, then of the entries; 0 where unused.
-fn txns_of(live: [Live; 8], entries: [Entry; 64]) -> [u32; 72]
+fn txns_of(live: [Live; Station::LIVE], entries: [Entry; Station::SLOTS]) -> [u32; TXNS]
     ensures { λ r. ⌜ r ≡ txnColumn live entries ⌝ }
 {
-    let mut txns = [0u32; 72];
+    let mut txns = [0u32; TXNS];
     let mut i = 0;
-    while i < 8 {
+    while i < Station::LIVE {
         let l = live[i];
         txns[i] = l.txn;
         i += 1;
     }
     let mut d = 0;
-    while d < 64 {
+    while d < Station::SLOTS {
         let e = entries[d];
         let id = e.id;
-        txns[8 + d] = id.txn;
+        txns[Station::LIVE + d] = id.txn;
         d += 1;
     }
     txns
@@ -308,12 +316,12 @@ fn mark_of(l: Live) -> u32
     }
 }
 
-fn marks_of(live: [Live; 8]) -> [u32; 8]
+fn marks_of(live: [Live; Station::LIVE]) -> [u32; Station::LIVE]
     ensures { λ r. ⌜ r ≡ markColumn live ⌝ }
 {
-    let mut marks = [0u32; 8];
+    let mut marks = [0u32; Station::LIVE];
     let mut i = 0;
-    while i < 8 {
+    while i < Station::LIVE {
         let l = live[i];
         marks[i] = mark_of(l);
         i += 1;
@@ -324,7 +332,7 @@ fn marks_of(live: [Live; 8]) -> [u32; 8]
 // ---- numbers that nothing else has ----
 // How often a number stands in the list. A loop with no other way out, and a count as wide as the numbers, compares several at a time.
 fn times(xs: &[u32], x: u32) -> u32
-    requires { ⌜ length (now xs) ≤ 72 ⌝ }
+    requires { ⌜ length (now xs) ≤ livePlaces + slots ⌝ }
     ensures { λ r. ⌜ r ≡ count (eqb x) (now (xs .entry)) ⌝ }
 {
     let mut n = 0u32;
@@ -340,7 +348,7 @@ fn times(xs: &[u32], x: u32) -> u32
 
 // No number but 0 stands twice. Numbers are told apart by their lowest byte first: only where it was seen before is a number counted.
 fn differ(xs: &[u32]) -> bool
-    requires { ⌜ length (now xs) ≤ 72 ⌝ }
+    requires { ⌜ length (now xs) ≤ livePlaces + slots ⌝ }
     ensures { λ r. ⌜ r ≡ distinct (now (xs .entry)) ⌝ }
 {
     let mut seen = [false; 256];
@@ -363,7 +371,7 @@ fn differ(xs: &[u32]) -> bool
 }
 
 // Every closing transaction's slot is there and not held.
-fn slots_free(txns: &[u32; 72], marks: &[u32]) -> bool
+fn slots_free(txns: &[u32; TXNS], marks: &[u32]) -> bool
     ensures { λ r. ⌜ r ≡ all (slotFree (now (txns .entry))) (now (marks .entry)) ⌝ }
 {
     let mut i = 0;
@@ -371,10 +379,10 @@ fn slots_free(txns: &[u32; 72], marks: &[u32]) -> bool
         let m = marks[i];
         i += 1;
         if m != 0 {
-            if 64 < m {
+            if MARKS < m {
                 return false;
             }
-            let at = m as usize + 7;
+            let at = m as usize + Station::LAST_PLACE;
             if txns[at] != 0 {
                 return false;
             }
@@ -388,14 +396,14 @@ fn slots_free(txns: &[u32; 72], marks: &[u32]) -> bool
 fn slot_of(txns: &[u32], txn: u32) -> usize
     ensures { λ r. ⌜ r ≡ slotIn (now (txns .entry)) txn ⌝ }
 {
-    let mut j = 8;
+    let mut j = Station::LIVE;
     while j < txns.len() {
         if txns[j] == txn {
-            return j - 8;
+            return j - Station::LIVE;
         }
         j += 1;
     }
-    j - 8
+    j - Station::LIVE
 }
 
 fn wrote_key(e: Entry, key: u8) -> bool
@@ -403,7 +411,7 @@ fn wrote_key(e: Entry, key: u8) -> bool
 {
     let n = wide(e.count);
     let mut j = 0;
-    while j < 8 {
+    while j < Station::WRITES {
         if n <= j {
             return false;
         }
@@ -431,10 +439,14 @@ fn named(e: Entry, read: Read) -> bool
 }
 
 fn read_count(l: Live) -> usize
-    ensures { λ r. ⌜ (r ≡ length (readsOf l)) × (r ≤ 16) ⌝ }
+    ensures { λ r. ⌜ (r ≡ length (readsOf l)) × (r ≤ readLimit) ⌝ }
 {
     let n = l.read_count;
-    if n < 16 { wide(n) } else { 16 }
+    if n < Station::READS_U8 {
+        wide(n)
+    } else {
+        Station::READS
+    }
 }
 
 // Every live place is right by itself, and each of its reads names the entry that its transaction has. A place is read anew for each
@@ -443,7 +455,7 @@ fn lives_right(station: Station, txns: &[u32]) -> bool
     ensures { λ r. ⌜ r ≡ all (placeFits (station .entries) (now (txns .entry))) (station .live) ⌝ }
 {
     let mut i = 0;
-    while i < 8 {
+    while i < Station::LIVE {
         let l = station.live[i];
         if !live_right(l) {
             return false;
@@ -460,7 +472,7 @@ fn lives_right(station: Station, txns: &[u32]) -> bool
             let read = reader.reads[j];
             let id = read.id;
             let d = slot_of(txns, id.txn);
-            if 63 < d {
+            if Station::LAST_SLOT < d {
                 return false;
             }
             let e = station.entries[d];

@@ -12,9 +12,9 @@ use borrow.Author.Tests.{eqb-true, eqb-false, leb-true, leb-false}
 use Rattle.model.specs.declared.Station.{Station}
 use Rattle.model.specs.Lists.{first, count, anyBelow, greatestBelow}
 use Rattle.model.specs.Limits.{keys, livePlaces, slots}
+use Rattle.model.specs.Entries.{entryRules, isNoEntry}
 use Rattle.model.specs.Stations.{entryAt, liveTxns, heldTxns, isLive, isHeld, placeOf, slotOf, isFree}
-use Rattle.model.specs.Records.{entryRules}
-use Rattle.model.specs.Sound.{isNoEntry, entryRight, sound}
+use Rattle.model.specs.Sound.{entryRight, sound}
 use Rattle.model.specs.Commit.{highestFree}
 use Rattle.model.proofs.Tests.{and-left, and-right, or-cases}
 use Rattle.model.proofs.ListLaws.{greatest-below}

@@ -13,7 +13,8 @@ use Rattle.model.specs.Stations.{setLive, setEntry}
 use Rattle.model.specs.Effects.{Effect, outcomeOf, says}
 use Rattle.stations.specs.declared.Change.{Change}
 use Rattle.stations.specs.Changes.{changedBy, IsChange}
-use Rattle.stations.proofs.Defaults.{pastLive, pastEntry}
+use Rattle.model.specs.Lives.{liveBeyond}
+use Rattle.model.specs.Entries.{entryBeyond}
 
 module _ {A : Type 0} where
   set-first : (xs : List A) (d : A) → set xs 0 (getD xs 0 d) ≡ xs
@@ -39,14 +40,14 @@ pub as-effect : (st : Station) (e f : Effect) (c : Change) → e ≡ f → IsCha
 as-effect st e f c p = as-outcome st e f c (ap outcomeOf p)
 
 module _ (st : Station) (a : Answer) where
-  pub is-unchanged : IsChange st (says a st) (record { answer = a; place = 0; live = getD (st .live) 0 pastLive; slot = 0; entry = getD (st .entries) 0 pastEntry })
+  pub is-unchanged : IsChange st (says a st) (record { answer = a; place = 0; live = getD (st .live) 0 liveBeyond; slot = 0; entry = getD (st .entries) 0 entryBeyond })
   unfolding IsChange changedBy outcomeOf says setLive setEntry
-  is-unchanged = (omega arith, omega arith, λ i. record { answer = a; station = record { live = set-first (st .live) pastLive i; entries = set-first (st .entries) pastEntry i } })
+  is-unchanged = (omega arith, omega arith, λ i. record { answer = a; station = record { live = set-first (st .live) liveBeyond i; entries = set-first (st .entries) entryBeyond i } })
 
-  pub is-live-changed : (i : ℕ) (l : Live) → i < livePlaces → IsChange st (says a (setLive st i l)) (record { answer = a; place = i; live = l; slot = 0; entry = getD (st .entries) 0 pastEntry })
+  pub is-live-changed : (i : ℕ) (l : Live) → i < livePlaces → IsChange st (says a (setLive st i l)) (record { answer = a; place = i; live = l; slot = 0; entry = getD (st .entries) 0 entryBeyond })
   unfolding IsChange changedBy outcomeOf says setLive setEntry
-  is-live-changed i l o = (o, omega arith, λ j. record { answer = a; station = record { live = set (st .live) i l; entries = set-first (st .entries) pastEntry j } })
+  is-live-changed i l o = (o, omega arith, λ j. record { answer = a; station = record { live = set (st .live) i l; entries = set-first (st .entries) entryBeyond j } })
 
-  pub is-entry-changed : (d : ℕ) (e : Entry) → d < slots → IsChange st (says a (setEntry st d e)) (record { answer = a; place = 0; live = getD (st .live) 0 pastLive; slot = d; entry = e })
+  pub is-entry-changed : (d : ℕ) (e : Entry) → d < slots → IsChange st (says a (setEntry st d e)) (record { answer = a; place = 0; live = getD (st .live) 0 liveBeyond; slot = d; entry = e })
   unfolding IsChange changedBy outcomeOf says setLive setEntry
-  is-entry-changed d e o = (omega arith, o, λ j. record { answer = a; station = record { live = set-first (st .live) pastLive j; entries = set (st .entries) d e } })
+  is-entry-changed d e o = (omega arith, o, λ j. record { answer = a; station = record { live = set-first (st .live) liveBeyond j; entries = set (st .entries) d e } })

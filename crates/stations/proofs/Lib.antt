@@ -1,4 +1,3 @@
-pub mod Defaults
 pub mod Search
 pub mod Fill
 pub mod Joined

@@ -15,10 +15,10 @@ use Rattle.model.specs.declared.Live.{Live}
 use Rattle.model.specs.Lists.{_and_, first, insert}
 use Rattle.model.specs.Limits.{keys, writeLimit, readLimit}
 use Rattle.model.specs.Ids.{sameId}
-use Rattle.model.specs.Stations.{noWrite, noRead, writesOf, readsOf, writeKey, readKey, hasWritten, hasRead, valueUnder}
+use Rattle.model.specs.Lives.{noWrite, noRead, writesOf, readsOf, writeKey, readKey, hasWritten, hasRead, valueUnder, withWrites, withReads}
 use Rattle.model.specs.Sound.{isNoWrite, isNoRead, zeroPastCounts, setsRight}
-use Rattle.model.specs.Put.{withWrites, withWrite}
-use Rattle.model.specs.Get.{withReads, withRead}
+use Rattle.model.specs.Put.{withWrite}
+use Rattle.model.specs.Get.{withRead}
 use Rattle.model.proofs.Tests.{and-left, and-right}
 use Rattle.model.proofs.InsertLaws.{insert-fits}
 use Rattle.model.proofs.SoundLaws.{write-limit, read-limit, writes-ascending, reads-ascending, writes-zero, reads-zero}

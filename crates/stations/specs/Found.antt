@@ -8,7 +8,8 @@ use Rattle.model.specs.declared.Live.{Live}
 use Rattle.model.specs.declared.Entry.{Entry}
 use Rattle.model.specs.declared.Station.{Station}
 use Rattle.model.specs.Limits.{keys, livePlaces}
-use Rattle.model.specs.Stations.{slotMark, liveAt}
+use Rattle.model.specs.Lives.{slotMark}
+use Rattle.model.specs.Stations.{liveAt}
 
 -- the transaction at a place, and of an entry
 abbrev pub liveTxn : Live → ℕ
@@ -18,8 +19,8 @@ abbrev pub entryTxn : Entry → ℕ
 entryTxn e = e .id .txn
 
 -- the slot of a closing transaction, counted from 1
-abbrev pub phaseMark : Live → ℕ
-phaseMark l = slotMark (l .phase)
+abbrev pub liveMark : Live → ℕ
+liveMark l = slotMark (l .phase)
 
 -- the station that has these; the transaction at a place of these
 abbrev pub stationOf : List Live → List Entry → Station

@@ -8,17 +8,17 @@ ghost use lib.Dec.{eqb, leb};
 ghost use lib.ListN.{length, take};
 ghost use Rattle.model.specs.Lists.{_and_, first, member, anyBelow};
 ghost use Rattle.model.specs.Limits.{livePlaces, slots, writeLimit, readLimit};
-ghost use Rattle.model.specs.Stations.{noLive, noEntry, writesOf, readsOf, writeKey, readKey, hasWritten, hasRead, valueUnder, isClosing, closingClock, slotMark, isFree, setLive, setEntry};
-ghost use Rattle.model.specs.Sound.{setsRight, zeroPastCounts};
-ghost use Rattle.model.specs.Records.{recordOf};
+ghost use Rattle.model.specs.Lives.{noLive, writesOf, readsOf, writeKey, readKey, hasWritten, hasRead, valueUnder, isClosing, closingClock, slotMark, withPhase};
+ghost use Rattle.model.specs.Entries.{noEntry, recordOf, entryFor};
+ghost use Rattle.model.specs.Stations.{isFree, setLive, setEntry};
+ghost use Rattle.model.specs.Sound.{zeroPastCounts, setsRight};
+ghost use Rattle.model.specs.Effects.{says};
 ghost use Rattle.model.specs.Start.{opened};
 ghost use Rattle.model.specs.Put.{withWrite};
 ghost use Rattle.model.specs.Get.{withRead};
-ghost use Rattle.model.specs.Commit.{withPhase, highestFree};
-ghost use Rattle.model.specs.Step.{entryFor};
-ghost use Rattle.model.specs.Effects.{says};
+ghost use Rattle.model.specs.Commit.{highestFree};
 ghost use Rattle.stations.specs.Changes.{changedBy, IsChange};
-ghost use Rattle.stations.specs.Found.{liveTxn, entryTxn, phaseMark, stationOf, liveIn, atLeast, joined, namedRow};
+ghost use Rattle.stations.specs.Found.{liveTxn, entryTxn, liveMark, stationOf, liveIn, atLeast, joined, namedRow};
 use model::Answer;
 use model::Entry;
 use model::Id;
@@ -28,9 +28,6 @@ use model::Phase;
 use model::Read;
 use model::Station;
 use model::Write;
-
-// Keys are below this.
-const KEYS: u8 = 64;
 
 fn wide(x: u8) -> usize
     ensures { λ r. ⌜ r ≡ x ⌝ }
@@ -49,9 +46,9 @@ pub fn no_live() -> Live
         txn: 0,
         phase: Phase::Unused,
         write_count: 0,
-        writes: [write; 8],
+        writes: [write; Station::WRITES],
         read_count: 0,
-        reads: [read; 16],
+        reads: [read; Station::READS],
     }
 }
 
@@ -62,7 +59,7 @@ pub fn no_entry() -> Entry
     Entry {
         id: id,
         count: 0,
-        keys: [0; 8],
+        keys: [0; Station::WRITES],
     }
 }
 
@@ -76,49 +73,49 @@ pub fn opened(txn: u32) -> Live
         txn: txn,
         phase: Phase::Open,
         write_count: 0,
-        writes: [write; 8],
+        writes: [write; Station::WRITES],
         read_count: 0,
-        reads: [read; 16],
+        reads: [read; Station::READS],
     }
 }
 
 // ---- where a transaction is
-// The first place with this transaction, 0 for the lowest unused; 8 where there is none.
-pub fn place_of(live: [Live; 8], txn: u32) -> usize
+// The first place with this transaction, 0 for the lowest unused; their number where there is none.
+pub fn place_of(live: [Live; Station::LIVE], txn: u32) -> usize
     ensures { λ r. ⌜ r ≡ first (eqb txn) (map liveTxn live) ⌝ }
 {
     let mut i = 0;
-    while i < 8 {
+    while i < Station::LIVE {
         let l = live[i];
         if txn == l.txn {
             return i;
         }
         i += 1;
     }
-    8
+    Station::LIVE
 }
 
 // The transaction at a place. By a search and not by an index: measured, a put in a batch is then a third cheaper.
-pub fn live_at(live: [Live; 8], place: usize) -> Live
+pub fn live_at(live: [Live; Station::LIVE], place: usize) -> Live
     requires { ⌜ place < livePlaces ⌝ }
     ensures { λ r. ⌜ r ≡ liveIn live place ⌝ }
 {
     let mut i = 0;
-    while i < 7 {
+    while i < Station::LAST_PLACE {
         if i == place {
             return live[i];
         }
         i += 1;
     }
-    live[7]
+    live[Station::LAST_PLACE]
 }
 
-// The first slot whose entry is this transaction's; 64 where there is none.
-pub fn slot_of(entries: [Entry; 64], txn: u32) -> usize
+// The first slot whose entry is this transaction's; their number where there is none.
+pub fn slot_of(entries: [Entry; Station::SLOTS], txn: u32) -> usize
     ensures { λ r. ⌜ r ≡ first (eqb txn) (map entryTxn entries) ⌝ }
 {
     let mut i = 0;
-    while i < 64 {
+    while i < Station::SLOTS {
         let e = entries[i];
         let id = e.id;
         if txn == id.txn {
@@ -126,7 +123,7 @@ pub fn slot_of(entries: [Entry; 64], txn: u32) -> usize
         }
         i += 1;
     }
-    64
+    Station::SLOTS
 }
 
 // ---- free slots
@@ -142,12 +139,12 @@ fn slot_mark(p: Phase) -> usize
 }
 
 // The slots that closing transactions have, counted from 1; 0 for any other place.
-fn closing_slots(live: [Live; 8]) -> [usize; 8]
-    ensures { λ r. ⌜ r ≡ map phaseMark live ⌝ }
+fn closing_slots(live: [Live; Station::LIVE]) -> [usize; Station::LIVE]
+    ensures { λ r. ⌜ r ≡ map liveMark live ⌝ }
 {
-    let mut marks = [0usize; 8];
+    let mut marks = [0usize; Station::LIVE];
     let mut i = 0;
-    while i < 8 {
+    while i < Station::LIVE {
         let l = live[i];
         let p = l.phase;
         marks[i] = slot_mark(p);
@@ -157,11 +154,11 @@ fn closing_slots(live: [Live; 8]) -> [usize; 8]
 }
 
 // Whether a closing transaction has the slot with this mark.
-fn is_marked(marks: [usize; 8], mark: usize) -> bool
+fn is_marked(marks: [usize; Station::LIVE], mark: usize) -> bool
     ensures { λ r. ⌜ r ≡ member mark marks ⌝ }
 {
     let mut i = 0;
-    while i < 8 {
+    while i < Station::LIVE {
         if mark == marks[i] {
             return true;
         }
@@ -170,12 +167,12 @@ fn is_marked(marks: [usize; 8], mark: usize) -> bool
     false
 }
 
-// The highest slot that no entry and no closing transaction has; 64 where there is none.
-pub fn highest_free(live: [Live; 8], entries: [Entry; 64]) -> usize
+// The highest slot that no entry and no closing transaction has; their number where there is none.
+pub fn highest_free(live: [Live; Station::LIVE], entries: [Entry; Station::SLOTS]) -> usize
     ensures { λ r. ⌜ r ≡ cond (anyBelow (isFree (stationOf live entries)) slots) (highestFree (stationOf live entries)) slots ⌝ }
 {
     let marks = closing_slots(live);
-    let mut n = 64;
+    let mut n = Station::SLOTS;
     while 0 < n {
         let d = n - 1;
         let e = entries[d];
@@ -187,16 +184,16 @@ pub fn highest_free(live: [Live; 8], entries: [Entry; 64]) -> usize
         }
         n -= 1;
     }
-    64
+    Station::SLOTS
 }
 
 // ---- a transaction's sets
-fn write_keys(writes: [Write; 8]) -> [u8; 8]
+fn write_keys(writes: [Write; Station::WRITES]) -> [u8; Station::WRITES]
     ensures { λ r. ⌜ r ≡ map writeKey writes ⌝ }
 {
-    let mut keys = [0u8; 8];
+    let mut keys = [0u8; Station::WRITES];
     let mut i = 0;
-    while i < 8 {
+    while i < Station::WRITES {
         let w = writes[i];
         keys[i] = w.key;
         i += 1;
@@ -204,12 +201,12 @@ fn write_keys(writes: [Write; 8]) -> [u8; 8]
     keys
 }
 
-fn read_keys(reads: [Read; 16]) -> [u8; 16]
+fn read_keys(reads: [Read; Station::READS]) -> [u8; Station::READS]
     ensures { λ r. ⌜ r ≡ map readKey reads ⌝ }
 {
-    let mut keys = [0u8; 16];
+    let mut keys = [0u8; Station::READS];
     let mut i = 0;
-    while i < 16 {
+    while i < Station::READS {
         let r = reads[i];
         keys[i] = r.key;
         i += 1;
@@ -250,7 +247,7 @@ fn place_for(keys: &[u8], n: usize, key: u8) -> usize
 }
 
 pub fn has_written(l: Live, key: u8) -> bool
-    requires { ⌜ l .«write_count» ≤ 8 ⌝ }
+    requires { ⌜ l .«write_count» ≤ writeLimit ⌝ }
     ensures { λ r. ⌜ r ≡ hasWritten key l ⌝ }
 {
     let n = wide(l.write_count);
@@ -261,7 +258,7 @@ pub fn has_written(l: Live, key: u8) -> bool
 
 // The value under a key of the write set.
 pub fn value_under(l: Live, key: u8) -> u64
-    requires { ⌜ l .«write_count» ≤ 8 ⌝ }
+    requires { ⌜ l .«write_count» ≤ writeLimit ⌝ }
     requires { ⌜ hasWritten key l ≡ true ⌝ }
     ensures { λ r. ⌜ r ≡ valueUnder key (writesOf l) ⌝ }
 {
@@ -274,7 +271,7 @@ pub fn value_under(l: Live, key: u8) -> u64
 }
 
 pub fn has_read(l: Live, key: u8) -> bool
-    requires { ⌜ l .«read_count» ≤ 16 ⌝ }
+    requires { ⌜ l .«read_count» ≤ readLimit ⌝ }
     ensures { λ r. ⌜ r ≡ hasRead key l ⌝ }
 {
     let n = wide(l.read_count);
@@ -285,14 +282,14 @@ pub fn has_read(l: Live, key: u8) -> bool
 
 // ---- a key put into a write set
 // The writes with one more at a position, those from there on moved up by one.
-fn write_joined(old: [Write; 8], at: usize, w: Write) -> [Write; 8]
-    requires { ⌜ at ≤ 8 ⌝ }
-    ensures { λ r. ⌜ r ≡ take 8 (joined at w old) ⌝ }
+fn write_joined(old: [Write; Station::WRITES], at: usize, w: Write) -> [Write; Station::WRITES]
+    requires { ⌜ at ≤ writeLimit ⌝ }
+    ensures { λ r. ⌜ r ≡ take writeLimit (joined at w old) ⌝ }
 {
     let mut writes = old;
     let mut carried = w;
     let mut i = at;
-    while i < 8 {
+    while i < Station::WRITES {
         let next = writes[i];
         writes[i] = carried;
         carried = next;
@@ -332,14 +329,14 @@ pub fn with_write(l: Live, key: u8, value: u64) -> Live
 
 // ---- a read joined to a read set
 // The reads with one more at a position, those from there on moved up by one.
-fn read_joined(old: [Read; 16], at: usize, r: Read) -> [Read; 16]
-    requires { ⌜ at ≤ 16 ⌝ }
-    ensures { λ x. ⌜ x ≡ take 16 (joined at r old) ⌝ }
+fn read_joined(old: [Read; Station::READS], at: usize, r: Read) -> [Read; Station::READS]
+    requires { ⌜ at ≤ readLimit ⌝ }
+    ensures { λ x. ⌜ x ≡ take readLimit (joined at r old) ⌝ }
 {
     let mut reads = old;
     let mut carried = r;
     let mut i = at;
-    while i < 16 {
+    while i < Station::READS {
         let next = reads[i];
         reads[i] = carried;
         carried = next;
@@ -420,7 +417,7 @@ pub fn entry_for(l: Live) -> Entry
 
 // The number of the version record of a key, from 1; the count and 1 where the entry did not write it.
 pub fn record_of(e: Entry, key: u8) -> usize
-    requires { ⌜ e .count ≤ 8 ⌝ }
+    requires { ⌜ e .count ≤ writeLimit ⌝ }
     ensures { λ r. ⌜ r ≡ recordOf e key ⌝ }
 {
     let n = wide(e.count);
@@ -446,7 +443,7 @@ pub fn named_row(txn: u32, key: u8, place: usize) -> u8
     if txn == 0 {
         return 3;
     }
-    if key >= KEYS {
+    if key >= Station::KEYS_U8 {
         return 4;
     }
     if place >= Station::LIVE {

@@ -10,14 +10,15 @@ use borrow.Author.Tests.{le-leb, lt-leb, eq-eqb, ne-eqb}
 use Rattle.model.specs.declared.Entry.{Entry}
 use Rattle.model.specs.declared.Station.{Station}
 use Rattle.model.specs.declared.Answer.the-variants as A
-use Rattle.model.specs.Collect.{collect}
-use Rattle.model.specs.Effects.{says, saysStoring, wrongLength, unsound}
-use Rattle.model.specs.Limits.{slots, storeSize}
 use Rattle.model.specs.Lists.{_or_}
-use Rattle.model.specs.Records.{zeroRecord, carriesEntry, recordAt}
+use Rattle.model.specs.Limits.{slots, storeSize}
+use Rattle.model.specs.Entries.{carriesEntry, noEntry}
+use Rattle.model.specs.Stations.{entryAt, setEntry, holds}
+use Rattle.model.specs.Records.{zeroRecord, recordAt}
 use Rattle.model.specs.Sound.{sound}
-use Rattle.model.specs.Stations.{noEntry, entryAt, setEntry, holds}
 use Rattle.model.specs.Supersedence.{superseded, isRead}
+use Rattle.model.specs.Effects.{says, saysStoring, wrongLength, unsound}
+use Rattle.model.specs.Collect.{collect}
 use Rattle.model.proofs.RefusalLaws.{refusals-none, skipped, hit}
 use Rattle.model.proofs.Tests.{or-none, or-intro-left, or-intro-right, not-of-false, not-of-true}
 use Rattle.storing.proofs.Parts.{length-right, sound-right}

@@ -14,14 +14,16 @@ use Rattle.model.specs.declared.Live.{Live}
 use Rattle.model.specs.declared.Entry.{Entry}
 use Rattle.model.specs.declared.Station.{Station}
 use Rattle.model.specs.declared.Answer.the-variants as A
-use Rattle.model.specs.Effects.{Effect, says, _when_, refusals, wrongLength, unsound}
-use Rattle.model.specs.Get.{choiceOf, withRead, versionAt, noRoom, notCarried, answered, get}
-use Rattle.model.specs.Limits.{keys, storeSize}
 use Rattle.model.specs.Lists.{first, any}
-use Rattle.model.specs.Reading.{passes, newest, Choice, own, absent, nofit, version, chosen, choose}
+use Rattle.model.specs.Limits.{keys, storeSize}
+use Rattle.model.specs.Lives.{writesOf, readsOf, hasWritten, valueUnder, isClosing}
+use Rattle.model.specs.Entries.{wrote}
+use Rattle.model.specs.Stations.{liveAt, entryAt, setLive, isLive}
 use Rattle.model.specs.Records.{valueIn, carriesVersion}
 use Rattle.model.specs.Sound.{sound}
-use Rattle.model.specs.Stations.{writesOf, readsOf, wrote, hasWritten, valueUnder, isClosing, liveAt, entryAt, setLive, isLive}
+use Rattle.model.specs.Reading.{passes, newest, Choice, own, absent, nofit, version, chosen, choose}
+use Rattle.model.specs.Effects.{Effect, says, _when_, refusals, wrongLength, unsound}
+use Rattle.model.specs.Get.{choiceOf, withRead, versionAt, noRoom, notCarried, answered, get}
 use Rattle.model.proofs.RefusalLaws.{refusals-none, skipped, hit}
 use Rattle.model.proofs.Tests.{not-of-false, not-of-true}
 use Rattle.reading.specs.declared.Chosen.the-variants.{Version, Nofit, None}

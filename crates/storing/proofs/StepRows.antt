@@ -16,14 +16,15 @@ use Rattle.model.specs.declared.Phase.{Phase}
 use Rattle.model.specs.declared.Phase.the-variants.{Unused, Open, Closing}
 use Rattle.model.specs.declared.Answer.{Answer}
 use Rattle.model.specs.declared.Answer.the-variants as A
-use Rattle.model.specs.Commit.{withPhase}
-use Rattle.model.specs.Effects.{Effect, stored, outcomeOf, says, saysStoring, _when_, refusals, wrongLength, unsound}
-use Rattle.model.specs.Limits.{slots, storeSize}
 use Rattle.model.specs.Lists.{first}
-use Rattle.model.specs.Records.{commitRecord, versionRecord, withRecord}
+use Rattle.model.specs.Limits.{slots, storeSize}
+use Rattle.model.specs.Lives.{withPhase, noWrite, noLive, isClosing, closingSlot, recordsStored}
+use Rattle.model.specs.Entries.{commitRecord, entryFor}
+use Rattle.model.specs.Stations.{liveAt, setLive, setEntry, isLive}
+use Rattle.model.specs.Records.{versionRecord, withRecord}
 use Rattle.model.specs.Sound.{sound}
-use Rattle.model.specs.Stations.{noWrite, noLive, isClosing, closingSlot, recordsStored, liveAt, setLive, setEntry, isLive}
-use Rattle.model.specs.Step.{entryFor, oneMore, stepped, step}
+use Rattle.model.specs.Effects.{Effect, stored, outcomeOf, says, saysStoring, _when_, refusals, wrongLength, unsound}
+use Rattle.model.specs.Step.{oneMore, stepped, step}
 use Rattle.model.proofs.RefusalLaws.{refusals-none, skipped, hit}
 use Rattle.model.proofs.Tests.{not-of-false, not-of-true}
 use Rattle.stations.specs.Changes.{changedBy, IsChange}

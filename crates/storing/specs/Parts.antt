@@ -9,8 +9,9 @@ use Rattle.model.specs.declared.Live.{Live}
 use Rattle.model.specs.declared.Entry.{Entry}
 use Rattle.model.specs.declared.Answer.{Answer}
 use Rattle.model.specs.declared.Answer.the-variants as A
-use Rattle.model.specs.Stations.{noWrite}
-use Rattle.model.specs.Records.{commitRecord, versionRecord, withRecord}
+use Rattle.model.specs.Lives.{noWrite}
+use Rattle.model.specs.Entries.{commitRecord}
+use Rattle.model.specs.Records.{versionRecord, withRecord}
 
 unfoldable pub recordAnswer : Live → ℕ → ℕ → Answer
 recordAnswer l d n = cond (ltb n (l .«write_count»)) (A.Stored (getD (l .writes) n noWrite .key)) (A.Slipped d)

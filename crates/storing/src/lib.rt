@@ -6,10 +6,11 @@ ghost use mathlib.Core.Bool.{true, not};
 ghost use Prim.Native.Nat.{_<_, _≤_};
 ghost use lib.Dec.{leb};
 ghost use lib.ListN.{length};
-ghost use Rattle.model.specs.Limits.{slots, width, storeSize, readLimit};
 ghost use Rattle.model.specs.Lists.{_and_};
-ghost use Rattle.model.specs.Stations.{wrote, hasRead};
-ghost use Rattle.model.specs.Records.{valueIn, commitRecord, versionRecord, zeroRecord, carriesVersion, recordAt, withRecord, recordOf};
+ghost use Rattle.model.specs.Limits.{slots, writeLimit, readLimit, width, storeSize};
+ghost use Rattle.model.specs.Lives.{hasRead};
+ghost use Rattle.model.specs.Entries.{wrote, commitRecord, recordOf};
+ghost use Rattle.model.specs.Records.{valueIn, versionRecord, zeroRecord, carriesVersion, recordAt, withRecord};
 ghost use Rattle.model.specs.Sound.{sound};
 ghost use Rattle.model.specs.Effects.{stored};
 ghost use Rattle.model.specs.Get.{get};
@@ -52,16 +53,6 @@ use stations::value_under;
 use stations::with_phase;
 use stations::with_read;
 
-// The bytes of a record, of a slot and of a store.
-const RECORD: usize = 24;
-
-const SLOT: usize = 216;
-
-const STORE: usize = SLOT * Station::SLOTS;
-
-// A read set has at most this many keys.
-const READS: u8 = 16;
-
 // ---- one record of a slot, written whole
 fn store_version(store: &mut [u8], slot: usize, n: usize, key: u8, id: Id, value: u64)
     requires { ⌜ length (now store) ≡ storeSize ⌝ }
@@ -69,8 +60,8 @@ fn store_version(store: &mut [u8], slot: usize, n: usize, key: u8, id: Id, value
     requires { ⌜ n < width ⌝ }
     ensures { λ _. ⌜ now (store .exit) ≡ withRecord (now (store .entry)) slot n (versionRecord key id value) ⌝ }
 {
-    let at = SLOT * slot + RECORD * n;
-    write_version(&mut store[at..at + RECORD], key, id, value);
+    let at = Station::SLOT * slot + Station::RECORD * n;
+    write_version(&mut store[at..at + Station::RECORD], key, id, value);
 }
 
 fn store_commit(store: &mut [u8], slot: usize, e: Entry)
@@ -78,8 +69,8 @@ fn store_commit(store: &mut [u8], slot: usize, e: Entry)
     requires { ⌜ slot < slots ⌝ }
     ensures { λ _. ⌜ now (store .exit) ≡ withRecord (now (store .entry)) slot 0 (commitRecord e) ⌝ }
 {
-    let at = SLOT * slot;
-    write_commit(&mut store[at..at + RECORD], e);
+    let at = Station::SLOT * slot;
+    write_commit(&mut store[at..at + Station::RECORD], e);
 }
 
 // Zeros over the commit record: the slot is free.
@@ -88,20 +79,20 @@ fn store_zero(store: &mut [u8], slot: usize)
     requires { ⌜ slot < slots ⌝ }
     ensures { λ _. ⌜ now (store .exit) ≡ withRecord (now (store .entry)) slot 0 zeroRecord ⌝ }
 {
-    let commit = SLOT * slot;
-    write_zero(&mut store[commit..commit + RECORD]);
+    let commit = Station::SLOT * slot;
+    write_zero(&mut store[commit..commit + Station::RECORD]);
 }
 
 // ---- get
 // No room for a key in a read set.
 fn no_read_room(l: Live, key: u8) -> bool
-    requires { ⌜ l .«read_count» ≤ 16 ⌝ }
+    requires { ⌜ l .«read_count» ≤ readLimit ⌝ }
     ensures { λ r. ⌜ r ≡ (not (hasRead key l) and leb readLimit (l .«read_count»)) ⌝ }
 {
     if has_read(l, key) {
         return false;
     }
-    l.read_count >= READS
+    l.read_count >= Station::READS_U8
 }
 
 // A version record as read: whether it carries its key and id, and its value.
@@ -114,15 +105,15 @@ struct VersionRead {
 fn read_version(store: &[u8], slot: usize, e: Entry, key: u8) -> VersionRead
     requires { ⌜ length (now store) ≡ storeSize ⌝ }
     requires { ⌜ slot < slots ⌝ }
-    requires { ⌜ (e .count ≤ 8) × (wrote e key ≡ true) ⌝ }
+    requires { ⌜ (e .count ≤ writeLimit) × (wrote e key ≡ true) ⌝ }
     ensures { λ r. ⌜ r .carried ≡ carriesVersion (recordAt (now (store .entry)) slot (recordOf e key)) key (e .id) ⌝ }
     ensures { λ r. ⌜ r .value ≡ valueIn (recordAt (now (store .entry)) slot (recordOf e key)) ⌝ }
 {
     let id = e.id;
-    let at = SLOT * slot + RECORD * record_of(e, key);
+    let at = Station::SLOT * slot + Station::RECORD * record_of(e, key);
     VersionRead {
-        carried: carries_version(&store[at..at + RECORD], key, id),
-        value: value_in(&store[at..at + RECORD]),
+        carried: carries_version(&store[at..at + Station::RECORD], key, id),
+        value: value_in(&store[at..at + Station::RECORD]),
     }
 }
 
@@ -131,7 +122,7 @@ pub fn get(station: Station, tested: bool, store: &[u8], txn: u32, key: u8) -> C
     requires { ⌜ tested ≡ sound station ⌝ }
     ensures { λ r. ⌜ IsChange station (get station (now (store .entry)) txn key) r ⌝ }
 {
-    if store.len() != STORE {
+    if store.len() != Station::STORE {
         return refused(station, 1);
     }
     if !tested {
@@ -176,7 +167,7 @@ pub fn get(station: Station, tested: bool, store: &[u8], txn: u32, key: u8) -> C
 fn store_record(store: &mut [u8], l: Live, e: Entry, slot: u8, n: u8) -> Answer
     requires { ⌜ length (now store) ≡ storeSize ⌝ }
     requires { ⌜ slot < slots ⌝ }
-    requires { ⌜ (n ≤ l .«write_count») × (l .«write_count» ≤ 8) ⌝ }
+    requires { ⌜ (n ≤ l .«write_count») × (l .«write_count» ≤ writeLimit) ⌝ }
     ensures { λ r. ⌜ (r ≡ recordAnswer l slot n) × (now (store .exit) ≡ recordStored l e slot n (now (store .entry))) ⌝ }
 {
     let d = slot as usize;
@@ -196,7 +187,7 @@ pub fn step(station: Station, tested: bool, store: &mut [u8], txn: u32) -> Chang
     requires { ⌜ tested ≡ sound station ⌝ }
     ensures { λ r. ⌜ (IsChange station (step station (now (store .entry)) txn) r) × (now (store .exit) ≡ stored (step station (now (store .entry)) txn .stores) (now (store .entry))) ⌝ }
 {
-    if store.len() != STORE {
+    if store.len() != Station::STORE {
         return refused(station, 1);
     }
     if !tested {
@@ -238,7 +229,7 @@ pub fn collect(station: Station, tested: bool, store: &mut [u8], slot: u8) -> Ch
     requires { ⌜ tested ≡ sound station ⌝ }
     ensures { λ r. ⌜ (IsChange station (collect station (now (store .entry)) slot) r) × (now (store .exit) ≡ stored (collect station (now (store .entry)) slot .stores) (now (store .entry))) ⌝ }
 {
-    if store.len() != STORE {
+    if store.len() != Station::STORE {
         return refused(station, 1);
     }
     if !tested {
@@ -261,8 +252,8 @@ pub fn collect(station: Station, tested: bool, store: &mut [u8], slot: u8) -> Ch
     if is_read(live, id) {
         return refused(station, 16);
     }
-    let at = SLOT * d;
-    if !carries_entry(&store[at..at + RECORD], e) {
+    let at = Station::SLOT * d;
+    if !carries_entry(&store[at..at + Station::RECORD], e) {
         return refused(station, 17);
     }
     store_zero(store, d);

@@ -3,7 +3,7 @@ use Prim.Native.Nat.{ℕ, _<_, _≤_}
 use mathlib.Core.Path.{_≡_, refl, sym, ap, subst, _∙_}
 use mathlib.Core.Logic.{_≢_, _⊎_, ⊎-elim}
 use mathlib.Core.Bool.{Bool, true, false, not, cond}
-use mathlib.Core.List.{[], map}
+use mathlib.Core.List.{map}
 use lib.Dec.{eqb, leb}
 use lib.ListN.{length, getD}
 use native.Mathlib.Decide.{decLt}
@@ -13,18 +13,19 @@ use borrow.Author.Tests.{le-leb, lt-leb, eq-eqb, ne-eqb, eqb-true, eqb-false, le
 use Rattle.model.specs.declared.Live.{Live}
 use Rattle.model.specs.declared.Entry.{Entry}
 use Rattle.model.specs.declared.Station.{Station}
-use Rattle.model.specs.declared.Phase.the-variants.{Unused, Closing}
+use Rattle.model.specs.declared.Phase.the-variants.{Closing}
 use Rattle.model.specs.declared.Answer.{Answer}
 use Rattle.model.specs.declared.Answer.the-variants as A
-use Rattle.model.specs.Abort.{abort}
-use Rattle.model.specs.Commit.{withPhase, highestFree, commit}
-use Rattle.model.specs.Effects.{Effect, says, unsound}
-use Rattle.model.specs.Limits.{keys, livePlaces, slots, writeLimit}
 use Rattle.model.specs.Lists.{_and_, _or_, first, anyBelow}
-use Rattle.model.specs.Put.{withWrite, put}
+use Rattle.model.specs.Limits.{keys, livePlaces, slots, writeLimit}
+use Rattle.model.specs.Lives.{withPhase, noLive, hasWritten, isClosing, liveBeyond}
+use Rattle.model.specs.Stations.{liveAt, entryAt, setLive, liveTxns, isLive, isHeld, placeOf, slotOf, isFree}
 use Rattle.model.specs.Sound.{sound}
+use Rattle.model.specs.Effects.{Effect, says, unsound}
 use Rattle.model.specs.Start.{opened, start}
-use Rattle.model.specs.Stations.{noLive, hasWritten, isClosing, liveAt, entryAt, setLive, liveTxns, isLive, isHeld, placeOf, slotOf, isFree}
+use Rattle.model.specs.Put.{withWrite, put}
+use Rattle.model.specs.Commit.{highestFree, commit}
+use Rattle.model.specs.Abort.{abort}
 use Rattle.model.proofs.ListLaws.{getD-inside}
 use Rattle.model.proofs.RefusalLaws.{refusals-none, skipped, hit}
 use Rattle.model.proofs.SoundFacts.{held-not-live, live-facts}
@@ -256,10 +257,10 @@ module _ (st : Station) (t j i : ℕ) (y : Sought st t j i) where
 
 -- ── commit of a held transaction: it is not live, so no row applies ──
 module _ (st : Station) (h : sound st ≡ true) (t : ℕ) (n : t ≢ 0) (len : length (st .live) ≡ 8) (g : isHeld t st ≡ true) where
-  held-nowhere : liveAt st (placeOf t st) ≡ record { txn = 0; phase = Unused; «write_count» = 0; writes = []; «read_count» = 0; reads = [] }
+  held-nowhere : liveAt st (placeOf t st) ≡ liveBeyond
   held-nowhere = go (decLt (placeOf t st) 8)
     where
-      go : Dec (placeOf t st < 8) → liveAt st (placeOf t st) ≡ record { txn = 0; phase = Unused; «write_count» = 0; writes = []; «read_count» = 0; reads = [] }
+      go : Dec (placeOf t st < 8) → liveAt st (placeOf t st) ≡ liveBeyond
       go (yes y) =
           let p = place-hit st t (place-live st t (placeOf t st) (unfold placeOf liveTxns in refl) len y) in
           absurd (held-not-live st h t g (placeOf t st) (p .1) (λ z. n (sym (p .1) ∙ z)))

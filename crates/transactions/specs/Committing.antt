@@ -7,10 +7,11 @@ use Rattle.model.specs.declared.Station.{Station}
 use Rattle.model.specs.declared.Phase.the-variants.{Closing}
 use Rattle.model.specs.declared.Answer.{Answer}
 use Rattle.model.specs.declared.Answer.the-variants as A
-use Rattle.model.specs.Limits.{livePlaces, slots}
 use Rattle.model.specs.Lists.{_and_, anyBelow}
-use Rattle.model.specs.Stations.{noLive, isFree}
-use Rattle.model.specs.Commit.{withPhase, highestFree}
+use Rattle.model.specs.Limits.{livePlaces, slots}
+use Rattle.model.specs.Lives.{noLive, withPhase}
+use Rattle.model.specs.Stations.{isFree}
+use Rattle.model.specs.Commit.{highestFree}
 
 -- the first of rows 3, 5 and 8 that applies to a transaction's number, a clock, and the slot and the place found; 0 where none does
 unfoldable pub unknownRow : ℕ → ℕ → ℕ → ℕ → ℕ

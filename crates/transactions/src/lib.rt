@@ -31,9 +31,6 @@ ghost use Rattle.stations.specs.Found.{stationOf};
 ghost use Rattle.stations.specs.Changes.{IsChange};
 ghost use Rattle.transactions.specs.Committing.{unknownRow, slotFor, afterCommit, commitAnswer};
 
-// A write set has at most this many keys.
-const WRITES: u8 = 8;
-
 // ---- start
 // Makes a transaction live and open, with empty sets, in the lowest unused place.
 pub fn start(station: Station, tested: bool, txn: u32) -> Change
@@ -82,7 +79,7 @@ pub fn put(station: Station, tested: bool, txn: u32, key: u8, value: u64) -> Cha
     if is_closing(phase) {
         return refused(station, 9);
     }
-    if l.write_count >= WRITES {
+    if l.write_count >= Station::WRITES_U8 {
         if !has_written(l, key) {
             return refused(station, 11);
         }
@@ -112,7 +109,7 @@ fn unknown_row(txn: u32, clock: u64, held: usize, place: usize) -> u8
 }
 
 // The slot for this many writes: the highest free one, 64 where there is none. Nothing written needs no slot: 0.
-fn slot_for(live: [Live; 8], entries: [Entry; 64], writes: u8) -> usize
+fn slot_for(live: [Live; Station::LIVE], entries: [Entry; Station::SLOTS], writes: u8) -> usize
     ensures { λ r. ⌜ r ≡ slotFor writes (stationOf live entries) ⌝ }
 {
     if writes == 0 {

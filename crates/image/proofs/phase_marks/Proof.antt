@@ -1,7 +1,7 @@
 -- `image::phase_marks` meets its contract.
 use mathlib.Core.Path.{refl}
 use borrow.Author.Needs.{needs}
-use Rattle.model.specs.Stations.{closingSlot, closingClock, recordsStored}
+use Rattle.model.specs.Lives.{closingSlot, closingClock, recordsStored}
 use Rattle.image.specs.Layout.{phaseMark}
 use Rattle.image.proofs.phase_marks.Statement.{statement}
 use Rattle.image.proofs.phase_marks.Tie as tie

@@ -6,7 +6,7 @@ use native.Mathlib.Omega.{arith}
 use borrow.Rule.Slice.PartMut.{putMid, same-len-mid}
 use borrow.Author.Needs.{needs}
 use Rattle.model.specs.declared.Id.{Id}
-use Rattle.model.specs.Stations.{closingSlot, closingClock, recordsStored}
+use Rattle.model.specs.Lives.{closingSlot, closingClock, recordsStored}
 use Rattle.image.specs.Layout.{startBytes, phaseMark, placeHead}
 use Rattle.image.proofs.WriteLaws.{put-two, byte-bytes, number-written, start-phase}
 use Rattle.image.proofs.write_head.Statement.{statement}

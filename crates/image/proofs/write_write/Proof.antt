@@ -5,7 +5,7 @@ use lib.ListN.{replicate}
 use native.Mathlib.Omega.{arith}
 use borrow.Rule.Slice.PartMut.{putMid, same-len-mid}
 use borrow.Author.Needs.{needs}
-use Rattle.model.specs.Records.{bytes}
+use Rattle.model.specs.Bytes.{bytes}
 use Rattle.image.specs.Layout.{writeBytes}
 use Rattle.image.proofs.WriteLaws.{put-two, byte-bytes, number-written}
 use Rattle.image.proofs.write_write.Statement.{statement}

@@ -2,7 +2,7 @@
 use mathlib.Core.Path.{_∙_}
 use mathlib.Core.List.{_++_}
 use borrow.Author.Needs.{needs}
-use Rattle.model.specs.Records.{bytes}
+use Rattle.model.specs.Bytes.{bytes}
 use Rattle.interface.specs.Exchange.{answerBytes}
 use Rattle.interface.proofs.ByteLaws.{four-written}
 use Rattle.interface.proofs.write_answer.Statement.{statement}

@@ -4,9 +4,10 @@ use lib.ListN.{getD}
 use borrow.Author.Needs.{needs}
 use borrow.Author.Tests.{not-true, not-false, eq-eqb, ne-eqb}
 use Rattle.model.specs.declared.Id.{Id}
-use Rattle.model.specs.Ids.{sameId}
 use Rattle.model.specs.Lists.{_and_}
-use Rattle.model.specs.Records.{idIn, entryIn, carriesEntry}
+use Rattle.model.specs.Ids.{sameId}
+use Rattle.model.specs.Bytes.{idIn}
+use Rattle.model.specs.Entries.{entryIn, carriesEntry}
 use Rattle.records.proofs.carries_entry.Statement.{statement}
 use Rattle.records.proofs.carries_entry.Tie as tie
 

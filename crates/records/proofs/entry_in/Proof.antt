@@ -1,9 +1,9 @@
 -- `records::entry_in` meets its contract.
 use lib.ListN.{getD}
 use borrow.Author.Needs.{needs}
-use Rattle.model.specs.Limits.{keys}
 use Rattle.model.specs.Lists.{count}
-use Rattle.model.specs.Records.{entryIn}
+use Rattle.model.specs.Limits.{keys}
+use Rattle.model.specs.Entries.{entryIn}
 use Rattle.records.proofs.ByteLaws.{keys-read}
 use Rattle.records.proofs.entry_in.Statement.{statement}
 use Rattle.records.proofs.entry_in.Tie as tie

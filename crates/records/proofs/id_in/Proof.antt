@@ -6,7 +6,7 @@ use native.Mathlib.Omega.{arith}
 use borrow.Rule.Slice.PartMut.{mid-len}
 use borrow.Author.Needs.{needs}
 use Rattle.model.specs.Limits.{byteRange}
-use Rattle.model.specs.Records.{idIn}
+use Rattle.model.specs.Bytes.{idIn}
 use Rattle.records.proofs.id_in.Statement.{statement}
 use Rattle.records.proofs.id_in.Tie as tie
 

@@ -3,7 +3,7 @@ use lib.ListN.{getD}
 use borrow.Author.Needs.{needs}
 use borrow.Author.Tests.{eq-eqb, ne-eqb}
 use Rattle.model.specs.Lists.{_and_}
-use Rattle.model.specs.Records.{markIn}
+use Rattle.model.specs.Entries.{markIn}
 use Rattle.records.proofs.is_commit.Statement.{statement}
 use Rattle.records.proofs.is_commit.Tie as tie
 

@@ -5,10 +5,9 @@ use lib.ListN.{take}
 use native.Mathlib.Omega.{arith}
 use borrow.Author.Needs.{needs}
 use borrow.Author.Tests.{not-true, not-false, le-leb, lt-leb}
-use Rattle.model.specs.Limits.{keys, writeLimit}
 use Rattle.model.specs.Lists.{_and_, ascending}
-use Rattle.model.specs.Records.{entryRules}
-use Rattle.model.specs.Stations.{keysOf}
+use Rattle.model.specs.Limits.{keys, writeLimit}
+use Rattle.model.specs.Entries.{entryRules, keysOf}
 use Rattle.records.proofs.keeps_rules.Statement.{statement}
 use Rattle.records.proofs.keeps_rules.Tie as tie
 

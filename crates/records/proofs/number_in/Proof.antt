@@ -7,7 +7,7 @@ use lib.Seq.{drop-length}
 use native.Mathlib.Nat.{pow-le-pow-right}
 use native.Mathlib.Omega.{arith}
 use Rattle.model.specs.Limits.{byteRange}
-use Rattle.model.specs.Records.{number}
+use Rattle.model.specs.Bytes.{number}
 use Rattle.records.proofs.ByteLaws.{number-back, grow}
 use Rattle.records.proofs.number_in.Statement.{statement}
 use Rattle.records.proofs.number_in.Tie as tie

@@ -8,9 +8,9 @@ use native.Mathlib.Omega.{arith}
 use borrow.Author.Needs.{needs}
 use borrow.Author.Tests.{not-true, not-false}
 use Rattle.model.specs.Limits.{recordSize}
+use Rattle.model.specs.Entries.{keysOf}
 use Rattle.model.specs.Records.{carriesVersion, recordAt}
 use Rattle.model.specs.Slots.{versionsCarry}
-use Rattle.model.specs.Stations.{keysOf}
 use Rattle.records.proofs.SlotSteps.{part-record, part-length, versions-more, versions-not, versions-end}
 use Rattle.records.proofs.versions_carry.Statement.{statement}
 use Rattle.records.proofs.versions_carry.Tie as tie

@@ -3,7 +3,8 @@ use mathlib.Core.Path.{_≡_}
 use lib.ListN.{length, drop, length-drop}
 use native.Mathlib.Omega.{arith}
 use borrow.Author.Needs.{needs}
-use Rattle.model.specs.Records.{committedMark, headBytes, commitRecord}
+use Rattle.model.specs.Bytes.{headBytes}
+use Rattle.model.specs.Entries.{committedMark, commitRecord}
 use Rattle.records.proofs.ByteLaws.{put-end, length-head}
 use Rattle.records.proofs.write_commit.Statement.{statement}
 use Rattle.records.proofs.write_commit.Tie as tie

@@ -5,7 +5,7 @@ use mathlib.Core.List.{_++_, append-nil}
 use lib.ListN.{length, take, length-set}
 use lib.Seq.{take-all}
 use native.Mathlib.Omega.{arith}
-use Rattle.model.specs.Records.{bytes}
+use Rattle.model.specs.Bytes.{bytes}
 use Rattle.records.proofs.ByteLaws.{bytes-more}
 use Rattle.records.proofs.write_number.Statement.{statement}
 use Rattle.records.proofs.write_number.Tie as tie

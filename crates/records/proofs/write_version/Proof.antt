@@ -6,7 +6,8 @@ use native.Mathlib.Omega.{arith}
 use borrow.Rule.Slice.PartMut.{mid-len}
 use borrow.Author.Needs.{needs}
 use Rattle.model.specs.Limits.{recordSize}
-use Rattle.model.specs.Records.{bytes, headBytes, versionRecord}
+use Rattle.model.specs.Bytes.{bytes, headBytes}
+use Rattle.model.specs.Records.{versionRecord}
 use Rattle.records.proofs.ByteLaws.{put-end, length-head}
 use Rattle.records.proofs.write_version.Statement.{statement}
 use Rattle.records.proofs.write_version.Tie as tie

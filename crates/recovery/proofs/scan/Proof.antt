@@ -9,7 +9,7 @@ use Rattle.model.specs.declared.Station.{Station}
 use Rattle.model.specs.declared.Answer.the-variants as A
 use Rattle.model.specs.Stations.{emptyStation}
 use Rattle.model.proofs.ScanLaws.{scan-length}
-use Rattle.records.specs.SlotView.{slotOf}
+use Rattle.records.specs.SlotView.{asSlot}
 use Rattle.recovery.proofs.ScanSteps.{part-slot, part-length, Passed, passed-none, passed-free, passed-committed, refused-damaged, refused-repeated, found-all, handed-back}
 use Rattle.recovery.proofs.scan.Statement.{statement}
 use Rattle.recovery.proofs.scan.Tie as tie
@@ -64,7 +64,7 @@ returns-2 c =
     let d = l .loop .d in
     let r = c .before .before .before .before .read-slot in
     let o = c .before .before .before .before .before .before .loop-test .taken in
-    let q = r .ensures ∙ ap slotOf (part-slot s d) in
+    let q = r .ensures ∙ ap asSlot (part-slot s d) in
     handed-back s (A.Refused 18 d) (st .result) emptyStation (st .ensures) (refused-damaged s (l .loop .entries) (l .loop .txns) (l .loop .found) d (l .loop .inv) o (r .result) q (l .before .before .before .if1 .left) (c .enum-told2 .given .1))
 
 enum-told-3 : tie.Need-enum-told-3 Inv-loop μ-loop
@@ -84,7 +84,7 @@ returns-3 c =
     let d = l .loop .d in
     let r = c .before .before .before .before .before .before .before .read-slot in
     let o = c .before .before .before .before .before .before .before .before .before .loop-test .taken in
-    let q = r .ensures ∙ ap slotOf (part-slot s d) in
+    let q = r .ensures ∙ ap asSlot (part-slot s d) in
     handed-back s (A.Refused 18 d) (st .result) emptyStation (st .ensures)
     (refused-repeated s (l .loop .entries) (l .loop .txns) (l .loop .found) d (l .loop .inv) o (r .result) q (l .before .before .before .if1 .left) (c .before .before .before .enum-told3 .given .1) (sym (c .before .has-txn .ensures) ∙ c .if2 .taken))
 
@@ -116,7 +116,7 @@ loop-again c =
     let d = l .loop .d in
     let r = c .before .before .before .read-slot in
     let o = c .before .before .before .before .before .loop-test .taken in
-    let q = r .ensures ∙ ap slotOf (part-slot s d) in
+    let q = r .ensures ∙ ap asSlot (part-slot s d) in
     let p = Passed s (set (l .loop .entries) d (r .result .entry)) (set (l .loop .txns) d (r .result .entry .id .txn)) in
     ⊎-elim
     (λ w. subst (λ (k : ℕ). p k (d + 1)) (sym (w .2)) (passed-free s (l .loop .entries) (l .loop .txns) (l .loop .found) d (l .loop .inv) o (r .result) q (w .1 .given .1)))

@@ -1,15 +1,13 @@
 use Prim.Native.Nat.{_+_, _-_, _≤_, _<_}
 use mathlib.Core.Path.{_≡_, refl, sym, ap, _∙_}
 use mathlib.Core.Bool.{Bool, true}
-use mathlib.Core.List.{[]}
 use native.Mathlib.Omega.{arith}
 use lib.ListN.{length, drop, getD, length-map}
 use borrow.Author.Needs.{needs}
 use borrow.Author.Tests.{not-true, not-false}
 use Rattle.model.specs.declared.Live.{Live}
-use Rattle.model.specs.declared.Phase.the-variants.{Unused}
 use Rattle.model.specs.Lists.{_and_, all}
-use Rattle.model.specs.Stations.{readsOf}
+use Rattle.model.specs.Lives.{readsOf, liveBeyond}
 use Rattle.soundness.specs.Parts.{shape, namedBy, placeFits}
 use Rattle.soundness.proofs.Loops.{all-more, all-stop, all-end, all-split}
 use Rattle.soundness.proofs.PartLaws.{place-wrong, place-reads, place-unread, unnamed, named-stop, named-more, named-end}
@@ -73,7 +71,7 @@ loop-again c =
     let ts = s .args .txns .now in
     let i = a .loop .i in
     let h : length (st .live) ≡ 8 = simp length-map at (s .good .0 .1 .1 .0 .1 .0 .1) in
-    let e : shape (getD (st .live) i (record { txn = 0; phase = Unused; «write_count» = 0; writes = []; «read_count» = 0; reads = [] })) ≡ true = sym (c .before .before .before .before .live-right .ensures) ∙ not-false _ (c .before .before .before .if1 .left) in
+    let e : shape (getD (st .live) i liveBeyond) ≡ true = sym (c .before .before .before .before .live-right .ensures) ∙ not-false _ (c .before .before .before .if1 .left) in
     (omega arith, a .loop .inv .1 ∙ all-more (placeFits (st .entries) ts) (st .live) i _ (omega arith) (place-unread (st .entries) ts _ e (omega (arith, c .before .read-count .ensures .0, c .if2 .taken))))
 
 mul-reader : tie.Need-mul-reader Inv-loop2 μ-loop2 Inv-loop μ-loop
@@ -90,7 +88,7 @@ loop2-holds c =
     let ts = s .args .txns .now in
     let i = a .loop .i in
     let h : length (st .live) ≡ 8 = simp length-map at (s .good .0 .1 .1 .0 .1 .0 .1) in
-    let e : shape (getD (st .live) i (record { txn = 0; phase = Unused; «write_count» = 0; writes = []; «read_count» = 0; reads = [] })) ≡ true = sym (c .before .before .before .before .before .live-right .ensures) ∙ not-false _ (c .before .before .before .before .if1 .left) in
+    let e : shape (getD (st .live) i liveBeyond) ≡ true = sym (c .before .before .before .before .before .live-right .ensures) ∙ not-false _ (c .before .before .before .before .if1 .left) in
     (omega arith, a .loop .inv .1 ∙ all-split (placeFits (st .entries) ts) (st .live) i _ (omega arith) ∙ ap (λ (b : Bool). b and all (placeFits (st .entries) ts) (drop (i + 1) (st .live))) (place-reads (st .entries) ts _ e))
 
 mul-read : tie.Need-mul-read Inv-loop2 μ-loop2 Inv-loop μ-loop
@@ -110,7 +108,7 @@ returns-2 c =
     let ls = a .before .before .args .t1 .live in
     let ts = a .before .before .args .txns .now in
     let i = a .loop .i in
-    let l : Live = getD ls i (record { txn = 0; phase = Unused; «write_count» = 0; writes = []; «read_count» = 0; reads = [] }) in
+    let l : Live = getD ls i liveBeyond in
     let j = m .loop2 .j in
     let rest : Bool = all (placeFits es ts) (drop (i + 1) ls) in
     let o : j < length (readsOf l) = omega (arith, m .before .before .before .read-count .ensures .0) in
@@ -133,7 +131,7 @@ returns-3 c =
     let ls = a .before .before .args .t1 .live in
     let ts = a .before .before .args .txns .now in
     let i = a .loop .i in
-    let l : Live = getD ls i (record { txn = 0; phase = Unused; «write_count» = 0; writes = []; «read_count» = 0; reads = [] }) in
+    let l : Live = getD ls i liveBeyond in
     let j = m .loop2 .j in
     let rest : Bool = all (placeFits es ts) (drop (i + 1) ls) in
     let o : j < length (readsOf l) = omega (arith, m .before .before .before .read-count .ensures .0) in
@@ -154,7 +152,7 @@ loop2-again c =
     let ls = a .before .before .args .t1 .live in
     let ts = a .before .before .args .txns .now in
     let i = a .loop .i in
-    let l : Live = getD ls i (record { txn = 0; phase = Unused; «write_count» = 0; writes = []; «read_count» = 0; reads = [] }) in
+    let l : Live = getD ls i liveBeyond in
     let j = m .loop2 .j in
     let rest : Bool = all (placeFits es ts) (drop (i + 1) ls) in
     let o : j < length (readsOf l) = omega (arith, m .before .before .before .read-count .ensures .0) in
@@ -175,7 +173,7 @@ loop-again-2 c =
     let ls = a .before .before .args .t1 .live in
     let ts = a .before .before .args .txns .now in
     let i = a .loop .i in
-    let l : Live = getD ls i (record { txn = 0; phase = Unused; «write_count» = 0; writes = []; «read_count» = 0; reads = [] }) in
+    let l : Live = getD ls i liveBeyond in
     let j = m .loop2 .j in
     let rest : Bool = all (placeFits es ts) (drop (i + 1) ls) in
     let o : length (readsOf l) ≤ j = omega (arith, m .before .before .before .read-count .ensures .0) in

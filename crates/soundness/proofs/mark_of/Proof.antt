@@ -1,6 +1,6 @@
 use native.Mathlib.Numerals.{add-one}
 use borrow.Author.Needs.{needs}
-use Rattle.model.specs.Stations.{slotMark}
+use Rattle.model.specs.Lives.{slotMark}
 use Rattle.soundness.proofs.mark_of.Statement.{statement}
 use Rattle.soundness.proofs.mark_of.Tie as tie
 

@@ -4,12 +4,12 @@ use mathlib.Core.List.{[], _++_, append-nil}
 use native.Mathlib.Omega.{arith}
 use lib.ListN.{length, take, getD, set, length-map, length-set}
 use borrow.Author.Needs.{needs}
-use Rattle.model.specs.Ids.{noId}
 use Rattle.soundness.specs.Parts.{liveColumn, heldColumn}
 use Rattle.soundness.proofs.Loops.{column-more}
 use Rattle.soundness.proofs.PartLaws.{live-at, held-txn-at, txn-column-end}
 use Rattle.soundness.proofs.txns_of.Statement.{statement}
 use Rattle.soundness.proofs.txns_of.Tie as tie
+use Rattle.model.specs.Entries.{entryBeyond}
 
 abbrev Inv-loop : tie.InvT-loop
 Inv-loop live entries txns₀ i₀ txns i = (i ≤ 8) × (length txns ≡ 72) × (take i txns ≡ take i (liveColumn live))
@@ -84,7 +84,7 @@ loop2-again c =
     let x : 8 + (d + 1) ≡ 8 + d + 1 = omega arith in (
       omega arith,
       simp length-set (l .loop2 .inv .1),
-      ap (λ (k : ℕ). take k (set (l .loop2 .txns) (8 + d) (getD es d (record { id = noId; count = 0; keys = [] }) .id .txn))) x ∙ column-more (take 8 (l .before .before .loop .txns)) (l .loop2 .txns) (heldColumn es) (8 + d) d _ (omega arith) (omega arith) (sym (held-txn-at es d)) (l .loop2 .inv .2),
+      ap (λ (k : ℕ). take k (set (l .loop2 .txns) (8 + d) (getD es d entryBeyond .id .txn))) x ∙ column-more (take 8 (l .before .before .loop .txns)) (l .loop2 .txns) (heldColumn es) (8 + d) d _ (omega arith) (omega arith) (sym (held-txn-at es d)) (l .loop2 .inv .2),
     )
 
 returns : tie.Need-returns Inv-loop μ-loop Inv-loop2 μ-loop2

@@ -7,7 +7,7 @@ use lib.ListN.{length, drop, getD}
 use borrow.Author.Needs.{needs}
 use borrow.Author.Tests.{eq-eqb, ne-eqb}
 use Rattle.model.specs.Lists.{any, member}
-use Rattle.model.specs.Stations.{keysOf, wrote}
+use Rattle.model.specs.Entries.{keysOf, wrote}
 use Rattle.soundness.proofs.Loops.{any-more, any-stop, any-end}
 use Rattle.soundness.proofs.PartLaws.{key-at, keys-longer, keys-shorter}
 use Rattle.soundness.proofs.wrote_key.Statement.{statement}

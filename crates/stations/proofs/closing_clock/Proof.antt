@@ -1,6 +1,6 @@
 -- `stations::closing_clock` meets its contract. Assumes nothing.
 use borrow.Author.Needs.{needs}
-use Rattle.model.specs.Stations.{closingClock}
+use Rattle.model.specs.Lives.{closingClock}
 use Rattle.stations.proofs.closing_clock.Statement.{statement}
 use Rattle.stations.proofs.closing_clock.Tie as tie
 

@@ -6,14 +6,14 @@ use lib.ListN.{length, replicate, take, drop, length-map}
 use native.Mathlib.Omega.{arith}
 use borrow.Author.Needs.{needs}
 use Rattle.model.specs.Lists.{first}
-use Rattle.stations.specs.Found.{phaseMark}
-use Rattle.stations.proofs.Defaults.{pastLive}
+use Rattle.stations.specs.Found.{liveMark}
 use Rattle.stations.proofs.Fill.{fill-all, fill-map}
 use Rattle.stations.proofs.closing_slots.Statement.{statement}
 use Rattle.stations.proofs.closing_slots.Tie as tie
+use Rattle.model.specs.Lives.{liveBeyond}
 
 abbrev Inv-loop : tie.InvT-loop
-Inv-loop live marks₀ i₀ marks i = (i ≤ 8) × (marks ≡ take i (map phaseMark live) ++ drop i marks₀)
+Inv-loop live marks₀ i₀ marks i = (i ≤ 8) × (marks ≡ take i (map liveMark live) ++ drop i marks₀)
 
 abbrev μ-loop : tie.MeasureT-loop
 μ-loop live marks₀ i₀ marks i = 8 - i
@@ -46,13 +46,13 @@ loop-again : tie.Need-loop-again Inv-loop μ-loop
 loop-again c =
     let a = c .before .before .before .before .args in
     let z : length (a .t1) ≡ 8 = search needs in
-    (omega arith, fill-map phaseMark (a .t1) _ _ _ pastLive _ (omega arith) (omega arith) (c .before .before .before .loop .inv .1) (c .slot-mark .ensures))
+    (omega arith, fill-map liveMark (a .t1) _ _ _ liveBeyond _ (omega arith) (omega arith) (c .before .before .before .loop .inv .1) (c .slot-mark .ensures))
 
 returns : tie.Need-returns Inv-loop μ-loop
 returns c =
     let z : length (c .before .before .args .t1) ≡ 8 = search needs in
     let q : c .before .loop .i ≡ 8 = omega arith in
-    fill-all (map phaseMark (c .before .before .args .t1)) (replicate 8 0) _ 8 (length-map (c .before .before .args .t1) phaseMark ∙ z) refl (rw q at (c .before .loop .inv .1))
+    fill-all (map liveMark (c .before .before .args .t1)) (replicate 8 0) _ 8 (length-map (c .before .before .args .t1) liveMark ∙ z) refl (rw q at (c .before .loop .inv .1))
 
 pub closing-slots-spec : {M : Type 1} → statement M
 closing-slots-spec =

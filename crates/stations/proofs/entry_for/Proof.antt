@@ -1,6 +1,6 @@
 -- `stations::entry_for` meets its contract. Assumes nothing.
 use borrow.Author.Needs.{needs}
-use Rattle.model.specs.Step.{entryFor}
+use Rattle.model.specs.Entries.{entryFor}
 use Rattle.stations.proofs.entry_for.Statement.{statement}
 use Rattle.stations.proofs.entry_for.Tie as tie
 

@@ -2,7 +2,7 @@
 use mathlib.Core.Path.{_≡_, sym}
 use lib.ListN.{length, length-map}
 use borrow.Author.Needs.{needs}
-use Rattle.model.specs.Stations.{readKey, readsOf}
+use Rattle.model.specs.Lives.{readKey, readsOf}
 use Rattle.stations.proofs.Search.{key-position}
 use Rattle.stations.proofs.Sets.{has-read}
 use Rattle.stations.proofs.has_read.Statement.{statement}

@@ -2,7 +2,7 @@
 use mathlib.Core.Path.{_≡_, sym}
 use lib.ListN.{length, length-map}
 use borrow.Author.Needs.{needs}
-use Rattle.model.specs.Stations.{writeKey, writesOf}
+use Rattle.model.specs.Lives.{writeKey, writesOf}
 use Rattle.stations.proofs.Search.{key-position}
 use Rattle.stations.proofs.Sets.{has-written}
 use Rattle.stations.proofs.has_written.Statement.{statement}

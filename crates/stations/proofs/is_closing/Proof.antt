@@ -1,5 +1,5 @@
 use borrow.Author.Needs.{needs}
-use Rattle.model.specs.Stations.{isClosing}
+use Rattle.model.specs.Lives.{isClosing}
 use Rattle.stations.proofs.is_closing.Statement.{statement}
 use Rattle.stations.proofs.is_closing.Tie as tie
 

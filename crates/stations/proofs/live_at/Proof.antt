@@ -5,9 +5,9 @@ use lib.ListN.{getD}
 use native.Mathlib.Omega.{arith}
 use borrow.Author.Needs.{needs}
 use Rattle.model.specs.Stations.{liveAt}
-use Rattle.stations.proofs.Defaults.{pastLive}
 use Rattle.stations.proofs.live_at.Statement.{statement}
 use Rattle.stations.proofs.live_at.Tie as tie
+use Rattle.model.specs.Lives.{liveBeyond}
 
 abbrev Inv-loop : tie.InvT-loop
 Inv-loop place live i₀ i = (i ≤ 7) × (i ≤ place)
@@ -26,7 +26,7 @@ array-copy-out-result c = search needs
 
 returns : tie.Need-returns Inv-loop μ-loop
 unfolding liveAt
-returns c = ap (λ i. getD (c .before .before .before .before .args .t1) i pastLive) (c .before .if1 .taken)
+returns c = ap (λ i. getD (c .before .before .before .before .args .t1) i liveBeyond) (c .before .if1 .taken)
 
 add-i : tie.Need-add-i Inv-loop μ-loop
 add-i c = search needs
@@ -44,7 +44,7 @@ returns-2 : tie.Need-returns-2 Inv-loop μ-loop
 unfolding liveAt
 returns-2 c =
     let q : 7 ≡ c .before .before .before .args .place = omega arith in
-    ap (λ i. getD (c .before .before .before .args .t1) i pastLive) q
+    ap (λ i. getD (c .before .before .before .args .t1) i liveBeyond) q
 
 pub live-at-spec : {M : Type 1} → statement M
 live-at-spec =

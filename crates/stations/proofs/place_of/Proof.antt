@@ -8,14 +8,14 @@ use native.Mathlib.Omega.{arith}
 use borrow.Author.Needs.{needs}
 use borrow.Author.Tests.{eq-eqb, ne-eqb}
 use Rattle.model.specs.Lists.{first}
-use Rattle.stations.proofs.Defaults.{pastLive}
 use Rattle.stations.proofs.Search.{firstFrom, from-start, from-hit, from-miss, from-end, first-whole}
 use Rattle.stations.specs.Found.{liveTxn}
 use Rattle.stations.proofs.place_of.Statement.{statement}
 use Rattle.stations.proofs.place_of.Tie as tie
+use Rattle.model.specs.Lives.{liveBeyond}
 
 abbrev Inv-loop : tie.InvT-loop
-Inv-loop txn live i₀ i = (i ≤ 8) × (first (eqb txn) (map liveTxn live) ≡ firstFrom (λ k. eqb txn (liveTxn (getD live k pastLive))) i (8 - i))
+Inv-loop txn live i₀ i = (i ≤ 8) × (first (eqb txn) (map liveTxn live) ≡ firstFrom (λ k. eqb txn (liveTxn (getD live k liveBeyond))) i (8 - i))
 
 abbrev μ-loop : tie.MeasureT-loop
 μ-loop txn live i₀ i = 8 - i
@@ -23,7 +23,7 @@ abbrev μ-loop : tie.MeasureT-loop
 loop-holds : tie.Need-loop-holds Inv-loop μ-loop
 loop-holds c =
     let z : length (c .args .t1) ≡ 8 = search needs in
-    (omega arith, first-whole liveTxn (c .args .txn) (c .args .t1) pastLive 8 z ∙ from-start _ 8 8 refl)
+    (omega arith, first-whole liveTxn (c .args .txn) (c .args .t1) liveBeyond 8 z ∙ from-start _ 8 8 refl)
 
 mul-l : tie.Need-mul-l Inv-loop μ-loop
 mul-l c = search needs

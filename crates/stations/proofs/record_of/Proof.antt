@@ -7,8 +7,7 @@ use native.Mathlib.Omega.{arith}
 use native.Mathlib.Numerals.{add-one}
 use borrow.Author.Needs.{needs}
 use Rattle.model.specs.Lists.{first}
-use Rattle.model.specs.Stations.{keysOf}
-use Rattle.model.specs.Records.{recordOf}
+use Rattle.model.specs.Entries.{keysOf, recordOf}
 use Rattle.stations.proofs.Search.{first-within}
 use Rattle.stations.proofs.record_of.Statement.{statement}
 use Rattle.stations.proofs.record_of.Tie as tie

@@ -1,7 +1,7 @@
 -- `stations::slot_mark` meets its contract. Assumes nothing.
 use native.Mathlib.Numerals.{add-one}
 use borrow.Author.Needs.{needs}
-use Rattle.model.specs.Stations.{slotMark}
+use Rattle.model.specs.Lives.{slotMark}
 use Rattle.stations.proofs.slot_mark.Statement.{statement}
 use Rattle.stations.proofs.slot_mark.Tie as tie
 

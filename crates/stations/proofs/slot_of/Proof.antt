@@ -9,13 +9,13 @@ use borrow.Author.Needs.{needs}
 use borrow.Author.Tests.{eq-eqb, ne-eqb}
 use Rattle.model.specs.Lists.{first}
 use Rattle.stations.specs.Found.{entryTxn}
-use Rattle.stations.proofs.Defaults.{pastEntry}
 use Rattle.stations.proofs.Search.{firstFrom, from-start, from-hit, from-miss, from-end, first-whole}
 use Rattle.stations.proofs.slot_of.Statement.{statement}
 use Rattle.stations.proofs.slot_of.Tie as tie
+use Rattle.model.specs.Entries.{entryBeyond}
 
 abbrev Inv-loop : tie.InvT-loop
-Inv-loop txn entries i₀ i = (i ≤ 64) × (first (eqb txn) (map entryTxn entries) ≡ firstFrom (λ k. eqb txn (entryTxn (getD entries k pastEntry))) i (64 - i))
+Inv-loop txn entries i₀ i = (i ≤ 64) × (first (eqb txn) (map entryTxn entries) ≡ firstFrom (λ k. eqb txn (entryTxn (getD entries k entryBeyond))) i (64 - i))
 
 abbrev μ-loop : tie.MeasureT-loop
 μ-loop txn entries i₀ i = 64 - i
@@ -23,7 +23,7 @@ abbrev μ-loop : tie.MeasureT-loop
 loop-holds : tie.Need-loop-holds Inv-loop μ-loop
 loop-holds c =
     let z : length (c .args .t1) ≡ 64 = search needs in
-    (omega arith, first-whole entryTxn (c .args .txn) (c .args .t1) pastEntry 64 z ∙ from-start _ 64 64 refl)
+    (omega arith, first-whole entryTxn (c .args .txn) (c .args .t1) entryBeyond 64 z ∙ from-start _ 64 64 refl)
 
 mul-e : tie.Need-mul-e Inv-loop μ-loop
 mul-e c = search needs

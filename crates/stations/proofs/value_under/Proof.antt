@@ -4,7 +4,7 @@ use mathlib.Core.Path.{_≡_}
 use lib.ListN.{length, length-map}
 use native.Mathlib.Omega.{arith}
 use borrow.Author.Needs.{needs}
-use Rattle.model.specs.Stations.{writeKey, writesOf}
+use Rattle.model.specs.Lives.{writeKey, writesOf}
 use Rattle.stations.proofs.Search.{key-position}
 use Rattle.stations.proofs.Sets.{written-below, value-there}
 use Rattle.stations.proofs.value_under.Statement.{statement}

@@ -1,6 +1,6 @@
 -- `stations::with_phase` meets its contract. Assumes nothing.
 use borrow.Author.Needs.{needs}
-use Rattle.model.specs.Commit.{withPhase}
+use Rattle.model.specs.Lives.{withPhase}
 use Rattle.stations.proofs.with_phase.Statement.{statement}
 use Rattle.stations.proofs.with_phase.Tie as tie
 

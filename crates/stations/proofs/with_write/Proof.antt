@@ -1,12 +1,11 @@
 -- `stations::with_write` meets its contract. Assumes nothing.
 use mathlib.Core.Path.{_≡_}
 use mathlib.Core.Logic.{⊎-elim}
-use lib.Dec.{leb}
 use lib.ListN.{length, length-map}
 use native.Mathlib.Omega.{arith}
 use borrow.Author.Needs.{needs}
 use Rattle.model.specs.Lists.{first}
-use Rattle.model.specs.Stations.{writeKey, writesOf}
+use Rattle.model.specs.Lives.{writeKey, writesOf}
 use Rattle.model.proofs.SoundLaws.{write-limit}
 use Rattle.stations.specs.Found.{atLeast}
 use Rattle.stations.proofs.Search.{key-place}

@@ -10,9 +10,10 @@ use borrow.Author.Needs.{needs}
 use borrow.Author.Tests.{not-true, not-false}
 use Rattle.model.specs.declared.Station.{Station}
 use Rattle.model.specs.Limits.{slots, slotSize, storeSize}
-use Rattle.model.specs.Records.{zeroRecord, carriesEntry, recordAt}
-use Rattle.model.specs.Sound.{sound}
+use Rattle.model.specs.Entries.{carriesEntry}
 use Rattle.model.specs.Stations.{entryAt}
+use Rattle.model.specs.Records.{zeroRecord, recordAt}
+use Rattle.model.specs.Sound.{sound}
 use Rattle.model.specs.Supersedence.{superseded, isReadBy, isRead}
 use Rattle.storing.proofs.CollectRows.{collect-1, collect-2, collect-out, collect-unheld, collect-15, collect-16, collect-17, collect-on}
 use Rattle.storing.proofs.Parts.{record-part, handed, handed-storing}

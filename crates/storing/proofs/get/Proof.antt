@@ -10,12 +10,14 @@ use borrow.Author.Needs.{needs}
 use borrow.Author.Tests.{not-true, not-false}
 use Rattle.model.specs.declared.Live.{Live}
 use Rattle.model.specs.declared.Station.{Station}
-use Rattle.model.specs.Get.{choiceOf, versionAt, noRoom}
 use Rattle.model.specs.Limits.{slots, storeSize}
-use Rattle.model.specs.Reading.{Choice, version, choose}
+use Rattle.model.specs.Lives.{readsOf, isClosing}
+use Rattle.model.specs.Entries.{wrote}
+use Rattle.model.specs.Stations.{liveAt, entryAt}
 use Rattle.model.specs.Records.{carriesVersion}
 use Rattle.model.specs.Sound.{sound}
-use Rattle.model.specs.Stations.{readsOf, wrote, isClosing, liveAt, entryAt}
+use Rattle.model.specs.Reading.{Choice, version, choose}
+use Rattle.model.specs.Get.{choiceOf, versionAt, noRoom}
 use Rattle.model.proofs.GetLaws.{version-entry}
 use Rattle.model.proofs.SoundLaws.{Used, write-limit, read-limit}
 use Rattle.reading.specs.Choosing.{chosenAs, IsReader}

@@ -3,7 +3,7 @@ use mathlib.Core.Path.{refl, sym, _∙_}
 use mathlib.Core.Bool.{not}
 use borrow.Author.Needs.{needs}
 use Rattle.model.specs.Lists.{_and_}
-use Rattle.model.specs.Stations.{hasRead}
+use Rattle.model.specs.Lives.{hasRead}
 use Rattle.model.proofs.Tests.{not-of-true, and-none-left}
 use Rattle.storing.proofs.no_read_room.Statement.{statement}
 use Rattle.storing.proofs.no_read_room.Tie as tie

@@ -1,18 +1,17 @@
--- The numbers of a station are in the ranges of their types, and its arrays have their lengths: so it is with every station that a
--- function is handed (proofs/Handed).
+-- Values within their types: numbers in their ranges, arrays of their lengths. Every station that a function is handed is (image's proofs/Handed).
 use Prim.Native.Nat.{ℕ, _<_}
 use mathlib.Core.Path.{_≡_}
 use mathlib.Core.List.{List, [], _∷_}
 use lib.ListN.{length}
 use Rattle.model.specs.declared.Id.{Id}
 use Rattle.model.specs.declared.Write.{Write}
 use Rattle.model.specs.declared.Read.{Read}
 use Rattle.model.specs.declared.Live.{Live}
 use Rattle.model.specs.declared.Entry.{Entry}
 use Rattle.model.specs.declared.Station.{Station}
 use Rattle.model.specs.declared.Phase.{Phase}
 use Rattle.model.specs.Limits.{livePlaces, slots, writeLimit, readLimit, txnRange, numberRange, byteRange}
-use Rattle.model.specs.Stations.{closingSlot, closingClock, recordsStored}
+use Rattle.model.specs.Lives.{closingSlot, closingClock, recordsStored}
 
 module _ {A : Type 0} where
   -- all elements have a property
