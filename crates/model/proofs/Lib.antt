@@ -4,6 +4,7 @@ pub mod DistinctLaws
 pub mod InsertLaws
 pub mod IdLaws
 pub mod RefusalLaws
+pub mod StoreLaws
 pub mod RecordLaws
 pub mod SlotLaws
 pub mod ScanLaws

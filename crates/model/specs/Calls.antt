@@ -4,7 +4,8 @@ use mathlib.Core.Bool.{Bool, true, false}
 use mathlib.Core.List.{List, [], _∷_}
 use Rattle.model.specs.declared.Station.{Station}
 use Rattle.model.specs.declared.Answer.{Answer}
-use Rattle.model.specs.Limits.{txnRange, numberRange, byteRange}
+use Rattle.model.specs.Limits.{txnRange, numberRange}
+use Rattle.model.specs.Ranges.{IsByte}
 use Rattle.model.specs.Effects.{Effect, stored}
 use Rattle.model.specs.Start.{start}
 use Rattle.model.specs.Put.{put}
@@ -77,9 +78,12 @@ numberOf (Abort t) = 0
 numberOf (Collect d) = 0
 numberOf Scan = 0
 
--- the numbers are in the ranges of their types
+-- transaction and number are in 01's ranges (a key or slot may be any number: what is too great is refused); all three in their types'
 abbrev pub InRange : Call → Type 0
-InRange c = (txnOf c < txnRange) × (keyOf c < byteRange) × (numberOf c < numberRange)
+InRange c = (txnOf c < txnRange) × (numberOf c < numberRange)
+
+abbrev pub IsTyped : Call → Type 0
+IsTyped c = InRange c × IsByte (keyOf c)
 
 -- the answers to calls made one after the other
 unfoldable pub answers : List Call → Station → List ℕ → List Answer
