@@ -1,4 +1,5 @@
-/* A day at the desk, in C: a job is committed, power goes while the next one closes, and a scan starts the desk again. */
+/* A day at the desk, in C: a job is committed, power goes while the next one closes, and a scan starts the desk again. The host's disk is an
+ * array beside the store: each record goes there, 24 bytes at a time, when it is written and before the next request. */
 #include "gorehimu.h"
 #include <stdio.h>
 
@@ -7,17 +8,47 @@ static const char *const kinds[] = {"?",    "started", "kept",   "own",     "ver
 
 static uint8_t store[GOREHIMU_STORE];
 static uint8_t image[GOREHIMU_IMAGE];
+static uint8_t disk[GOREHIMU_STORE];
 
-static uint64_t say(const char *what, enum gorehimu_verb verb, uint32_t transaction, uint8_t key, uint64_t number) {
+static struct gorehimu_answer say(const char *what, uint64_t verb, uint64_t transaction, uint64_t key, uint64_t number) {
     struct gorehimu_answer r = gorehimu_ask(image, store, verb, transaction, key, number);
     printf("%-28s %s %llu %llu %llu\n", what, kinds[r.kind], (unsigned long long)r.a, (unsigned long long)r.b, (unsigned long long)r.c);
-    return r.kind;
+    return r;
+}
+
+/* Brings record n of a slot to the disk. */
+static void keep(uint64_t slot, uint64_t n) {
+    size_t place = gorehimu_record_place(slot, n);
+    if (place < GOREHIMU_STORE) memcpy(disk + place, store + place, GOREHIMU_RECORD);
+}
+
+/* A step of a transaction that closes in a slot, n of its version records being stored; returns how many are then, or -1 after the last step. */
+static int step(uint64_t transaction, uint64_t slot, int n) {
+    switch (say("step", GOREHIMU_STEP, transaction, 0, 0).kind) {
+    case GOREHIMU_STORED:
+        keep(slot, (uint64_t)++n);
+        return n;
+    case GOREHIMU_SLIPPED:
+        keep(slot, 0);
+        return n;
+    default:
+        return -1;
+    }
 }
 
 /* Steps until the transaction is acknowledged. */
-static void close_all(uint32_t transaction) {
-    while (say("step", GOREHIMU_STEP, transaction, 0, 0) != GOREHIMU_DONE) {
+static void close_all(uint64_t transaction, struct gorehimu_answer closing) {
+    for (int n = 0; n >= 0; n = step(transaction, closing.a, n)) {
     }
+}
+
+/* Power went: the disk is what is left. */
+static int start_again(void) {
+    uint8_t answer[GOREHIMU_ANSWER];
+    memcpy(store, disk, sizeof store);
+    if (gorehimu_recover(image, sizeof image, store, sizeof store, answer, sizeof answer)) return 1;
+    printf("%-28s %s %llu\n", "recover", kinds[answer[0]], (unsigned long long)gorehimu_read_answer(answer).a);
+    return 0;
 }
 
 int main(void) {
@@ -25,25 +56,32 @@ int main(void) {
     say("start 1", GOREHIMU_START, 1, 0, 0);
     say("put copies", GOREHIMU_PUT, 1, 0, 400);
     say("put counter", GOREHIMU_PUT, 1, 1, 7);
-    say("commit at 100", GOREHIMU_COMMIT, 1, 0, 100);
-    close_all(1);
+    close_all(1, say("commit at 100", GOREHIMU_COMMIT, 1, 0, 100));
 
     say("start 2", GOREHIMU_START, 2, 0, 0);
     say("put counter", GOREHIMU_PUT, 2, 1, 8);
-    say("commit at 101", GOREHIMU_COMMIT, 2, 0, 101);
-    say("step", GOREHIMU_STEP, 2, 0, 0);
+    struct gorehimu_answer closing = say("commit at 101", GOREHIMU_COMMIT, 2, 0, 101);
+    step(2, closing.a, 0);
 
-    /* power goes: what the image held is lost, the store is as it is */
+    /* power goes: what image and store held is lost, the disk is as it is */
     memset(image, 0xff, sizeof image);
+    memset(store, 0xff, sizeof store);
     say("start 3, no station", GOREHIMU_START, 3, 0, 0);
-    uint8_t answer[GOREHIMU_ANSWER];
-    if (gorehimu_recover(image, sizeof image, store, sizeof store, answer, sizeof answer)) return 1;
-    printf("%-28s %s %llu\n", "recover", kinds[answer[0]], (unsigned long long)gorehimu_read_answer(answer).a);
+    if (start_again()) return 1;
     say("start 3", GOREHIMU_START, 3, 0, 0);
     say("get counter", GOREHIMU_GET, 3, 1, 0);
     say("get copies", GOREHIMU_GET, 3, 0, 0);
     say("commit 1 again", GOREHIMU_COMMIT, 1, 0, 999);
-    say("commit 2, lost", GOREHIMU_COMMIT, 2, 0, 101);
+    if (say("commit 2, lost", GOREHIMU_COMMIT, 2, 0, 101).a != GOREHIMU_NOT_LIVE) return 1;
     say("abort 3", GOREHIMU_ABORT, 3, 0, 0);
-    return 0;
+
+    /* a newer job over the same keys: the older one's slot can be freed */
+    say("start 4", GOREHIMU_START, 4, 0, 0);
+    say("put copies", GOREHIMU_PUT, 4, 0, 250);
+    say("put counter", GOREHIMU_PUT, 4, 1, 8);
+    if (say("put 256, no key", GOREHIMU_PUT, 4, 256, 1).a != GOREHIMU_MALFORMED) return 1;
+    close_all(4, say("commit at 102", GOREHIMU_COMMIT, 4, 0, 102));
+    if (say("collect 63", GOREHIMU_COLLECT, 0, 63, 0).kind == GOREHIMU_COLLECTED) keep(63, 0);
+    printf("%-28s %s\n", "disk", memcmp(disk, store, sizeof store) == 0 ? "as the store" : "not as the store");
+    return start_again();
 }

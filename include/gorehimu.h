@@ -10,12 +10,20 @@
  * Build: rt staticlib interface, then link target/staticlib/libinterface.a. Its functions are proved to do what is said here for any
  * bytes whatever; the definitions are in crates/interface/specs and crates/model/specs.
  *
- * To survive a loss of power, bring the store's bytes to where they last after each request that wrote a record (answers stored, slipped
- * and collected) and before the next: then send one such request in a call. A record is 24 bytes, and must be written whole or not at
- * all.
+ * To survive a loss of power, bring the record that a request wrote, 24 bytes, whole or not at all, to where the store lasts before the
+ * next request; so let a request that writes one (step, collect) be the last of its call. The store is 64 slots of 9 records: record n of
+ * a slot begins at byte 24 * (9 * slot + n), which is gorehimu_record_place(slot, n). Record 0 is the commit record, 1 to 8 are version
+ * records. The answer tells which was written:
  *
- * Each pointer must be valid for its length; no alignment is needed. What is lent to one call must not overlap, nor be touched by others
- * meanwhile. Allow 128 KB of stack.
+ *   stored      the nth such answer to a transaction since its closing: record n of the slot that closing gave (several transactions may be
+ *               closing at once: keep the slot and n of each)
+ *   slipped     record 0 of slot a
+ *   collected   record 0 of the slot asked
+ *
+ * With any other answer no byte of the store was written. examples/desk.c is a host that does so.
+ *
+ * Each pointer must be valid for its length, and may be NULL where that is 0; no alignment is needed. What is lent to one call must not
+ * overlap, nor be touched by others meanwhile. Allow 128 KB of stack.
  */
 #ifndef GOREHIMU_H
 #define GOREHIMU_H
@@ -32,6 +40,7 @@ extern "C" {
 #define GOREHIMU_IMAGE 4800
 #define GOREHIMU_REQUEST 16
 #define GOREHIMU_ANSWER 32
+#define GOREHIMU_RECORD 24
 
 /* What a request asks. Fields that a verb does not name are 0.
  *
@@ -42,7 +51,7 @@ extern "C" {
  *   step     transaction                 stores its next record; the last step acknowledges
  *   abort    transaction                 forgets an open transaction
  *   collect  key                         frees a slot (0 to 63) whose entry is superseded and read by no one
- *   scan                                 drops the station and reads it off the store; refused (1, 18), the station is the empty one
+ *   scan                                 drops the station and reads it off the store; where that is refused, the station is the empty one
  */
 enum gorehimu_verb {
     GOREHIMU_START = 1,
@@ -66,36 +75,36 @@ enum gorehimu_kind {
     GOREHIMU_CLOSING = 7,   /* commit: a the slot; now step until done */
     GOREHIMU_EMPTY = 8,     /* commit: nothing was put, the transaction is over */
     GOREHIMU_DONE = 9,      /* commit of a committed transaction, or the last step: b the clock, c the transaction */
-    GOREHIMU_STORED = 10,   /* step: a the key whose version record was written */
+    GOREHIMU_STORED = 10,   /* step: a the key whose version record was written; keys come from the lowest up */
     GOREHIMU_SLIPPED = 11,  /* step: a the slot; the commit record was written, the transaction is committed */
     GOREHIMU_DROPPED = 12,  /* abort */
     GOREHIMU_COLLECTED = 13,/* collect: b and c the clock and the transaction whose entry is gone */
     GOREHIMU_FOUND = 14,    /* scan: a how many transactions the store holds */
-    GOREHIMU_REFUSED = 15   /* a the number below (b the slot with 18); station and store are as they were */
+    GOREHIMU_REFUSED = 15   /* a the number below, b the slot with 18. Store and station are as they were; after a scan the station is empty */
 };
 
-/* Why a request is refused: where several apply, the lowest.
- *
- *    1  the store has not GOREHIMU_STORE bytes (get, step, collect, scan)
- *    2  the image is no sound station (every verb but scan)
- *    3  the transaction is 0
- *    4  the key is above 63 (put, get)
- *    5  the clock is 0 (commit)
- *    6  the transaction is live or held already (start)
- *    7  eight transactions are live (start)
- *    8  the transaction is not live (commit: nor held)
- *    9  the transaction is closing (put, get, commit, abort)
- *   10  the transaction is not closing (step)
- *   11  its write set has 8 other keys (put)
- *   12  its read set has 16 other keys (get)
- *   13  no slot is free (commit): collect one
- *   14  the slot holds no entry (collect)
- *   15  the entry is the newest for a key that it wrote (collect)
- *   16  a live transaction has read the entry (collect)
- *   17  the record in the store is not the station's: the store was changed from outside (get, collect)
- *   18  the store is damaged in slot b (scan): the station is then the empty one
- *   19  the request is not of the form: an unknown verb, or a field that must be 0 is not
- */
+/* Why a request is refused. 19 comes before all others; of the rest, where several apply, the lowest. */
+enum gorehimu_refusal {
+    GOREHIMU_STORE_LENGTH = 1,      /* get, step, collect, scan: the store has not GOREHIMU_STORE bytes */
+    GOREHIMU_UNSOUND = 2,           /* every verb but scan: the image is no sound station */
+    GOREHIMU_TRANSACTION_ZERO = 3,  /* start, put, get, commit, step, abort: the transaction is 0 */
+    GOREHIMU_KEY_RANGE = 4,         /* put, get: the key is above 63 */
+    GOREHIMU_CLOCK_ZERO = 5,        /* commit: the clock is 0 */
+    GOREHIMU_TAKEN = 6,             /* start: the transaction is live or held already */
+    GOREHIMU_LIVE_FULL = 7,         /* start: eight transactions are live */
+    GOREHIMU_NOT_LIVE = 8,          /* put, get, commit, step, abort: the transaction is not live (commit: nor held) */
+    GOREHIMU_IS_CLOSING = 9,        /* put, get, commit, abort: the transaction is closing */
+    GOREHIMU_NOT_CLOSING = 10,      /* step: the transaction is open */
+    GOREHIMU_WRITES_FULL = 11,      /* put: the write set has 8 other keys */
+    GOREHIMU_READS_FULL = 12,       /* get: a version would be answered, and the read set has 16 other keys */
+    GOREHIMU_SLOTS_FULL = 13,       /* commit: the write set is not empty, and no slot is free: collect one */
+    GOREHIMU_NOT_HELD = 14,         /* collect: the slot is above 63, or holds no entry */
+    GOREHIMU_NEWEST = 15,           /* collect: the entry is the newest for a key that it wrote */
+    GOREHIMU_IS_READ = 16,          /* collect: a live transaction has read the entry */
+    GOREHIMU_RECORD_CHANGED = 17,   /* get, collect: the record in the store is not the station's: the store was changed from outside */
+    GOREHIMU_DAMAGED = 18,          /* scan: slot b, and none below it, breaks the format's rules or has the transaction of a lower slot */
+    GOREHIMU_MALFORMED = 19         /* no request: an unknown verb, or a byte that must be 0 is not */
+};
 
 /* Each function returns 0; or 1, with nothing written, where a length is wrong: image_len must be GOREHIMU_IMAGE, a request
  * GOREHIMU_REQUEST and an answer GOREHIMU_ANSWER bytes. A store of another length is not wrong by itself: the verbs that need the store
@@ -122,28 +131,37 @@ uint32_t gorehimu_call(uint8_t *image, size_t image_len, uint8_t *store, size_t 
 uint32_t gorehimu_run(uint8_t *image, size_t image_len, uint8_t *store, size_t store_len, const uint8_t *requests, size_t requests_len,
                       uint8_t *answers, size_t answers_len);
 
-/* ---- the bytes of a request and of an answer, for C ---- */
+/* ---- the bytes of a request, of an answer and of a store, for C ----
+ *
+ * These take numbers as wide as a caller may have them, and narrow none: what has no room in its field is refused. */
 
 struct gorehimu_answer {
     uint64_t kind, a, b, c;
 };
 
+/* The number in n bytes; n is at most 8. */
 static inline uint64_t gorehimu_number(const uint8_t *p, size_t n) {
     uint64_t x = 0;
     while (n > 0) x = x << 8 | p[--n];
     return x;
 }
 
-static inline void gorehimu_put_number(uint8_t *p, size_t n, uint64_t x) {
-    for (size_t i = 0; i < n; i++, x >>= 8) p[i] = (uint8_t)x;
+/* A number as n bytes. Returns 0; or 1, with nothing written, where n bytes do not hold it. */
+static inline uint32_t gorehimu_put_number(uint8_t *p, size_t n, uint64_t x) {
+    if (n < 8 && x >> 8 * n != 0) return 1;
+    for (size_t i = 0; i < n; i++, x >>= 8) p[i] = (uint8_t)(x & 0xff);
+    return 0;
 }
 
-static inline void gorehimu_write_request(uint8_t *p, enum gorehimu_verb verb, uint32_t transaction, uint8_t key, uint64_t number) {
+/* A request. Returns 0; or 1, with nothing written, where the verb or the key is above 255 or the transaction above 2^32 - 1. */
+static inline uint32_t gorehimu_write_request(uint8_t *p, uint64_t verb, uint64_t transaction, uint64_t key, uint64_t number) {
+    if (verb > 0xff || transaction > 0xffffffff || key > 0xff) return 1;
     memset(p, 0, GOREHIMU_REQUEST);
-    p[0] = (uint8_t)verb;
-    p[1] = key;
+    gorehimu_put_number(p, 1, verb);
+    gorehimu_put_number(p + 1, 1, key);
     gorehimu_put_number(p + 4, 4, transaction);
     gorehimu_put_number(p + 8, 8, number);
+    return 0;
 }
 
 static inline struct gorehimu_answer gorehimu_read_answer(const uint8_t *p) {
@@ -151,13 +169,20 @@ static inline struct gorehimu_answer gorehimu_read_answer(const uint8_t *p) {
     return a;
 }
 
-/* One request over a store and an image of their lengths. */
-static inline struct gorehimu_answer gorehimu_ask(uint8_t *image, uint8_t *store, enum gorehimu_verb verb, uint32_t transaction, uint8_t key,
+/* One request over a store and an image of their lengths. Where gorehimu_write_request refuses its fields, the answer is refused with 19,
+ * as for any other request that asks nothing, and nothing is done. */
+static inline struct gorehimu_answer gorehimu_ask(uint8_t *image, uint8_t *store, uint64_t verb, uint64_t transaction, uint64_t key,
                                                   uint64_t number) {
     uint8_t request[GOREHIMU_REQUEST], answer[GOREHIMU_ANSWER];
-    gorehimu_write_request(request, verb, transaction, key, number);
+    struct gorehimu_answer malformed = {GOREHIMU_REFUSED, GOREHIMU_MALFORMED, 0, 0};
+    if (gorehimu_write_request(request, verb, transaction, key, number)) return malformed;
     gorehimu_call(image, GOREHIMU_IMAGE, store, GOREHIMU_STORE, request, sizeof request, answer, sizeof answer);
     return gorehimu_read_answer(answer);
+}
+
+/* Where record n of a slot begins in the store; GOREHIMU_STORE, its end, where there is no such record (slot above 63, n above 8). */
+static inline size_t gorehimu_record_place(uint64_t slot, uint64_t n) {
+    return slot > 63 || n > 8 ? GOREHIMU_STORE : (size_t)(GOREHIMU_RECORD * (9 * slot + n));
 }
 
 #ifdef __cplusplus

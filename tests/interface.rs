@@ -1,6 +1,7 @@
 //! The proved library through its C interface, against the model in plain Rust: random call lists with cuts, retries, collections, full slots and
-//! places, equal and backward clocks and the greatest numbers; images and stores with bytes changed; wrong lengths; batches. Answers, images and
-//! stores are compared byte for byte, and every undisturbed history is held to the cut rule. Arguments: the first seed, how many histories.
+//! places, equal and backward clocks and the greatest numbers; images and stores with bytes changed; wrong lengths, null pointers; batches. Answers,
+//! images and stores are compared byte for byte, and every undisturbed history is held to the cut rule after each call. Arguments: the first seed, how
+//! many histories.
 
 mod book;
 mod model;
@@ -340,7 +341,45 @@ fn compare(image: &mut Vec<u8>, store: &mut Vec<u8>, calls: &[Call], seen: &mut 
     answers
 }
 
-/// A history from the empty station: calls in batches, cuts between record writes, each followed by a scan; the cut rule after each call.
+/// Which record a call wrote, as the header tells a host: the slot of each closing transaction, and how many version records it has stored.
+#[derive(Default)]
+struct Closings(BTreeMap<u32, (u8, usize)>);
+
+impl Closings {
+    /// Where the record that a call wrote begins in the store; none where it wrote none.
+    fn written(&mut self, c: Call, a: Answer) -> Option<usize> {
+        let (slot, n) = match a {
+            Answer::Closing(slot) => {
+                self.0.insert(c.txn, (slot, 0));
+                return None;
+            }
+            Answer::Stored(_) => {
+                let (slot, n) = self.0.get_mut(&c.txn).unwrap();
+                *n += 1;
+                (*slot, *n)
+            }
+            Answer::Slipped(slot) => (slot, 0),
+            Answer::Collected(_) => (c.key, 0),
+            _ => return None,
+        };
+        Some(24 * (9 * usize::from(slot) + n))
+    }
+}
+
+/// One call by both; it wrote no byte but the record that its answer names, and the cut rule holds after it.
+fn checked(image: &mut Vec<u8>, store: &mut Vec<u8>, c: Call, book: &mut Book, closings: &mut Closings, seen: &mut Seen, what: &str) {
+    let before = store.clone();
+    let a = compare(image, store, &[c], seen, what)[0];
+    let (from, to) = closings.written(c, a).map_or((0, 0), |at| (at, at + RECORD));
+    assert!(before[..from] == store[..from] && before[to..] == store[to..], "{what}: {c:?}, answered {a:?}, wrote past its record");
+    book.feed(c, a);
+    if let Err(e) = book.check(store) {
+        panic!("{what}: the cut rule does not hold after {c:?}: {e}");
+    }
+}
+
+/// A history from the empty station: calls one by one, the cut rule checked after each, and the same in batches; cuts between record writes, each
+/// followed by a scan.
 fn history(seed: u64, seen: &mut Seen) {
     let mut r = Chance(seed);
     let z = style(&mut r);
@@ -348,25 +387,24 @@ fn history(seed: u64, seen: &mut Seen) {
     assert_eq!(unsafe { gorehimu_empty(image.as_mut_ptr(), image.len()) }, 0);
     assert!(image == encode(&Station::empty()), "the empty image");
     let mut store = vec![0; STORE];
-    let mut book = Book::default();
+    let (mut book, mut closings) = (Book::default(), Closings::default());
     let scan = Call { verb: 8, txn: 0, key: 0, number: 0 };
     for time in 100..300 {
         let calls: Vec<Call> = if time == 100 { whole(&mut r) } else { (0..1 + r.below(8)).map(|_| call(&mut r, &z, &image, time)).collect() };
         let what = format!("seed {seed}, time {time}");
-        let answers = compare(&mut image, &mut store, &calls, seen, &what);
-        for (c, a) in calls.iter().zip(answers) {
-            book.feed(*c, a);
+        let before = (image.clone(), store.clone());
+        for c in &calls {
+            checked(&mut image, &mut store, *c, &mut book, &mut closings, seen, &what);
         }
+        let (mut batch_image, mut batch_store) = before;
+        compare(&mut batch_image, &mut batch_store, &calls, seen, &what);
+        assert!(batch_image == image && batch_store == store, "{what}: a batch is not its calls one by one");
         if r.one_in(25) {
             // power goes: the image is lost, whatever it is after that
             for b in image.iter_mut() {
                 *b = r.next() as u8;
             }
-            let answers = compare(&mut image, &mut store, &[scan], seen, &what);
-            book.feed(scan, answers[0]);
-        }
-        if let Err(e) = book.check(&store) {
-            panic!("{what}: the cut rule does not hold: {e}");
+            checked(&mut image, &mut store, scan, &mut book, &mut closings, seen, &what);
         }
         if r.one_in(8) {
             disturb(&mut r, &z, &image, &store, seen, &what);
@@ -511,11 +549,38 @@ fn wrong_lengths() {
     assert_eq!(run(&mut image, &mut store, &[], &mut []), 0, "no request");
 }
 
+/// Where a length is 0 the pointer may be null: no requests; no store, which the verbs that need one refuse; and, as any wrong length, no image and
+/// no answer.
+fn nulls() {
+    use std::ptr::{null, null_mut};
+    let station = encode(&Station::empty());
+    let (mut image, mut store, mut out) = (station.clone(), vec![0; STORE], vec![0xaa; 2 * ANSWER]);
+    let c = |verb, txn| Call { verb, txn, key: 0, number: 0 };
+    unsafe {
+        assert_eq!(gorehimu_run(image.as_mut_ptr(), IMAGE, store.as_mut_ptr(), STORE, null(), 0, null_mut(), 0), 0, "no requests");
+        assert_eq!(gorehimu_run(image.as_mut_ptr(), IMAGE, null_mut(), 0, null(), 0, null_mut(), 0), 0, "no requests and no store");
+        assert_eq!(gorehimu_empty(null_mut(), 0), 1, "no image to make empty");
+        assert_eq!(gorehimu_call(null_mut(), 0, null_mut(), 0, null(), 0, null_mut(), 0), 1, "nothing at all");
+        assert_eq!(gorehimu_run(null_mut(), 0, null_mut(), 0, null(), 0, null_mut(), 0), 1, "nothing to run over");
+        assert_eq!(gorehimu_recover(image.as_mut_ptr(), IMAGE, store.as_ptr(), STORE, null_mut(), 0), 1, "no answer to recover to");
+        assert!(image == station && store.iter().all(|b| *b == 0), "something was written");
+
+        let requests = [request(c(1, 7)), request(c(5, 7))].concat();
+        assert_eq!(gorehimu_run(image.as_mut_ptr(), IMAGE, null_mut(), 0, requests.as_ptr(), requests.len(), out.as_mut_ptr(), out.len()), 0, "a run, no store");
+        assert!(out == [answer(Answer::Started), answer(Answer::Refused(1, 0))].concat(), "a run with no store: start and step");
+        assert_eq!(gorehimu_call(image.as_mut_ptr(), IMAGE, null_mut(), 0, request(c(6, 7)).as_ptr(), REQUEST, out.as_mut_ptr(), ANSWER), 0, "a call, no store");
+        assert!(out[..ANSWER] == answer(Answer::Dropped) && image == station, "a call with no store: abort");
+        assert_eq!(gorehimu_recover(image.as_mut_ptr(), IMAGE, null(), 0, out.as_mut_ptr(), ANSWER), 0, "a recovery, no store");
+        assert!(out[..ANSWER] == answer(Answer::Refused(1, 0)) && image == station, "a recovery with no store");
+    }
+}
+
 fn main() {
     let args: Vec<u64> = std::env::args().skip(1).map(|a| a.parse().expect("a number")).collect();
     let (first, count) = (args.first().copied().unwrap_or(1), args.get(1).copied().unwrap_or(600));
     let mut seen = Seen::default();
     wrong_lengths();
+    nulls();
     every_byte(&mut seen);
     for seed in first..first + count {
         history(seed, &mut seen);

@@ -25,8 +25,23 @@ pub const STORE: usize = 13824;
 /// The bytes of a station's image.
 pub const IMAGE: usize = 4800;
 
+/// The bytes of a record.
+pub const RECORD: usize = 24;
+
 const REQUEST: usize = 16;
 const ANSWER: usize = 32;
+
+/// Where record `n` of a slot begins in the store; none where there is no such record (slot above 63, `n` above 8). Record 0 is the commit
+/// record, 1 to 8 are version records.
+///
+/// ```
+/// assert_eq!(gorehimu::record_place(63, 0), Some(13608));
+/// assert_eq!(gorehimu::record_place(64, 0), None);
+/// assert_eq!(gorehimu::record_place(0, 9), None);
+/// ```
+pub fn record_place(slot: u8, n: u8) -> Option<usize> {
+    (slot < 64 && n < 9).then(|| RECORD * (9 * usize::from(slot) + usize::from(n)))
+}
 
 mod raw {
     extern "C" {
@@ -169,13 +184,13 @@ pub enum Answer {
         /// Its number.
         transaction: u32,
     },
-    /// The version record of this key was written.
+    /// The version record of this key was written: the nth such answer to a transaction since its closing, record n of the slot that closing gave.
     Stored(u8),
-    /// The commit record was written, in this slot: the transaction is committed.
+    /// The commit record was written, record 0 of this slot: the transaction is committed.
     Slipped(u8),
     /// The transaction is forgotten.
     Dropped,
-    /// The entry of this transaction is gone, its slot free.
+    /// The entry of this transaction is gone, its slot free: record 0 of the slot asked was written.
     Collected {
         /// Its clock.
         clock: u64,
@@ -184,43 +199,169 @@ pub enum Answer {
     },
     /// How many transactions the store holds.
     Found(u8),
-    /// Nothing was done. The number says why (see `include/gorehimu.h`), with 18 the slot that is damaged.
+    /// Nothing was done, but that a refused scan leaves the empty station. [`Answer::refusal`] says why.
     Refused {
-        /// 1 to 19.
+        /// 1 to 19, the number of a [`Refusal`].
         number: u8,
-        /// The slot, with 18.
+        /// The slot that is damaged, with 18.
         slot: u8,
     },
 }
 
+/// Why a request is refused, with its number. [`Refusal::Malformed`] comes before all others; of the rest, where several apply, the lowest.
+///
+/// ```
+/// use gorehimu::{Desk, Refusal};
+///
+/// let mut desk = Desk::new();
+/// assert_eq!(desk.put(1, 64, 5).refusal(), Some(Refusal::KeyRange));
+/// assert_eq!(desk.start(1).refusal(), None);
+/// assert_eq!(Refusal::KeyRange as u8, 4);
+/// ```
+#[derive(Clone, Copy, Debug, PartialEq, Eq)]
+#[repr(u8)]
+pub enum Refusal {
+    /// Get, step, collect, scan: the store has not [`STORE`] bytes.
+    StoreLength = 1,
+    /// Every request but scan: the image is no sound station.
+    Unsound = 2,
+    /// Start, put, get, commit, step, abort: the transaction is 0.
+    TransactionZero = 3,
+    /// Put, get: the key is above 63.
+    KeyRange = 4,
+    /// Commit: the clock is 0.
+    ClockZero = 5,
+    /// Start: the transaction is live or held already.
+    Taken = 6,
+    /// Start: eight transactions are live.
+    LiveFull = 7,
+    /// Put, get, commit, step, abort: the transaction is not live (commit: nor held).
+    NotLive = 8,
+    /// Put, get, commit, abort: the transaction is closing.
+    IsClosing = 9,
+    /// Step: the transaction is open.
+    NotClosing = 10,
+    /// Put: the write set has 8 other keys.
+    WritesFull = 11,
+    /// Get: a version would be answered, and the read set has 16 other keys.
+    ReadsFull = 12,
+    /// Commit: the write set is not empty, and no slot is free: collect one.
+    SlotsFull = 13,
+    /// Collect: the slot is above 63, or holds no entry.
+    NotHeld = 14,
+    /// Collect: the entry is the newest for a key that it wrote.
+    Newest = 15,
+    /// Collect: a live transaction has read the entry.
+    IsRead = 16,
+    /// Get, collect: the record in the store is not the station's: the store was changed from outside.
+    RecordChanged = 17,
+    /// Scan: a slot breaks the format's rules or has the transaction of a lower slot; the answer has the lowest such.
+    Damaged = 18,
+    /// No request: an unknown verb, or a byte that must be 0 is not.
+    Malformed = 19,
+}
+
+impl Refusal {
+    /// All of them, by number from 1.
+    pub const ALL: [Refusal; 19] = [
+        Refusal::StoreLength,
+        Refusal::Unsound,
+        Refusal::TransactionZero,
+        Refusal::KeyRange,
+        Refusal::ClockZero,
+        Refusal::Taken,
+        Refusal::LiveFull,
+        Refusal::NotLive,
+        Refusal::IsClosing,
+        Refusal::NotClosing,
+        Refusal::WritesFull,
+        Refusal::ReadsFull,
+        Refusal::SlotsFull,
+        Refusal::NotHeld,
+        Refusal::Newest,
+        Refusal::IsRead,
+        Refusal::RecordChanged,
+        Refusal::Damaged,
+        Refusal::Malformed,
+    ];
+
+    /// The refusal of a number; none where it is not 1 to 19.
+    ///
+    /// ```
+    /// use gorehimu::Refusal;
+    ///
+    /// assert!(Refusal::ALL.iter().all(|r| Refusal::numbered(*r as u8) == Some(*r)));
+    /// assert_eq!((Refusal::numbered(0), Refusal::numbered(20)), (None, None));
+    /// ```
+    pub fn numbered(number: u8) -> Option<Refusal> {
+        Refusal::ALL.into_iter().find(|r| *r as u8 == number)
+    }
+}
+
 impl Answer {
+    /// Why the request was refused; none where it was not.
+    pub fn refusal(self) -> Option<Refusal> {
+        match self {
+            Answer::Refused { number, .. } => Refusal::numbered(number),
+            _ => None,
+        }
+    }
+
     fn read(bytes: &[u8]) -> Answer {
         let field = |i: usize| u64::from_le_bytes(bytes[8 * i..8 * i + 8].try_into().unwrap());
-        let (kind, a, b, c) = (field(0), field(1), field(2), field(3));
-        let (small, transaction) = (a as u8, c as u32);
-        match kind {
+        // a key, a slot, a count or a refusal; a transaction
+        let small = |i: usize| u8::try_from(field(i)).expect("the library writes a number below 256 here");
+        let transaction = || u32::try_from(field(3)).expect("the library writes a transaction here");
+        match field(0) {
             1 => Answer::Started,
             2 => Answer::Kept,
-            3 => Answer::Own(a),
-            4 => Answer::Version { value: a, clock: b, transaction },
+            3 => Answer::Own(field(1)),
+            4 => Answer::Version { value: field(1), clock: field(2), transaction: transaction() },
             5 => Answer::None,
             6 => Answer::Nofit,
-            7 => Answer::Closing(small),
+            7 => Answer::Closing(small(1)),
             8 => Answer::Empty,
-            9 => Answer::Done { clock: b, transaction },
-            10 => Answer::Stored(small),
-            11 => Answer::Slipped(small),
+            9 => Answer::Done { clock: field(2), transaction: transaction() },
+            10 => Answer::Stored(small(1)),
+            11 => Answer::Slipped(small(1)),
             12 => Answer::Dropped,
-            13 => Answer::Collected { clock: b, transaction },
-            14 => Answer::Found(small),
-            15 => Answer::Refused { number: small, slot: b as u8 },
+            13 => Answer::Collected { clock: field(2), transaction: transaction() },
+            14 => Answer::Found(small(1)),
+            15 => Answer::Refused { number: small(1), slot: small(2) },
             _ => unreachable!("the library writes kinds 1 to 15"),
         }
     }
 }
 
-/// A station and its store. All that is lost when power goes is the station; keep the store ([`Desk::store`]) after every call that wrote a
-/// record (stored, slipped, collected), and start again with [`Desk::recover`].
+/// A station and its store. When power goes, both are lost but for what was brought to where it lasts: after every request that wrote a record
+/// (answers stored, slipped and collected say which) and before the next, bring that record there, whole ([`Desk::record`]); so let a request that
+/// writes one be the last of its [`Desk::run`]. Start again with [`Desk::recover`].
+///
+/// ```
+/// use gorehimu::{record_place, Answer, Desk, RECORD, STORE};
+///
+/// let mut disk = Box::new([0; STORE]);
+/// let mut keep = |desk: &Desk, slot, n| {
+///     let place = record_place(slot, n).unwrap();
+///     disk[place..place + RECORD].copy_from_slice(desk.record(slot, n).unwrap());
+/// };
+/// let mut desk = Desk::new();
+/// desk.start(1);
+/// desk.put(1, 0, 400);
+/// let Answer::Closing(slot) = desk.commit(1, 100) else { panic!() };
+/// let mut stored = 0;
+/// loop {
+///     match desk.step(1) {
+///         Answer::Stored(_) => {
+///             stored += 1;
+///             keep(&desk, slot, stored);
+///         }
+///         Answer::Slipped(slot) => keep(&desk, slot, 0),
+///         _ => break,
+///     }
+/// }
+/// assert_eq!(Desk::recover(disk).1, Answer::Found(1));
+/// ```
 #[derive(Clone)]
 pub struct Desk {
     image: Box<[u8; IMAGE]>,
@@ -254,6 +395,11 @@ impl Desk {
         &self.store
     }
 
+    /// Record `n` of a slot, where there is one: see [`record_place`].
+    pub fn record(&self, slot: u8, n: u8) -> Option<&[u8]> {
+        record_place(slot, n).map(|place| &self.store[place..place + RECORD])
+    }
+
     /// The store's bytes alone: what is left when power goes.
     pub fn into_store(self) -> Box<[u8; STORE]> {
         self.store
@@ -262,7 +408,7 @@ impl Desk {
     /// One call.
     pub fn call(&mut self, request: Request) -> Answer {
         let mut answer = [0; ANSWER];
-        call(&mut self.image[..], &mut self.store[..], &request.bytes(), &mut answer);
+        assert!(call(&mut self.image[..], &mut self.store[..], &request.bytes(), &mut answer), "the lengths are right");
         Answer::read(&answer)
     }
 
@@ -270,7 +416,7 @@ impl Desk {
     pub fn run(&mut self, requests: &[Request]) -> Vec<Answer> {
         let bytes: Vec<u8> = requests.iter().flat_map(|r| r.bytes()).collect();
         let mut answers = vec![0; requests.len() * ANSWER];
-        run(&mut self.image[..], &mut self.store[..], &bytes, &mut answers);
+        assert!(run(&mut self.image[..], &mut self.store[..], &bytes, &mut answers), "the lengths are right");
         answers.chunks(ANSWER).map(Answer::read).collect()
     }
 
