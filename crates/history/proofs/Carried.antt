@@ -1,116 +1,102 @@
--- The cut rule carried to the code: it holds of every history that is run by functions which meet the public calls' contracts.
+-- The cut rule carried to the code: it holds of every history that is run by functions which meet the public calls' contracts. A history
+-- stays within the types, so what the contracts say of typed values is enough.
 use Prim.Native.Nat.{ℕ}
-use mathlib.Core.Path.{_≡_, refl, sym, subst}
-use mathlib.Core.Bool.{Bool, true, false, cond}
+use mathlib.Core.Path.{_≡_, refl, sym, ap, subst, _∙_}
 use mathlib.Core.List.{List, [], _∷_}
-use lib.Dec.{eqb, ltb}
-use lib.ListN.{length}
+use mathlib.Core.Option.{Option, some, none, Option·none-ne-some}
 use Rattle.model.specs.declared.Station.{Station}
-use Rattle.model.specs.declared.Answer.{Answer}
-use Rattle.model.specs.Effects.{Effect, Row, outcomeOf, stored, says, refusals}
-use Rattle.model.specs.Reading.{Choice, own, absent, nofit, version}
-use Rattle.model.specs.Start.{start}
-use Rattle.model.specs.Put.{put}
-use Rattle.model.specs.Get.{answered, get}
-use Rattle.model.specs.Commit.{commit}
-use Rattle.model.specs.Abort.{abort}
-use Rattle.model.specs.Scan.{slotsSeen, lowestBroken, scanned, scan}
-use Rattle.model.specs.Stations.{liveAt, isHeld, placeOf}
-use Rattle.model.specs.Calls.{Call, Start, Put, Get, Commit, Step, Abort, Collect, Scan, does, InRange}
-use Rattle.history.specs.Ledger.{Ledger, feed}
-use Rattle.history.specs.Histories.{World, begin, afterCall, restarted}
+use Rattle.model.specs.Limits.{storeSize}
+use Rattle.model.specs.Ranges.{Every, IsByte, StationFits}
+use Rattle.model.specs.Effects.{RecordWrite, outcomeOf, stored}
+use Rattle.model.specs.Calls.{Call, Start, Put, Get, Commit, Step, Abort, Collect, Scan, does, isScan, txnOf, keyOf, numberOf, IsTyped}
+use Rattle.model.proofs.StoreLaws.{start-stores-nothing, put-stores-nothing, get-stores-nothing, commit-stores-nothing, abort-stores-nothing, scan-stores-nothing}
+use Rattle.model.proofs.RangesKept.{fits-empty, bytes-zeros, fits-kept, bytes-kept, bytes-kept-all}
+use Rattle.history.specs.Ledger.{feed}
+use Rattle.history.specs.Histories.{Event, called, cut, Desk, running, down, World, begin, handed, afterCall, afterCut, next, run, callIn, AllInRange}
 use Rattle.history.specs.CutRule.{CutRule}
-use Rattle.history.specs.Contracts.{Functions, Meets, returned, Moment, returns, lostBefore, lostAfter, callAt, again, after, runBy, CallsInRange}
-use Rattle.history.proofs.Recovering.{cut-rule-of}
-use Rattle.history.proofs.Theorem.{State, called-keeps, restart-keeps, begin-state}
+use Rattle.history.specs.Contracts.{Functions, Meets, returned, afterReturn, nextBy, runBy, AllTyped}
+use Rattle.history.proofs.DraftLaws.{some-inj}
+use Rattle.history.proofs.Theorem.{cut-rule}
 
--- ── calls that store nothing ──
-unfoldable Quiet : Effect → Type 0
-Quiet e = (s : List ℕ) → stored (e .stores) s ≡ s
+-- ── a history stays within the types ──
+abbrev TypedDesk : Desk → Type 0
+TypedDesk (running st) = StationFits st
+TypedDesk down = Unit {0}
 
-says-quiet : (a : Answer) (st : Station) → Quiet (says a st)
-unfolding Quiet says stored
-says-quiet a st s = refl
+record Typed (w : World) : Type 0 where
+  desk : TypedDesk (w .desk)
+  store : Every IsByte (w .store)
 
-cond-quiet : (b : Bool) (x y : Effect) → Quiet x → Quiet y → Quiet (cond b x y)
-cond-quiet true x y p q = p
-cond-quiet false x y p q = q
+handed-fits : (c : Call) (k : Desk) (st : Station) → TypedDesk k → handed c k ≡ some st → StationFits st
+unfolding handed isScan
+handed-fits c (running st₀) st f e = subst StationFits (some-inj e) f
+handed-fits (Start t) down st f e = absurd (Option·none-ne-some st e)
+handed-fits (Put t k v) down st f e = absurd (Option·none-ne-some st e)
+handed-fits (Get t k) down st f e = absurd (Option·none-ne-some st e)
+handed-fits (Commit t c) down st f e = absurd (Option·none-ne-some st e)
+handed-fits (Step t) down st f e = absurd (Option·none-ne-some st e)
+handed-fits (Abort t) down st f e = absurd (Option·none-ne-some st e)
+handed-fits (Collect d) down st f e = absurd (Option·none-ne-some st e)
+handed-fits Scan down st f e = subst StationFits (some-inj e) fits-empty
 
-refusals-quiet : (rs : List Row) (st : Station) (e : Effect) → Quiet e → Quiet (refusals rs st e)
-unfolding refusals
-refusals-quiet [] st e q = q
-refusals-quiet (r ∷ rs) st e q = cond-quiet (r .applies) _ _ (says-quiet _ st) (refusals-quiet rs st e q)
+typed-next : (v : Event) (w : World) → IsTyped (callIn v) → Typed w → Typed (next v w)
+unfolding next callIn
+typed-next (called c) w r tw = go (handed c (w .desk)) refl
+  where
+    go : (x : Option Station) → handed c (w .desk) ≡ x → Typed (afterCall x c w)
+    go none e = unfold afterCall in tw
+    go (some st) e =
+        let f = handed-fits c (w .desk) st (tw .desk) e in
+        unfold afterCall in record { desk = fits-kept c st (w .store) r f (tw .store); store = bytes-kept-all c st (w .store) r f (tw .store) }
+typed-next (cut c n) w r tw = go (handed c (w .desk)) refl
+  where
+    go : (x : Option Station) → handed c (w .desk) ≡ x → Typed (afterCut x c n w)
+    go none e = unfold afterCut in tw
+    go (some st) e = unfold afterCut in record { desk = tt; store = bytes-kept c st (w .store) r (handed-fits c (w .desk) st (tw .desk) e) (tw .store) n }
 
-start-quiet : (st : Station) (t : ℕ) → Quiet (start st t)
-unfolding start
-start-quiet st t = refusals-quiet _ st _ (says-quiet _ _)
+typed-begin : Typed begin
+unfolding begin
+typed-begin = record { desk = fits-empty; store = bytes-zeros storeSize }
 
-put-quiet : (st : Station) (t k v : ℕ) → Quiet (put st t k v)
-unfolding put
-put-quiet st t k v = refusals-quiet _ st _ (says-quiet _ _)
-
-abort-quiet : (st : Station) (t : ℕ) → Quiet (abort st t)
-unfolding abort
-abort-quiet st t = refusals-quiet _ st _ (says-quiet _ _)
-
-commit-quiet : (st : Station) (t c : ℕ) → Quiet (commit st t c)
-unfolding commit
-commit-quiet st t c = refusals-quiet _ st _ (cond-quiet (isHeld t st) _ _ (says-quiet _ _) (cond-quiet (eqb (liveAt st (placeOf t st) .«write_count») 0) _ _ (says-quiet _ _) (says-quiet _ _)))
-
-answered-quiet : (st : Station) (s : List ℕ) (i k : ℕ) (ch : Choice) → Quiet (answered st s i k ch)
-unfolding answered
-answered-quiet st s i k (own v) = says-quiet _ _
-answered-quiet st s i k absent = says-quiet _ _
-answered-quiet st s i k nofit = says-quiet _ _
-answered-quiet st s i k (version d) = says-quiet _ _
-
-get-quiet : (st : Station) (s : List ℕ) (t k : ℕ) → Quiet (get st s t k)
-unfolding get
-get-quiet st s t k = refusals-quiet _ st _ (answered-quiet st s _ k _)
-
-scan-quiet : (s : List ℕ) → Quiet (scan s)
-unfolding scan scanned
-scan-quiet s = refusals-quiet _ _ _ (cond-quiet (ltb (lowestBroken (slotsSeen s)) (length (slotsSeen s))) _ _ (says-quiet _ _) (says-quiet _ _))
+all-in-range : (vs : List Event) → AllTyped vs → AllInRange vs
+unfolding AllTyped AllInRange
+all-in-range [] r = tt
+all-in-range (v ∷ vs) r = (r .0 .0, all-in-range vs (r .1))
 
 -- ── a contract met is the definition ──
+none-stored : (ws : List RecordWrite) (s : List ℕ) → ws ≡ [] → s ≡ stored ws s
+unfolding stored
+none-stored ws s e = sym (ap (λ (x : List RecordWrite). stored x s) e)
+
 module _ (f : Functions) (m : Meets f) where
-  returned-is : (c : Call) (st : Station) (s : List ℕ) → (returned f c st s .outcome ≡ outcomeOf (does c st s)) × (returned f c st s .store ≡ stored (does c st s .stores) s)
-  unfolding Quiet returned does
-  returned-is (Start t) st s = (m .start st t, sym (start-quiet st t s))
-  returned-is (Put t k v) st s = (m .put st t k v, sym (put-quiet st t k v s))
-  returned-is (Get t k) st s = (m .get st s t k, sym (get-quiet st s t k s))
-  returned-is (Commit t c) st s = (m .commit st t c, sym (commit-quiet st t c s))
-  returned-is (Step t) st s = m .step st s t
-  returned-is (Abort t) st s = (m .abort st t, sym (abort-quiet st t s))
-  returned-is (Collect d) st s = m .collect st s d
-  returned-is Scan st s = (m .scan s, sym (scan-quiet s s))
+  returned-is : (c : Call) (st : Station) (s : List ℕ) → IsTyped c → StationFits st → Every IsByte s
+      → (returned f c st s .outcome ≡ outcomeOf (does c st s)) × (returned f c st s .store ≡ stored (does c st s .stores) s)
+  unfolding returned does txnOf keyOf numberOf
+  returned-is (Start t) st s r o b = (m .start st t o (r .0 .0), none-stored _ s (start-stores-nothing st t))
+  returned-is (Put t k v) st s r o b = (m .put st t k v o (r .0 .0) (r .1) (r .0 .1), none-stored _ s (put-stores-nothing st t k v))
+  returned-is (Get t k) st s r o b = (m .get st s t k o b (r .0 .0) (r .1), none-stored _ s (get-stores-nothing st s t k))
+  returned-is (Commit t c) st s r o b = (m .commit st t c o (r .0 .0) (r .0 .1), none-stored _ s (commit-stores-nothing st t c))
+  returned-is (Step t) st s r o b = m .step st s t o b (r .0 .0)
+  returned-is (Abort t) st s r o b = (m .abort st t o (r .0 .0), none-stored _ s (abort-stores-nothing st t))
+  returned-is (Collect d) st s r o b = m .collect st s d o b (r .1)
+  returned-is Scan st s r o b = (m .scan s b, none-stored _ s (scan-stores-nothing s))
 
-  call-is : (c : Call) (w : World) → after f (returns c) w ≡ afterCall c w
-  unfolding after afterCall outcomeOf
-  call-is c w = let p = returned-is c (w .station) (w .store) in λ i. record { station = p .0 i .station; store = p .1 i; ledger = feed (p .0 i .answer) c (w .ledger) }
+  next-is : (v : Event) (w : World) → IsTyped (callIn v) → Typed w → nextBy f v w ≡ next v w
+  unfolding nextBy next callIn
+  next-is (called c) w r tw = go (handed c (w .desk)) refl
+    where
+      go : (x : Option Station) → handed c (w .desk) ≡ x → afterReturn f x c w ≡ afterCall x c w
+      go none e = unfold afterReturn afterCall in refl
+      go (some st) e =
+          let p = returned-is c st (w .store) r (handed-fits c (w .desk) st (tw .desk) e) (tw .store) in
+          unfold afterReturn afterCall outcomeOf in λ i. record { desk = running (p .0 i .station); store = p .1 i; ledger = feed (p .0 i .answer) c (w .ledger) }
+  next-is (cut c n) w r tw = refl
 
-  again-is : (s : List ℕ) (b : Ledger) → again f s b ≡ restarted s b
-  unfolding again restarted outcomeOf
-  again-is s b = λ i. record { station = m .scan s i .station; store = s; ledger = feed (m .scan s i .answer) Scan b }
-
-  -- ── histories ──
-  started-again : (w : World) → State w → State (again f (w .store) (w .ledger))
-  started-again w st = subst State (sym (again-is (w .store) (w .ledger))) (restart-keeps (w .store) (w .ledger) (w .station, st .0, st .1))
-
-  call-keeps : (c : Call) (w : World) → InRange c → State w → State (after f (returns c) w)
-  call-keeps c w r st = subst State (sym (call-is c w)) (called-keeps c w r st)
-
-  after-keeps : (x : Moment) (w : World) → InRange (callAt x) → State w → State (after f x w)
-  unfolding after callAt
-  after-keeps (returns c) w r st = call-keeps c w r st
-  after-keeps (lostBefore c) w r st = started-again w st
-  after-keeps (lostAfter c) w r st = started-again (after f (returns c) w) (call-keeps c w r st)
-
-  run-by-keeps : (xs : List Moment) (w : World) → CallsInRange xs → State w → State (runBy f xs w)
-  unfolding runBy CallsInRange
-  run-by-keeps [] w r st = st
-  run-by-keeps (x ∷ xs) w r st = run-by-keeps xs (after f x w) (r .1) (after-keeps x w (r .0) st)
+  run-is : (vs : List Event) (w : World) → AllTyped vs → Typed w → runBy f vs w ≡ run vs w
+  unfolding runBy run AllTyped
+  run-is [] w r tw = refl
+  run-is (v ∷ vs) w r tw = ap (runBy f vs) (next-is v w (r .0) tw) ∙ run-is vs (next v w) (r .1) (typed-next v w (r .0) tw)
 
   -- the cut rule, of whatever meets the contracts
-  pub cut-rule-of-calls : (xs : List Moment) → CallsInRange xs → CutRule (runBy f xs begin .store) (runBy f xs begin .ledger)
-  cut-rule-of-calls xs r = let st = run-by-keeps xs begin r begin-state in cut-rule-of _ _ _ (st .0) (st .1)
+  pub cut-rule-of-calls : (vs : List Event) → AllTyped vs → CutRule (runBy f vs begin .store) (runBy f vs begin .ledger)
+  cut-rule-of-calls vs r = subst (λ (w : World). CutRule (w .store) (w .ledger)) (sym (run-is vs begin r typed-begin)) (cut-rule vs (all-in-range vs r))

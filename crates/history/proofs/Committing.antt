@@ -4,7 +4,6 @@ use mathlib.Core.Path.{_≡_, refl, sym, _∙_}
 use mathlib.Core.Logic.{_≢_, ⊎-elim}
 use mathlib.Core.Bool.{true, false, not, true≢false}
 use mathlib.Core.List.{List}
-use mathlib.Core.Option.{none}
 use lib.Dec.{eqb, leb}
 use native.Mathlib.Nat.{lt-irrefl}
 use native.Mathlib.Omega.{arith}
@@ -27,10 +26,10 @@ use Rattle.model.proofs.Tests.{and-left, and-right, and-intro, and-second, not-
 use Rattle.model.proofs.ListLaws.{greatest-below}
 use Rattle.model.proofs.StationLaws.{place-hit, unheld-txn, closing-same, slot-marked}
 use Rattle.model.proofs.SoundFacts.{held-not-live}
-use Rattle.history.specs.Ledger.{Draft, Ledger, onDraft, withDraft, feed}
+use Rattle.history.specs.Ledger.{Draft, Ledger, without, revised, withDrafts, closingAt, feed}
 use Rattle.history.specs.Matches.{Matches}
-use Rattle.history.proofs.Invariant.{Prepared, Slots, Ranges, Inv, Good, good-says, row, unrefused, choice}
-use Rattle.history.proofs.DraftLaws.{drafts-without, drafts-revised}
+use Rattle.history.proofs.Invariant.{Prepared, Slots, draftIn, Ranges, Inv, Good, good-says, row, unrefused, choice}
+use Rattle.history.proofs.DraftLaws.{draft-without, draft-revised, drafts-as, drafts-without, drafts-revised}
 use Rattle.history.proofs.LiveLaws.{slots-set, reads-set, ranges-set, cleared}
 
 -- a free slot reads free
@@ -50,7 +49,7 @@ prepared-none s l d c d′ c′ n′ o f e =
       marked = λ h. absurd (lt-irrefl 0 (omega (arith, q .2)));
     }
 
-closing-matches : (d c : ℕ) (p : Draft) (l : Live) → Matches p l → Matches (record { clock = c; values = p .values; reads = p .reads }) (withPhase (Closing d c 0) l)
+closing-matches : (d c : ℕ) (p : Draft) (l : Live) → Matches p l → Matches (closingAt c p) (withPhase (Closing d c 0) l)
 unfolding withPhase readsOf writesOf
 closing-matches d c p l m = record {
   values = m .values;
@@ -77,11 +76,12 @@ txn-of p l = refl
 
 closed : (st : Station) (s : List ℕ) (b : Ledger) (t c d : ℕ) → Inv st s b → sound st ≡ true → c < numberRange → t ≢ 0 → isLive t st ≡ true
     → isClosing (liveAt st (placeOf t st) .phase) ≡ false → d < slots → seen s d ≡ free
-    → Inv (setLive st (placeOf t st) (withPhase (Closing d c 0) (liveAt st (placeOf t st)))) s (onDraft t (λ p. record { clock = c; values = p .values; reads = p .reads }) b)
+    → Inv (setLive st (placeOf t st) (withPhase (Closing d c 0) (liveAt st (placeOf t st)))) s (withDrafts (revised t (closingAt c) (b .drafts)) b)
+unfolding withDrafts
 closed st s b t c d inv h oc n z nc o f = record {
+  core = inv .core;
   slots = slots-set st s i l (inv .slots) (place-hit st t z .0) nc (λ d′ c′ n′ e. prepared-none s (liveAt st i) d c d′ c′ n′ o f (sym (phase-of _ (liveAt st i)) ∙ e));
-  standing = unfold onDraft in inv .standing;
-  drafts = unfold onDraft in drafts-revised st (b .drafts) (inv .drafts) h t n z l (txn-of _ (liveAt st i) ∙ place-hit st t z .1) _ (λ p m. closing-matches d c p (liveAt st i) m);
+  drafts = drafts-as _ _ _ (draft-revised t (closingAt c) (λ p. refl) (b .drafts)) (drafts-revised st (draftIn b) (inv .drafts) h t n z l (txn-of _ (liveAt st i) ∙ place-hit st t z .1) (closingAt c) (λ p m. closing-matches d c p (liveAt st i) m));
   reads = reads-set st i l (place-hit st t z .0) (inv .reads) (phase-reads (st .entries) _ (liveAt st i) (inv .reads i));
   ranges = ranges-set st i l (place-hit st t z .0) (inv .ranges) (phase-ranges (Closing d c 0) (liveAt st i) (λ d′ c′ n′ e. omega (arith, oc, closing-same d c 0 d′ c′ n′ e .1)) (inv .ranges i));
 }
@@ -93,12 +93,12 @@ closed st s b t c d inv h oc n z nc o f = record {
     l = withPhase (Closing d c 0) (liveAt st i)
 
 -- a retry: "done" tears out no live transaction's draft
-retried : (st : Station) (s : List ℕ) (b : Ledger) (t : ℕ) → Inv st s b → sound st ≡ true → isHeld t st ≡ true → Inv st s (withDraft t none b)
-unfolding withDraft
+retried : (st : Station) (s : List ℕ) (b : Ledger) (t : ℕ) → Inv st s b → sound st ≡ true → isHeld t st ≡ true → Inv st s (withDrafts (without t (b .drafts)) b)
+unfolding withDrafts
 retried st s b t inv h hh = record {
+  core = inv .core;
   slots = inv .slots;
-  standing = inv .standing;
-  drafts = drafts-without st (b .drafts) (inv .drafts) t (held-not-live st h t hh);
+  drafts = drafts-as _ _ _ (draft-without t (b .drafts)) (drafts-without st (draftIn b) (inv .drafts) t (held-not-live st h t hh));
   reads = inv .reads;
   ranges = inv .ranges;
 }

@@ -4,7 +4,7 @@ use mathlib.Core.Path.{_≡_, refl, sym, ap, subst, _∙_}
 use mathlib.Core.Logic.{_≢_, ⊎-elim}
 use mathlib.Core.Bool.{Bool, true, false, cond, false≢true}
 use mathlib.Core.List.{List, [], _∷_, _++_, List·Memᴰ, Memᴰ·append-right}
-use mathlib.Core.Option.{some}
+use mathlib.Core.Option.{Option, some, none}
 use lib.Dec.{eqb, ltb, leb}
 use lib.ListN.{length}
 use native.Mathlib.Omega.{arith}
@@ -27,40 +27,39 @@ use Rattle.model.specs.Effects.{Effect, says, saysStoring}
 use Rattle.model.specs.Get.{versionAt}
 use Rattle.model.specs.Commit.{commit}
 use Rattle.model.specs.Step.{stepped, step}
-use Rattle.model.specs.Calls.{Call, Get, Commit, Step, Scan, does, txnOf}
+use Rattle.model.specs.Calls.{Call, Get, Commit, Step, does, txnOf}
 use Rattle.model.specs.Answers.{refusedWith}
 use Rattle.model.proofs.Tests.{bool-cases}
 use Rattle.model.proofs.RefusalLaws.{accepted, row-off}
 use Rattle.model.proofs.StationLaws.{slot-hit, entry-in}
 use Rattle.model.proofs.GetLaws.{version-entry, get-version}
 use Rattle.model.proofs.SoundFacts.{wrote-held}
-use Rattle.history.specs.Ledger.{Draft, Committed, Ledger, onDraft, withDraft, committedFrom, feed}
-use Rattle.history.specs.Histories.{Event, called, cut, World, begin, afterCall, cutLedger, restarted, next, run, AllInRange}
+use Rattle.history.specs.Ledger.{Draft, Committed, Ledger, draftOf, withDrafts, committedFrom, feed}
+use Rattle.history.specs.Histories.{Event, called, cut, running, World, begin, handed, afterCall, fedAfter, afterCut, next, run, AllInRange}
 use Rattle.history.specs.CutRule.{committedIn, Wrote}
 use Rattle.history.proofs.Invariant.{Prepared, Inv}
 use Rattle.history.proofs.CommittedLaws.{stands, wrote-committed, committed-id, stands-once}
-use Rattle.history.proofs.Theorem.{history-keeps, cut-rule}
+use Rattle.history.proofs.Theorem.{running-keeps, cut-rule}
 
 -- ── no dirty read: a version that a get answers is a committed transaction's, which stands, under that key with that value ──
-pub no-dirty-read : (vs : List Event) → AllInRange vs → (t k v : ℕ) (i : Id)
-    → does (Get t k) (run vs begin .station) (run vs begin .store) .answer ≡ A.Version v i
+pub no-dirty-read : (vs : List Event) → AllInRange vs → (st : Station) → run vs begin .desk ≡ running st → (t k v : ℕ) (i : Id)
+    → does (Get t k) st (run vs begin .store) .answer ≡ A.Version v i
     → (j : Committed) × List·Memᴰ j (run vs begin .ledger .standing) × (j .id ≡ i) × (j .values k ≡ some v)
 unfolding does versionAt
-no-dirty-read vs f t k v i h =
-    let w = history-keeps vs f in
-    let st = run vs begin .station in
+no-dirty-read vs f st up t k v i h =
+    let w = running-keeps vs f st up in
     let s = run vs begin .store in
     let g = get-version st s t k v i h in
     let r = version-entry st (liveAt st (placeOf t st)) k (g .0) (g .1) in
     let e = entryAt st (g .0) in (
       committedIn s (g .0) e,
-      stands s _ (w .1 .standing .found) (g .0) e (omega (arith, r .0, w .1 .slots .count)) (w .1 .slots .entered (g .0) (wrote-held st (w .0) (g .0) k (r .1))),
+      stands s _ (w .1 .core .found) (g .0) e (omega (arith, r .0, w .1 .slots .count)) (w .1 .slots .entered (g .0) (wrote-held st (w .0) (g .0) k (r .1))),
       committed-id s (g .0) e ∙ sym (g .3),
       wrote-committed s (g .0) e k (r .1) ∙ ap some (sym (g .2)),
     )
 
 -- ── no fractured read: of a transaction's two reads, one of a version whose transaction also wrote the other's key, the other is not older ──
-pub no-fractured-read : (vs : List Event) → AllInRange vs → (t : ℕ) (p : Draft) → run vs begin .ledger .drafts t ≡ some p
+pub no-fractured-read : (vs : List Event) → AllInRange vs → (t : ℕ) (p : Draft) → draftOf t (run vs begin .ledger .drafts) ≡ some p
     → (r q : Read) → List·Memᴰ r (p .reads) → List·Memᴰ q (p .reads)
     → (j : Committed) → List·Memᴰ j (run vs begin .ledger .standing) → j .id ≡ r .id → Wrote j (q .key) → older (q .id) (r .id) ≡ false
 no-fractured-read vs f t p e r q mr mq j mj ej w =
@@ -69,7 +68,7 @@ no-fractured-read vs f t p e r q mr mq j mj ej w =
 -- ── acknowledged means durable ──
 -- a transaction that is past stays past
 past-fed : (a : Answer) (c : Call) (b : Ledger) (j : Committed) → List·Memᴰ j (b .past) → List·Memᴰ j (feed a c b .past)
-unfolding feed onDraft withDraft
+unfolding feed withDrafts
 past-fed A.Started c b j m = m
 past-fed A.Kept c b j m = m
 past-fed (A.Own v) c b j m = m
@@ -80,20 +79,28 @@ past-fed (A.Closing d) c b j m = m
 past-fed A.Empty c b j m = m
 past-fed (A.Done i) c b j m = m
 past-fed (A.Stored k) c b j m = m
-past-fed (A.Slipped d) c b j m = Memᴰ·append-right (committedFrom (txnOf c) (b .drafts (txnOf c))) m
+past-fed (A.Slipped d) c b j m = Memᴰ·append-right (committedFrom (draftOf (txnOf c) (b .drafts))) m
 past-fed A.Dropped c b j m = m
 past-fed (A.Collected i) c b j m = m
 past-fed (A.Found n) c b j m = m
 past-fed (A.Refused n d) c b j m = m
 
 past-next : (v : Event) (w : World) (j : Committed) → List·Memᴰ j (w .ledger .past) → List·Memᴰ j (next v w .ledger .past)
-unfolding next afterCall restarted cutLedger
-past-next (called c) w j m = past-fed _ c (w .ledger) j m
-past-next (cut c n) w j m = past-fed _ Scan _ j (fed (leb (length (does c (w .station) (w .store) .stores)) n))
+unfolding next
+past-next (called c) w j m = go (handed c (w .desk))
   where
-    fed : (y : Bool) → List·Memᴰ j (cond y (feed (does c (w .station) (w .store) .answer) c (w .ledger)) (w .ledger) .past)
-    fed true = past-fed _ c (w .ledger) j m
-    fed false = m
+    go : (x : Option Station) → List·Memᴰ j (afterCall x c w .ledger .past)
+    go none = unfold afterCall in m
+    go (some st) = unfold afterCall in past-fed _ c (w .ledger) j m
+past-next (cut c n) w j m = go (handed c (w .desk))
+  where
+    fed : (e : Effect) (y : Bool) → List·Memᴰ j (cond y (feed (e .answer) c (w .ledger)) (w .ledger) .past)
+    fed e true = past-fed _ c (w .ledger) j m
+    fed e false = m
+
+    go : (x : Option Station) → List·Memᴰ j (afterCut x c n w .ledger .past)
+    go none = unfold afterCut in m
+    go (some st) = unfold afterCut fedAfter in fed (does c st (w .store)) (leb (length (does c st (w .store) .stores)) n)
 
 past-run : (us : List Event) (w : World) (j : Committed) → List·Memᴰ j (w .ledger .past) → List·Memᴰ j (run us w .ledger .past)
 unfolding run
@@ -129,7 +136,7 @@ done-stands st s b inv t i Open q c h = absurd (false≢true c)
 done-stands st s b inv t i (Closing d c n) q _ h =
     let r = last (ltb n (l .«write_count»)) (eqb n (l .«write_count»)) _ d _ _ _ (entryFor l .id) i refl refl refl h in
     let full : l .«write_count» < n = omega (arith, ltb-false n (l .«write_count») (r .0), eqb-false n (l .«write_count») (r .1)) in
-    (committedIn s d (entryFor l), stands s (b .standing) (inv .standing .found) d (entryFor l) (pr .low) (pr .marked full), committed-id s d (entryFor l) ∙ r .2)
+    (committedIn s d (entryFor l), stands s (b .standing) (inv .core .found) d (entryFor l) (pr .low) (pr .marked full), committed-id s d (entryFor l) ∙ r .2)
   where
     l : Live
     l = liveAt st (placeOf t st)
@@ -137,16 +144,16 @@ done-stands st s b inv t i (Closing d c n) q _ h =
     pr : Prepared s (liveAt st (placeOf t st)) d c n
     pr = inv .slots .closing (placeOf t st) d c n q
 
-pub acknowledged-stands : (vs : List Event) → AllInRange vs → (t : ℕ) (i : Id)
-    → does (Step t) (run vs begin .station) (run vs begin .store) .answer ≡ A.Done i
+pub acknowledged-stands : (vs : List Event) → AllInRange vs → (st : Station) → run vs begin .desk ≡ running st → (t : ℕ) (i : Id)
+    → does (Step t) st (run vs begin .store) .answer ≡ A.Done i
     → (j : Committed) × List·Memᴰ j (run vs begin .ledger .standing) × List·Memᴰ j (run vs begin .ledger .past) × (j .id ≡ i)
 unfolding does step all
-acknowledged-stands vs f t i h =
-    let w = history-keeps vs f in
-    let a = accepted _ (run vs begin .station) _ refl (ap refusedWith h ∙ (unfold refusedWith in refl)) in
+acknowledged-stands vs f st up t i h =
+    let w = running-keeps vs f st up in
+    let a = accepted _ st _ refl (ap refusedWith h ∙ (unfold refusedWith in refl)) in
     let r10 = row-off 10 _ _ (row-off 8 _ _ (row-off 3 _ _ (row-off 2 _ _ (row-off 1 _ _ (a .0) .1) .1) .1) .1) in
-    let r = done-stands (run vs begin .station) (run vs begin .store) (run vs begin .ledger) (w .1) t i _ refl (not-false _ (r10 .0)) (sym (ap (λ (e : Effect). e .answer) (a .1)) ∙ h) in
-    (r .0, r .1, w .1 .standing .kept (r .0) (r .1), r .2)
+    let r = done-stands st (run vs begin .store) (run vs begin .ledger) (w .1) t i _ refl (not-false _ (r10 .0)) (sym (ap (λ (e : Effect). e .answer) (a .1)) ∙ h) in
+    (r .0, r .1, w .1 .core .kept (r .0) (r .1), r .2)
 
 -- ── exactly-once retry: a commit that is answered done again alters nothing, and its transaction stands once ──
 -- of commit's three answers done is the first
@@ -165,13 +172,12 @@ retry-alters-nothing st t c i h =
     let r = held-first (isHeld t st) (eqb (liveAt st (placeOf t st) .«write_count») 0) st _ _ _ _ i (sym (ap (λ (e : Effect). e .answer) (a .1)) ∙ h) in
     (r .0, r .1, a .1 ∙ (r .2 ∙ ap (λ (x : Id). says (A.Done x) st) (r .1)), eqb-false t 0 (row-off 3 _ _ (row-off 2 _ _ (a .0) .1) .0))
 
-pub retry-stands-once : (vs : List Event) → AllInRange vs → (t c : ℕ) (i : Id)
-    → does (Commit t c) (run vs begin .station) (run vs begin .store) .answer ≡ A.Done i
+pub retry-stands-once : (vs : List Event) → AllInRange vs → (st : Station) → run vs begin .desk ≡ running st → (t c : ℕ) (i : Id)
+    → does (Commit t c) st (run vs begin .store) .answer ≡ A.Done i
     → (j : Committed) × List·Memᴰ j (run vs begin .ledger .standing) × (j .id ≡ i) × ((x : Committed) → List·Memᴰ x (run vs begin .ledger .standing) → x .id .txn ≡ i .txn → x ≡ j)
 unfolding does
-retry-stands-once vs f t c i h =
-    let w = history-keeps vs f in
-    let st = run vs begin .station in
+retry-stands-once vs f st up t c i h =
+    let w = running-keeps vs f st up in
     let s = run vs begin .store in
     let r = retry-alters-nothing st t c i h in
     let d = slotOf t st in
@@ -179,7 +185,7 @@ retry-stands-once vs f t c i h =
     let seen-d = w .1 .slots .entered d nz in
     let o : d < slots = omega (arith, entry-in st d nz, w .1 .slots .count) in (
       committedIn s d (entryAt st d),
-      stands s _ (w .1 .standing .found) d (entryAt st d) o seen-d,
+      stands s _ (w .1 .core .found) d (entryAt st d) o seen-d,
       committed-id s d (entryAt st d) ∙ r .1,
-      λ x m e. stands-once s _ (w .1 .standing .found) (w .1 .slots .single) x d (entryAt st d) o seen-d m (e ∙ sym (ap (λ (y : Id). y .txn) (r .1))),
+      λ x m e. stands-once s _ (w .1 .core .found) (w .1 .core .single) x d (entryAt st d) o seen-d m (e ∙ sym (ap (λ (y : Id). y .txn) (r .1))),
     )

@@ -2,11 +2,13 @@
 use Prim.Native.Nat.{ℕ, _<_}
 use mathlib.Core.Path.{_≡_, refl, sym, ap, subst, _∙_, fun-ext}
 use mathlib.Core.Logic.{_≢_}
-use mathlib.Core.Bool.{true}
+use mathlib.Core.Bool.{Bool, true, false, cond, false≢true}
+use mathlib.Core.List.{List, [], _∷_}
 use mathlib.Core.Option.{Option, some, none, Option·none-ne-some, Option·some-injective}
+use lib.Dec.{eqb}
 use lib.ListN.{length}
 use native.Mathlib.Decide.{ℕ-discrete}
-use borrow.Author.Tests.{eq-eqb, ne-eqb}
+use borrow.Author.Tests.{eqb-true, eqb-false, eq-eqb, ne-eqb}
 use Rattle.model.specs.declared.Live.{Live}
 use Rattle.model.specs.declared.Station.{Station}
 use Rattle.model.specs.Lives.{noLive}
@@ -15,11 +17,19 @@ use Rattle.model.specs.Sound.{sound}
 use Rattle.model.specs.Reading.{own}
 use Rattle.model.proofs.StationLaws.{place-hit, setLive-at, liveAt-same, liveAt-other}
 use Rattle.model.proofs.SoundFacts.{one-place, no-other}
-use Rattle.history.specs.Ledger.{Draft, at, revised}
+use Rattle.history.specs.Ledger.{Draft, draftOf, without, revised, at}
 use Rattle.history.specs.Matches.{Matches, Correspond}
 
 pub some-inj : {A : Type 0} {x y : A} → some x ≡ some y → x ≡ y
 some-inj e = Option·some-injective _ _ e
+
+cond-same : {A : Type 0} (b : Bool) (x : A) → x ≡ cond b x x
+cond-same true x = refl
+cond-same false x = refl
+
+-- a number that is one of two that differ is not the other
+apart : (t n u : ℕ) → eqb t n ≡ false → eqb u n ≡ true → eqb u t ≡ true → ⊥
+apart t n u h a b = eqb-false t n h (sym (eqb-true u t b) ∙ eqb-true u n a)
 
 module _ {A : Type 0} (n : ℕ) (x : A) (f : ℕ → A) where
   pub at-same : at n x f n ≡ x
@@ -30,11 +40,74 @@ module _ {A : Type 0} (n : ℕ) (x : A) (f : ℕ → A) where
   unfolding at
   at-other m h = simp (ne-eqb m n h)
 
+-- two tests that do not both hold may change places; one that holds with the other hides it
+pub cond-swap : {A : Type 0} (p q : Bool) (x y z : A) → (p ≡ true → q ≡ true → ⊥) → cond p x (cond q y z) ≡ cond q y (cond p x z)
+cond-swap true true x y z n = absurd (n refl refl)
+cond-swap true false x y z n = refl
+cond-swap false true x y z n = refl
+cond-swap false false x y z n = refl
+
+pub cond-twice : {A : Type 0} (p q : Bool) (x y z : A) → p ≡ q → cond p x (cond q y z) ≡ cond p x z
+cond-twice true q x y z e = refl
+cond-twice false true x y z e = absurd (false≢true e)
+cond-twice false false x y z e = refl
+
+-- ── the list of drafts, by its accessor ──
+unfoldable pub mapped : (Draft → Draft) → Option Draft → Option Draft
+mapped f none = none
+mapped f (some p) = some (f p)
+
+pub draft-txn : (t : ℕ) (ps : List Draft) (p : Draft) → draftOf t ps ≡ some p → p .txn ≡ t
+unfolding draftOf
+draft-txn t [] p e = absurd (Option·none-ne-some p e)
+draft-txn t (q ∷ ps) p e = go (eqb t (q .txn)) refl (draft-txn t ps p)
+  where
+    go : (x : Bool) → eqb t (q .txn) ≡ x → (draftOf t ps ≡ some p → p .txn ≡ t) → p .txn ≡ t
+    go true h ih = let r : q ≡ p = some-inj (rw h at e) in sym (ap (λ (y : Draft). y .txn) r) ∙ sym (eqb-true t (q .txn) h)
+    go false h ih = ih (rw h at e)
+
+-- torn out
+pub draft-without : (t : ℕ) (ps : List Draft) (u : ℕ) → draftOf u (without t ps) ≡ at t none (λ x. draftOf x ps) u
+unfolding draftOf without at
+draft-without t [] u = cond-same (eqb u t) none
+draft-without t (p ∷ ps) u = go (eqb t (p .txn)) refl (draft-without t ps u)
+  where
+    go : (x : Bool) → eqb t (p .txn) ≡ x → draftOf u (without t ps) ≡ at t none (λ y. draftOf y ps) u
+        → draftOf u (cond (eqb t (p .txn)) (without t ps) (p ∷ without t ps)) ≡ at t none (λ y. draftOf y (p ∷ ps)) u
+    go true h ih = rw h (ih ∙ sym (cond-twice (eqb u t) (eqb u (p .txn)) none (some p) (draftOf u ps) (ap (eqb u) (eqb-true t (p .txn) h))))
+    go false h ih = rw h (rw ih (cond-swap (eqb u (p .txn)) (eqb u t) (some p) none (draftOf u ps) (apart t (p .txn) u h)))
+
+-- a new one in its place
+pub draft-new : (p : Draft) (ps : List Draft) (u : ℕ) → draftOf u (p ∷ without (p .txn) ps) ≡ at (p .txn) (some p) (λ x. draftOf x ps) u
+unfolding draftOf at
+draft-new p ps u = rw (draft-without (p .txn) ps u) (cond-twice (eqb u (p .txn)) (eqb u (p .txn)) (some p) none (draftOf u ps) refl)
+
+-- one revised
+pub draft-revised : (t : ℕ) (g : Draft → Draft) → ((p : Draft) → g p .txn ≡ p .txn) → (ps : List Draft) (u : ℕ) → draftOf u (revised t g ps) ≡ at t (mapped g (draftOf t ps)) (λ x. draftOf x ps) u
+unfolding draftOf revised at mapped
+draft-revised t g k [] u = cond-same (eqb u t) none
+draft-revised t g k (p ∷ ps) u = go (eqb t (p .txn)) refl (draft-revised t g k ps u)
+  where
+    go : (x : Bool) → eqb t (p .txn) ≡ x → draftOf u (revised t g ps) ≡ at t (mapped g (draftOf t ps)) (λ y. draftOf y ps) u
+        → draftOf u (cond (eqb t (p .txn)) (g p) p ∷ revised t g ps) ≡ at t (mapped g (cond (eqb t (p .txn)) (some p) (draftOf t ps))) (λ y. draftOf y (p ∷ ps)) u
+    go true h ih = rw (h, ih) (both (eqb u (g p .txn)) (eqb u t) (eqb u (p .txn)) (ap (eqb u) (k p ∙ e)) (ap (eqb u) (sym e)))
+      where
+        e : p .txn ≡ t
+        e = sym (eqb-true t (p .txn) h)
+
+        both : (x y z : Bool) → x ≡ y → y ≡ z → cond x (some (g p)) (cond y (mapped g (draftOf t ps)) (draftOf u ps)) ≡ cond y (some (g p)) (cond z (some p) (draftOf u ps))
+        both x y z a b = rw (a, ← b) (cond-twice y y (some (g p)) _ (draftOf u ps) refl ∙ sym (cond-twice y y (some (g p)) (some p) (draftOf u ps) refl))
+    go false h ih = rw (h, ih) (cond-swap (eqb u (p .txn)) (eqb u t) (some p) (mapped g (draftOf t ps)) (draftOf u ps) (apart t (p .txn) u h))
+
 -- a draft of the revised ones was one before
-pub was-draft : (f : Draft → Draft) (x : Option Draft) (p : Draft) → revised f x ≡ some p → (q : Draft) × (x ≡ some q) × (p ≡ f q)
-unfolding revised
+pub was-draft : (f : Draft → Draft) (x : Option Draft) (p : Draft) → mapped f x ≡ some p → (q : Draft) × (x ≡ some q) × (p ≡ f q)
+unfolding mapped
 was-draft f none p e = absurd (Option·none-ne-some p e)
 was-draft f (some q) p e = (q, refl, sym (some-inj e))
+
+-- drafts that are the same, one by one
+pub drafts-as : (st : Station) (f g : ℕ → Option Draft) → ((u : ℕ) → g u ≡ f u) → Correspond st f → Correspond st g
+drafts-as st f g e co = subst (Correspond st) (sym (fun-ext e)) co
 
 -- the draft of a live transaction
 pub draft-of : (st : Station) (f : ℕ → Option Draft) → Correspond st f → (t i : ℕ) → liveAt st i .txn ≡ t → t ≢ 0 → (p : Draft) × (f t ≡ some p)
@@ -96,12 +169,12 @@ drafts-cast st st′ f e co = record {
 
 -- t's own place: t's draft revised
 module _ (st : Station) (f : ℕ → Option Draft) (co : Correspond st f) (h : sound st ≡ true) (t : ℕ) (n : t ≢ 0) (z : isLive t st ≡ true) (l : Live) (e : l .txn ≡ t) where
-  pub drafts-revised : (g : Draft → Draft) → ((p : Draft) → Matches p (liveAt st (placeOf t st)) → Matches (g p) l) → Correspond (setLive st (placeOf t st) l) (at t (revised g (f t)) f)
-  unfolding revised
+  pub drafts-revised : (g : Draft → Draft) → ((p : Draft) → Matches p (liveAt st (placeOf t st)) → Matches (g p) l) → Correspond (setLive st (placeOf t st) l) (at t (mapped g (f t)) f)
+  unfolding mapped
   drafts-revised g m =
-      drafts-set st f co t (placeOf t st) l (revised g (f t)) (place-hit st t z .0) (λ y. place-hit st t z .1) (no-other st h t z)
+      drafts-set st f co t (placeOf t st) l (mapped g (f t)) (place-hit st t z .0) (λ y. place-hit st t z .1) (no-other st h t z)
       (λ p q. let r = was-draft g (f t) p q in (n, e, subst (λ (y : Draft). Matches y l) (sym (r .2)) (m (r .0) (matches-at st f h co t z (r .0) (r .1)))))
-      (λ y. let r = draft-of st f co t (placeOf t st) (place-hit st t z .1) n in (e, g (r .0), ap (revised g) (r .1)))
+      (λ y. let r = draft-of st f co t (placeOf t st) (place-hit st t z .1) n in (e, g (r .0), ap (mapped g) (r .1)))
 
   -- the draft stays
   pub drafts-same : ((p : Draft) → Matches p (liveAt st (placeOf t st)) → Matches p l) → Correspond (setLive st (placeOf t st) l) f

@@ -1,4 +1,4 @@
--- What holds of station, store and ledger between the calls of a history: five parts, of which a call proves only what it touches.
+-- What holds of station, store and ledger between the calls of a history.
 use Prim.Native.Nat.{ℕ, suc, _<_, _≤_}
 use mathlib.Core.Path.{_≡_}
 use mathlib.Core.Logic.{_≢_, _⊎_}
@@ -7,6 +7,8 @@ use mathlib.Core.List.{List, [], _∷_, map, List·Permᴰ, List·Memᴰ}
 use lib.ListN.{length, take, getD}
 use native.Mathlib.Nat.{not-suc-le-zero}
 use native.Mathlib.Omega.{arith}
+use mathlib.Core.Option.{Option, some}
+use Rattle.model.specs.declared.Read.{Read}
 use Rattle.model.specs.declared.Write.{Write}
 use Rattle.model.specs.declared.Live.{Live}
 use Rattle.model.specs.declared.Entry.{Entry}
@@ -19,14 +21,14 @@ use Rattle.model.specs.Lives.{noWrite, writesOf, readsOf}
 use Rattle.model.specs.Entries.{entryFor}
 use Rattle.model.specs.Stations.{liveAt, entryAt}
 use Rattle.model.specs.Records.{versionRecord, recordAt, withRecord}
-use Rattle.model.specs.Slots.{free, committed, seen}
-use Rattle.model.specs.Sound.{sound}
+use Rattle.model.specs.Slots.{free, committed, damaged, seen}
 use Rattle.model.specs.Reading.{Atomic}
 use Rattle.model.specs.Effects.{Effect, stored, says, saysStoring, Row, _when_, refusals}
 use Rattle.model.specs.Scan.{slotsSeen, entrySeen}
 use Rattle.model.specs.Calls.{Call}
 use Rattle.model.proofs.RefusalLaws.{guard, unguarded, cond-rule}
-use Rattle.history.specs.Ledger.{Committed, Ledger, feed}
+use Rattle.history.specs.Ledger.{Draft, Committed, Ledger, draftOf, feed}
+use Rattle.history.specs.Histories.{fedAfter}
 use Rattle.history.specs.CutRule.{committedFound, Wrote, Newer}
 use Rattle.history.specs.Matches.{Correspond}
 
@@ -44,30 +46,47 @@ pub record Prepared (s : List ℕ) (l : Live) (d c n : ℕ) : Type 0 where
   pub unmarked : n ≤ l .«write_count» → seen s d ≡ free
   pub marked : l .«write_count» < n → seen s d ≡ committed (entryFor l)
 
--- 1. slots against bytes
-pub record Slots (st : Station) (s : List ℕ) : Type 0 where
-  pub size : length s ≡ storeSize
-  pub count : length (st .entries) ≡ slots
-  pub entered : (d : ℕ) → entryAt st d .id .txn ≢ 0 → seen s d ≡ committed (entryAt st d)
-  pub closing : (i d c n : ℕ) → liveAt st i .phase ≡ Closing d c n → Prepared s (liveAt st i) d c n
-  pub unused : (d : ℕ) → d < slots → entryAt st d .id .txn ≡ 0 → ((i c n : ℕ) → liveAt st i .phase ≡ Closing d c n → ⊥) → seen s d ≡ free
-  pub single : (d d′ : ℕ) (e e′ : Entry) → d < slots → d′ < slots → seen s d ≡ committed e → seen s d′ ≡ committed e′ → e .id .txn ≡ e′ .id .txn → d ≡ d′
-
--- 2. standing transactions against slots; a past one stands, or on each key it wrote a standing one is newer
+-- a past transaction stands, or on each key it wrote a standing one is newer
 abbrev pub Dominated : List Committed → Committed → Type 0
 Dominated standing j = List·Memᴰ j standing ⊎ ((k : ℕ) → Wrote j k → (i : Committed) × List·Memᴰ i standing × Wrote i k × Newer (i .id) (j .id))
 
-pub record Standing (s : List ℕ) (standing past : List Committed) : Type 0 where
+-- ── what lasts: it holds of store and ledger, whichever station runs, or none ──
+-- the store keeps the rules, and has the standing transactions: this alone makes every scan succeed
+pub record Core (s : List ℕ) (standing past : List Committed) : Type 0 where
+  pub size : length s ≡ storeSize
+  pub undamaged : (d : ℕ) → d < slots → seen s d ≡ damaged → ⊥
+  pub single : (d d′ : ℕ) (e e′ : Entry) → d < slots → d′ < slots → seen s d ≡ committed e → seen s d′ ≡ committed e′ → e .id .txn ≡ e′ .id .txn → d ≡ d′
   pub found : List·Permᴰ (inStore s) standing
   pub kept : (j : Committed) → List·Memᴰ j standing → List·Memᴰ j past
   pub dominated : (j : Committed) → List·Memᴰ j past → Dominated standing j
 
--- 3. drafts against live transactions: `Correspond`
--- 4. read sets against entries
+-- a read of a draft names a standing transaction that wrote its key, and the draft's other reads are atomic with it
+abbrev pub Sure : List Committed → Draft → Type 0
+Sure standing p =
+    (r : Read) → List·Memᴰ r (p .reads)
+    → (j : Committed) × List·Memᴰ j standing × (j .id ≡ r .id) × Wrote j (r .key) × ((q : Read) → List·Memᴰ q (p .reads) → Wrote j (q .key) → Newer (r .id) (q .id) → ⊥)
+
+pub record Lasting (s : List ℕ) (b : Ledger) : Type 0 where
+  pub core : Core s (b .standing) (b .past)
+  pub sure : (t : ℕ) (p : Draft) → draftOf t (b .drafts) ≡ some p → Sure (b .standing) p
+
+-- ── what holds of a running station beside: four parts, of which a call proves only what it touches ──
+-- 1. entries and closing transactions against slots
+pub record Slots (st : Station) (s : List ℕ) : Type 0 where
+  pub count : length (st .entries) ≡ slots
+  pub entered : (d : ℕ) → entryAt st d .id .txn ≢ 0 → seen s d ≡ committed (entryAt st d)
+  pub closing : (i d c n : ℕ) → liveAt st i .phase ≡ Closing d c n → Prepared s (liveAt st i) d c n
+  pub unused : (d : ℕ) → d < slots → entryAt st d .id .txn ≡ 0 → ((i c n : ℕ) → liveAt st i .phase ≡ Closing d c n → ⊥) → seen s d ≡ free
+
+-- 2. live transactions against drafts
+abbrev pub draftIn : Ledger → ℕ → Option Draft
+draftIn b t = draftOf t (b .drafts)
+
+-- 3. read sets against entries
 abbrev pub AtomicReads : Station → Type 0
 AtomicReads st = (i : ℕ) → Atomic (st .entries) (readsOf (liveAt st i))
 
--- 5. ranges
+-- 4. ranges
 pub record Ranges (l : Live) : Type 0 where
   pub txn : l .txn < txnRange
   pub clock : (d c n : ℕ) → l .phase ≡ Closing d c n → c < numberRange
@@ -75,20 +94,16 @@ pub record Ranges (l : Live) : Type 0 where
   pub values : (w : Write) → List·Memᴰ w (writesOf l) → w .value < numberRange
 
 pub record Inv (st : Station) (s : List ℕ) (b : Ledger) : Type 0 where
+  pub core : Core s (b .standing) (b .past)
   pub slots : Slots st s
-  pub standing : Standing s (b .standing) (b .past)
-  pub drafts : Correspond st (b .drafts)
+  pub drafts : Correspond st (draftIn b)
   pub reads : AtomicReads st
   pub ranges : (i : ℕ) → Ranges (liveAt st i)
 
--- some station goes with the store and the ledger
-abbrev pub Held : List ℕ → Ledger → Type 0
-Held s b = (st : Station) × (sound st ≡ true) × Inv st s b
-
--- ── what a call owes: the invariant afterwards, and after each prefix of its stores with the ledger as it was ──
+-- ── what a call owes: the invariant afterwards, and after each prefix of its stores, when the station is lost, what lasts ──
 pub record Good (s : List ℕ) (b : Ledger) (c : Call) (e : Effect) : Type 0 where
   pub after : Inv (e .station) (stored (e .stores) s) (feed (e .answer) c b)
-  pub before : (n : ℕ) → n < length (e .stores) → Held (stored (take n (e .stores)) s) b
+  pub before : (n : ℕ) → n < length (e .stores) → Lasting (stored (take n (e .stores)) s) (fedAfter n c e b)
 
 module _ (s : List ℕ) (b : Ledger) (c : Call) where
   -- an answer with nothing stored
@@ -96,10 +111,10 @@ module _ (s : List ℕ) (b : Ledger) (c : Call) where
   unfolding says stored
   good-says a st inv = record { after = inv; before = λ n o. absurd (not-suc-le-zero o) }
 
-  -- with one record stored: before it the old station goes with the store
-  pub good-stores : (a : Answer) (st st₀ : Station) (d n : ℕ) (r : List ℕ) → sound st₀ ≡ true → Inv st₀ s b → Inv st (withRecord s d n r) (feed a c b) → Good s b c (saysStoring a st d n r)
-  unfolding saysStoring stored
-  good-stores a st st₀ d n r h old inv = record { after = inv; before = λ m o. let z : m ≡ 0 = omega arith in rw z (st₀, h, old) }
+  -- with one record stored: before it store and ledger are as they were
+  pub good-stores : (a : Answer) (st : Station) (d n : ℕ) (r : List ℕ) → Lasting s b → Inv st (withRecord s d n r) (feed a c b) → Good s b c (saysStoring a st d n r)
+  unfolding saysStoring stored fedAfter
+  good-stores a st d n r old inv = record { after = inv; before = λ m o. let z : m ≡ 0 = omega arith in rw z old }
 
   -- a refusal alters nothing, and where the row does not apply the rest counts
   pub row : (st : Station) (t : Bool) (n : ℕ) (rs : List Row) (e : Effect) → Inv st s b → (t ≡ false → Good s b c (refusals rs st e)) → Good s b c (refusals (n when t ∷ rs) st e)

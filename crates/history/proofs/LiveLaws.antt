@@ -3,7 +3,6 @@ use Prim.Native.Nat.{ℕ, _<_}
 use mathlib.Core.Path.{_≡_, refl, ap, subst, _∙_}
 use mathlib.Core.Bool.{true, false}
 use mathlib.Core.List.{List, List·Memᴰ·not-nil}
-use mathlib.Core.Option.{none}
 use lib.Dec.{lit<}
 use lib.ListN.{length}
 use native.Mathlib.Decide.{ℕ-discrete}
@@ -16,20 +15,18 @@ use Rattle.model.specs.Stations.{liveAt, setLive, isLive, placeOf}
 use Rattle.model.specs.Sound.{sound}
 use Rattle.model.specs.Reading.{Atomic}
 use Rattle.model.proofs.StationLaws.{place-hit, setLive-at, liveAt-other, setLive-entry, not-closing}
-use Rattle.history.specs.Ledger.{Ledger, withDraft}
-use Rattle.history.proofs.Invariant.{Prepared, Slots, AtomicReads, Ranges, Inv}
-use Rattle.history.proofs.DraftLaws.{drafts-cleared}
+use Rattle.history.specs.Ledger.{Ledger, without, withDrafts}
+use Rattle.history.proofs.Invariant.{Prepared, Slots, draftIn, AtomicReads, Ranges, Inv}
+use Rattle.history.proofs.DraftLaws.{draft-without, drafts-as, drafts-cleared}
 
 -- a place that is not closing is replaced
 pub slots-set : (st : Station) (s : List ℕ) (i : ℕ) (l : Live) → Slots st s → i < length (st .live) → isClosing (liveAt st i .phase) ≡ false
     → ((d c n : ℕ) → l .phase ≡ Closing d c n → Prepared s l d c n) → Slots (setLive st i l) s
 slots-set st s i l sl o nc pr = record {
-  size = sl .size;
   count = unfold setLive in sl .count;
   entered = λ d. rw (setLive-entry st i l d) (sl .entered d);
   closing = setLive-at st i l (λ j x. (d c n : ℕ) → x .phase ≡ Closing d c n → Prepared s x d c n) o pr (λ j nj. sl .closing j);
   unused = λ d od. rw (setLive-entry st i l d) (λ z un. sl .unused d od z (still d un));
-  single = sl .single;
 }
   where
     still : (d : ℕ) → ((j c n : ℕ) → liveAt (setLive st i l) j .phase ≡ Closing d c n → ⊥) → (j c n : ℕ) → liveAt st j .phase ≡ Closing d c n → ⊥
@@ -65,12 +62,12 @@ noLive-ranges = record {
 
 -- a live transaction that is not closing is cleared, and its draft torn out
 pub cleared : (st : Station) (s : List ℕ) (b : Ledger) → Inv st s b → sound st ≡ true → (t : ℕ) → isLive t st ≡ true → isClosing (liveAt st (placeOf t st) .phase) ≡ false
-    → Inv (setLive st (placeOf t st) noLive) s (withDraft t none b)
-unfolding withDraft
+    → Inv (setLive st (placeOf t st) noLive) s (withDrafts (without t (b .drafts)) b)
+unfolding withDrafts
 cleared st s b inv h t z nc = record {
+  core = inv .core;
   slots = slots-set st s (placeOf t st) noLive (inv .slots) (place-hit st t z .0) nc (λ d c n e. absurd (not-closing (noLive .phase) d c n noLive-open e));
-  standing = inv .standing;
-  drafts = drafts-cleared st (b .drafts) (inv .drafts) h t z;
+  drafts = drafts-as _ _ _ (draft-without t (b .drafts)) (drafts-cleared st (draftIn b) (inv .drafts) h t z);
   reads = reads-set st (placeOf t st) noLive (place-hit st t z .0) (inv .reads) (noLive-reads (st .entries));
   ranges = ranges-set st (placeOf t st) noLive (place-hit st t z .0) (inv .ranges) noLive-ranges;
 }

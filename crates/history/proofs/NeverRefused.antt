@@ -32,10 +32,10 @@ use Rattle.model.proofs.StationLaws.{held-txn}
 use Rattle.model.proofs.GetLaws.{version-entry}
 use Rattle.model.proofs.SoundFacts.{wrote-held}
 use Rattle.history.specs.Ledger.{Ledger}
-use Rattle.history.specs.Histories.{Event, begin, run, AllInRange}
+use Rattle.history.specs.Histories.{Event, running, begin, run, AllInRange}
 use Rattle.history.proofs.Invariant.{Inv}
 use Rattle.history.proofs.Recovering.{scan-is}
-use Rattle.history.proofs.Theorem.{history-keeps}
+use Rattle.history.proofs.Theorem.{running-keeps}
 
 -- the numbers of a store or a station that is not as it should be
 abbrev pub faults : List ℕ
@@ -64,7 +64,7 @@ off n b rs st e h c = rw (skipped n b rs st e h) c
 module _ (st : Station) (s : List ℕ) (b : Ledger) (h : sound st ≡ true) (inv : Inv st s b) where
   off1 : wrongLength s ≡ false
   unfolding wrongLength
-  off1 = not-of-true _ (eq-eqb (length s) storeSize (inv .slots .size))
+  off1 = not-of-true _ (eq-eqb (length s) storeSize (inv .core .size))
 
   off2 : unsound st ≡ false
   unfolding unsound
@@ -100,8 +100,8 @@ module _ (st : Station) (s : List ℕ) (b : Ledger) (h : sound st ≡ true) (inv
   calm (Abort t) = off 2 _ _ st _ off2 (row 3 _ _ st _ refl λ h3. row 8 _ _ st _ refl λ h8. row 9 _ _ st _ refl λ h9. unguarded Calm st _ (calm-says _ _ refl))
   calm (Collect d) = off 1 _ _ st _ off1 (off 2 _ _ st _ off2 (row 14 _ _ st _ refl λ h14. row 15 _ _ st _ refl λ h15. row 16 _ _ st _ refl λ h16.
       off 17 _ _ st _ (not-of-true _ (committed-carries s d (entryAt st d) (inv .slots .entered d (held-txn st d (not-false _ (or-right _ _ h14)))))) (unguarded Calm st _ (calm-stores _ _ _ _ _ refl))))
-  calm Scan = rw (scan-is st s b inv) (calm-says _ _ refl)
+  calm Scan = rw (scan-is s (b .standing) (b .past) (inv .core)) (calm-says _ _ refl)
 
-pub never-refused : (vs : List Event) → AllInRange vs → (c : Call) → member (refusedWith (does c (run vs begin .station) (run vs begin .store) .answer)) faults ≡ false
+pub never-refused : (vs : List Event) → AllInRange vs → (st : Station) → run vs begin .desk ≡ running st → (c : Call) → member (refusedWith (does c st (run vs begin .store) .answer)) faults ≡ false
 unfolding Calm
-never-refused vs f c = let st = history-keeps vs f in calm _ _ _ (st .0) (st .1) c
+never-refused vs f st e c = let r = running-keeps vs f st e in calm _ _ _ (r .0) (r .1) c

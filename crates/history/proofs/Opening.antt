@@ -2,9 +2,9 @@
 use Prim.Native.Nat.{ℕ, _<_, _≤_}
 use mathlib.Core.Path.{_≡_, refl, sym, ap, subst, _∙_}
 use mathlib.Core.Logic.{_≢_, ⊎-elim}
-use mathlib.Core.Bool.{Bool, true, false, not, cond, true≢false, false≢true}
+use mathlib.Core.Bool.{Bool, true, false, not, cond, true≢false}
 use mathlib.Core.List.{List, [], _∷_, List·Memᴰ·not-nil}
-use mathlib.Core.Option.{some, none}
+use mathlib.Core.Option.{some}
 use lib.Dec.{eqb, ltb, leb}
 use lib.ListN.{length}
 use native.Mathlib.Omega.{arith}
@@ -30,10 +30,10 @@ use Rattle.model.proofs.InsertLaws.{insert-mem, insert-fits, padded-length}
 use Rattle.model.proofs.StationLaws.{place-hit, is-live, not-closing}
 use Rattle.model.proofs.SoundLaws.{write-limit, writes-ascending, writes-length, writesOf-withWrites}
 use Rattle.model.proofs.SoundFacts.{live-facts, unused-open}
-use Rattle.history.specs.Ledger.{Draft, Ledger, at, onDraft, withDraft, feed}
+use Rattle.history.specs.Ledger.{Draft, Ledger, without, revised, withDrafts, at, blankDraft, keeping, feed}
 use Rattle.history.specs.Matches.{lookup, Matches}
-use Rattle.history.proofs.Invariant.{Ranges, Inv, Good, good-says, row, unrefused}
-use Rattle.history.proofs.DraftLaws.{some-inj, drafts-set, drafts-revised}
+use Rattle.history.proofs.Invariant.{draftIn, Ranges, Inv, Good, good-says, row, unrefused}
+use Rattle.history.proofs.DraftLaws.{some-inj, cond-swap, cond-twice, draft-new, draft-revised, drafts-as, drafts-set, drafts-revised}
 use Rattle.history.proofs.LiveLaws.{slots-set, reads-set, ranges-set, cleared}
 
 -- ── start ──
@@ -54,7 +54,7 @@ opened-reads : (es : List Entry) (t : ℕ) → Atomic es (readsOf (opened t))
 unfolding readsOf opened
 opened-reads es t r q m = absurd (List·Memᴰ·not-nil m)
 
-opened-matches : (t : ℕ) → Matches (record { clock = 0; values = λ k. none; reads = [] }) (opened t)
+opened-matches : (t : ℕ) → Matches (blankDraft t) (opened t)
 unfolding opened readsOf writesOf lookup
 opened-matches t = record {
   values = λ k. refl;
@@ -63,15 +63,15 @@ opened-matches t = record {
 }
 
 started : (st : Station) (s : List ℕ) (b : Ledger) (t : ℕ) → Inv st s b → sound st ≡ true → t < txnRange → t ≢ 0 → isLive t st ≡ false → isLive 0 st ≡ true
-    → Inv (setLive st (placeOf 0 st) (opened t)) s (withDraft t (some (record { clock = 0; values = λ k. none; reads = [] })) b)
-unfolding withDraft
+    → Inv (setLive st (placeOf 0 st) (opened t)) s (withDrafts (blankDraft t ∷ without t (b .drafts)) b)
+unfolding withDrafts
 started st s b t inv h o n nl z = record {
+  core = inv .core;
   slots = slots-set st s (placeOf 0 st) (opened t) (inv .slots) at-0 (unused-open st h (placeOf 0 st) is-0) (λ d c m e. absurd (not-closing (opened t .phase) d c m (opened-open t) e));
-  standing = inv .standing;
-  drafts = drafts-set st (b .drafts) (inv .drafts) t (placeOf 0 st) (opened t) _ at-0 (λ y. absurd (y is-0))
+  drafts = drafts-as _ _ _ (draft-new (blankDraft t) (b .drafts)) (drafts-set st (draftIn b) (inv .drafts) t (placeOf 0 st) (opened t) _ at-0 (λ y. absurd (y is-0))
       (λ j nj e y. true≢false (sym (subst (λ (u : ℕ). isLive u st ≡ true) e (is-live st j y)) ∙ nl))
       (λ p e. (n, unfold opened in refl, subst (λ (y : Draft). Matches y (opened t)) (some-inj e) (opened-matches t)))
-      (λ y. (unfold opened in refl, _, refl));
+      (λ y. (unfold opened in refl, _, refl)));
   reads = reads-set st (placeOf 0 st) (opened t) at-0 (inv .reads) (opened-reads (st .entries) t);
   ranges = ranges-set st (placeOf 0 st) (opened t) at-0 (inv .ranges) (opened-ranges t o);
 }
@@ -103,18 +103,6 @@ abort-keeps st s b t inv h =
     unrefused s b (Abort t) st _ (good-says s b (Abort t) A.Dropped _ (cleared st s b inv h t (not-false _ h8) h9))
 
 -- ── put ──
--- two tests that do not both hold may change places; one that holds with the other hides it
-cond-swap : {A : Type 0} (p q : Bool) (x y z : A) → (p ≡ true → q ≡ true → ⊥) → cond p x (cond q y z) ≡ cond q y (cond p x z)
-cond-swap true true x y z n = absurd (n refl refl)
-cond-swap true false x y z n = refl
-cond-swap false true x y z n = refl
-cond-swap false false x y z n = refl
-
-cond-twice : {A : Type 0} (p q : Bool) (x y z : A) → p ≡ q → cond p x (cond q y z) ≡ cond p x z
-cond-twice true q x y z e = refl
-cond-twice false true x y z e = absurd (false≢true e)
-cond-twice false false x y z e = refl
-
 -- the values by key after an insertion
 lookup-insert : (k v : ℕ) (ws : List Write) (u : ℕ) → lookup u (insert writeKey (record { key = k; value = v }) ws) ≡ at k (some v) (λ x. lookup x ws) u
 unfolding insert at lookup
@@ -133,7 +121,7 @@ abbrev written : ℕ → ℕ → Write
 written k v = record { key = k; value = v }
 
 put-matches : (k v : ℕ) (p : Draft) (l : Live) → isClosing (l .phase) ≡ false → Matches p l
-    → Matches (record { clock = p .clock; values = at k (some v) (p .values); reads = p .reads }) (withWrite k v l)
+    → Matches (keeping k v p) (withWrite k v l)
 unfolding withWrite withWrites readsOf at
 put-matches k v p l nc m = record {
   values = λ u. rw (writesOf-withWrites (insert writeKey (written k v) (writesOf l)) l) (rw lookup-insert (ap (cond (eqb u k) (some v)) (m .values u)));
@@ -161,11 +149,12 @@ put-fits st h i k v n h11 =
 kept : (st : Station) (s : List ℕ) (b : Ledger) (t k v : ℕ) → Inv st s b → sound st ≡ true → v < numberRange → t ≢ 0 → isLive t st ≡ true
     → isClosing (liveAt st (placeOf t st) .phase) ≡ false → (not (hasWritten k (liveAt st (placeOf t st))) and leb writeLimit (liveAt st (placeOf t st) .«write_count»)) ≡ false
     → Inv (setLive st (placeOf t st) (withWrite k v (liveAt st (placeOf t st)))) s
-    (onDraft t (λ p. record { clock = p .clock; values = at k (some v) (p .values); reads = p .reads }) b)
+    (withDrafts (revised t (keeping k v) (b .drafts)) b)
+unfolding withDrafts
 kept st s b t k v inv h o n z nc h11 = record {
+  core = inv .core;
   slots = slots-set st s i l (inv .slots) (place-hit st t z .0) nc (λ d c m e. absurd (not-closing (l .phase) d c m open-still e));
-  standing = unfold onDraft in inv .standing;
-  drafts = unfold onDraft in drafts-revised st (b .drafts) (inv .drafts) h t n z l same-txn _ (λ p m. put-matches k v p (liveAt st i) nc m);
+  drafts = drafts-as _ _ _ (draft-revised t (keeping k v) (λ p. refl) (b .drafts)) (drafts-revised st (draftIn b) (inv .drafts) h t n z l same-txn (keeping k v) (λ p m. put-matches k v p (liveAt st i) nc m));
   reads = reads-set st i l (place-hit st t z .0) (inv .reads) same-reads;
   ranges = ranges-set st i l (place-hit st t z .0) (inv .ranges)
       (put-ranges k v (liveAt st i) o nc (put-fits st h i k v (λ y. n (sym (place-hit st t z .1) ∙ y)) h11) (inv .ranges i));

@@ -28,10 +28,10 @@ use Rattle.model.proofs.StationLaws.{place-hit, entry-get, not-closing}
 use Rattle.model.proofs.GetLaws.{choice-version}
 use Rattle.model.proofs.SoundLaws.{readsOf-withReads}
 use Rattle.model.proofs.SoundFacts.{one-slot, wrote-held, live-facts, unused-reads}
-use Rattle.history.specs.Ledger.{Draft, Ledger, onDraft, feed}
+use Rattle.history.specs.Ledger.{Draft, Ledger, revised, withDrafts, reading, feed}
 use Rattle.history.specs.Matches.{Matches}
-use Rattle.history.proofs.Invariant.{Ranges, Inv, Good, good-says, row, unrefused}
-use Rattle.history.proofs.DraftLaws.{drafts-revised}
+use Rattle.history.proofs.Invariant.{draftIn, Ranges, Inv, Good, good-says, row, unrefused}
+use Rattle.history.proofs.DraftLaws.{draft-revised, drafts-as, drafts-revised}
 use Rattle.history.proofs.LiveLaws.{slots-set, reads-set, ranges-set}
 
 -- ── the entries of a sound station ──
@@ -101,7 +101,7 @@ module _ (st : Station) (s : List ℕ) (b : Ledger) (inv : Inv st s b) (h : soun
   unfolding l withRead withReads
   l-open = nc
 
-  l-matches : (p : Draft) → Matches p (liveAt st (placeOf t st)) → Matches (record { clock = p .clock; values = p .values; reads = new ∷ p .reads }) l
+  l-matches : (p : Draft) → Matches p (liveAt st (placeOf t st)) → Matches (reading k (entryAt st d .id) p) l
   l-matches p m = record {
     values = unfold l withRead withReads writesOf in m .values;
     clock = λ d c n e. absurd (not-closing (l .phase) d c n l-open e);
@@ -116,12 +116,12 @@ module _ (st : Station) (s : List ℕ) (b : Ledger) (inv : Inv st s b) (h : soun
   l-ranges = let rg = inv .ranges (placeOf t st) in record { txn = rg .txn; clock = rg .clock; filled = rg .filled; values = rg .values }
 
   pub version-read : Inv (setLive st (placeOf t st) (withRead k (entryAt st d .id) (liveAt st (placeOf t st)))) s
-      (onDraft t (λ p. record { clock = p .clock; values = p .values; reads = record { key = k; id = entryAt st d .id } ∷ p .reads }) b)
-  unfolding l
+      (withDrafts (revised t (reading k (entryAt st d .id)) (b .drafts)) b)
+  unfolding l withDrafts
   version-read = record {
+    core = inv .core;
     slots = slots-set st s i l (inv .slots) (place-hit st t z .0) nc (λ d c m e. absurd (not-closing (l .phase) d c m l-open e));
-    standing = unfold onDraft in inv .standing;
-    drafts = unfold onDraft in drafts-revised st (b .drafts) (inv .drafts) h t n z l (unfold withRead withReads in place-hit st t z .1) _ l-matches;
+    drafts = drafts-as _ _ _ (draft-revised t (reading k (entryAt st d .id)) (λ p. refl) (b .drafts)) (drafts-revised st (draftIn b) (inv .drafts) h t n z l (unfold withRead withReads in place-hit st t z .1) (reading k (entryAt st d .id)) l-matches);
     reads = reads-set st i l (place-hit st t z .0) (inv .reads) (rw l-reads (λ r q mr mq. atomic r q (joined r .0 mr) (joined q .0 mq)));
     ranges = ranges-set st i l (place-hit st t z .0) (inv .ranges) l-ranges;
   }

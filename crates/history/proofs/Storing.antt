@@ -27,7 +27,7 @@ use Rattle.model.specs.Lives.{noWrite, noLive, writesOf, readsOf, writeKey, isC
 use Rattle.model.specs.Entries.{keysOf, wrote, wroteAs, entryIn, commitRecord, entryRules, recordOf, entryFor}
 use Rattle.model.specs.Stations.{liveAt, entryAt, setLive, setEntry, isLive, placeOf}
 use Rattle.model.specs.Records.{valueIn, versionRecord, carriesVersion, recordAt, withRecord}
-use Rattle.model.specs.Slots.{free, committed, seen}
+use Rattle.model.specs.Slots.{free, committed, damaged, seen}
 use Rattle.model.specs.Sound.{sound}
 use Rattle.model.specs.Reading.{Atomic}
 use Rattle.model.specs.Step.{oneMore, stepped, step}
@@ -36,16 +36,17 @@ use Rattle.model.specs.Answers.{values}
 use Rattle.model.proofs.ListLaws.{first-yes, first-no, getD-mem, member-yes, member-no, member-finds, take-map}
 use Rattle.model.proofs.IdLaws.{same-id}
 use Rattle.model.proofs.RecordLaws.{Fits, length-commit, length-version, entry-round, commit-rules, version-value, version-round, with-length, record-same, record-other, record-elsewhere}
-use Rattle.model.proofs.SlotLaws.{committed-injective, seen-frame, seen-free, seen-free-mark, seen-committed}
+use Rattle.model.proofs.SlotLaws.{committed-injective, committed≢damaged, free≢damaged, seen-frame, seen-free, seen-free-mark, seen-committed}
 use Rattle.model.proofs.ReadingLaws.{wrote-as, as-wrote}
 use Rattle.model.proofs.StationLaws.{place-hit, entry-get, setLive-at, liveAt-same, liveAt-other, setLive-entry, setEntry-at, entryAt-same, entryAt-other, setEntry-live, setEntry-length, not-closing, closing-same}
 use Rattle.model.proofs.SoundLaws.{sound-at, write-limit, writes-length, entryFor-sound}
 use Rattle.model.proofs.SoundFacts.{live-not-held, one-closing, IsClosing, closing-facts}
-use Rattle.history.specs.Ledger.{Draft, Committed, Ledger, at, withDraft, committedFrom, feed}
+use Rattle.history.specs.Ledger.{Draft, Committed, Ledger, draftOf, without, withDrafts, at, committedFrom, feed}
 use Rattle.history.specs.CutRule.{committedIn}
 use Rattle.history.specs.Matches.{lookup, Matches}
-use Rattle.history.proofs.Invariant.{inStore, nth, Prepared, Slots, Dominated, Standing, Ranges, Inv, Good, good-says, good-stores, row, unrefused, choice}
-use Rattle.history.proofs.DraftLaws.{draft-of, matches-at, drafts-cast, drafts-same, drafts-cleared}
+use Rattle.history.proofs.Invariant.{inStore, nth, Prepared, Dominated, Core, Slots, draftIn, Ranges, Inv, Good, good-says, good-stores, row, unrefused, choice}
+use Rattle.history.proofs.DraftLaws.{draft-txn, draft-without, drafts-as, draft-of, matches-at, drafts-cast, drafts-same, drafts-cleared}
+use Rattle.history.proofs.Lasting.{lasting}
 use Rattle.history.proofs.LiveLaws.{reads-set, ranges-set, noLive-open, noLive-reads, noLive-ranges}
 use Rattle.history.proofs.Committing.{phase-ranges, phase-reads, phase-of, txn-of}
 use Rattle.history.proofs.Reading.{read-named}
@@ -77,9 +78,8 @@ module _ (st : Station) (s s′ : List ℕ) (b : Ledger) (inv : Inv st s b) (h :
   seen-other : (d′ : ℕ) → d′ ≢ d → seen s′ d′ ≡ seen s d′
   seen-other d′ nd = seen-frame s′ s d′ d′ (λ k o. frame d′ k nd o)
 
-  slots-step : Prepared s′ now d c m → ((d′ : ℕ) (e e′ : Entry) → d′ ≢ d → d′ < slots → seen s′ d ≡ committed e → seen s d′ ≡ committed e′ → e .id .txn ≡ e′ .id .txn → ⊥) → Slots after s′
-  slots-step pr one = record {
-    size = size′;
+  slots-step : Prepared s′ now d c m → Slots after s′
+  slots-step pr = record {
     count = unfold setLive in sl .count;
     entered = λ d′. rw (setLive-entry st i now d′) (λ y. seen-other d′ (λ e. y (ap (λ (x : ℕ). entryAt st x .id .txn) e ∙ facts .unheld)) ∙ sl .entered d′ y);
     closing = setLive-at st i now (λ j x. (d′ c′ n′ : ℕ) → x .phase ≡ Closing d′ c′ n′ → Prepared s′ x d′ c′ n′) oi
@@ -88,7 +88,6 @@ module _ (st : Station) (s s′ : List ℕ) (b : Ledger) (inv : Inv st s b) (h :
     unused = λ d′ od. rw (setLive-entry st i now d′) (λ y un.
         let nd : d′ ≢ d = (λ e. un i c m (ap (λ (x : Live). x .phase) (liveAt-same st i now oi) ∙ (phase-of (Closing d c m) (liveAt st i) ∙ ap (λ (x : ℕ). Closing x c m) (sym e)))) in
         seen-other d′ nd ∙ sl .unused d′ od y (λ j c′ n′ e. still d′ nd un j c′ n′ e (ℕ-discrete j i)));
-    single = λ d₁ d₂ e₁ e₂ o₁ o₂ h₁ h₂ et. two d₁ d₂ e₁ e₂ o₁ o₂ h₁ h₂ et (ℕ-discrete d₁ d) (ℕ-discrete d₂ d);
   }
     where
       other-slot : (j d′ c′ n′ : ℕ) → j ≢ i → liveAt st j .phase ≡ Closing d′ c′ n′ → d′ ≢ d
@@ -98,12 +97,6 @@ module _ (st : Station) (s s′ : List ℕ) (b : Ledger) (inv : Inv st s b) (h :
       still d′ nd un j c′ n′ e (yes y) = nd (closing-same d′ c′ n′ d c n (sym e ∙ (ap (λ (x : ℕ). liveAt st x .phase) y ∙ q)) .0)
       still d′ nd un j c′ n′ e (no y) = un j c′ n′ (ap (λ (x : Live). x .phase) (liveAt-other st i now j y) ∙ e)
 
-      two : (d₁ d₂ : ℕ) (e₁ e₂ : Entry) → d₁ < slots → d₂ < slots → seen s′ d₁ ≡ committed e₁ → seen s′ d₂ ≡ committed e₂ → e₁ .id .txn ≡ e₂ .id .txn → Dec (d₁ ≡ d) → Dec (d₂ ≡ d) → d₁ ≡ d₂
-      two d₁ d₂ e₁ e₂ o₁ o₂ h₁ h₂ et (yes y₁) (yes y₂) = y₁ ∙ sym y₂
-      two d₁ d₂ e₁ e₂ o₁ o₂ h₁ h₂ et (yes y₁) (no y₂) = absurd (one d₂ e₁ e₂ y₂ o₂ (subst (λ (x : ℕ). seen s′ x ≡ committed e₁) y₁ h₁) (sym (seen-other d₂ y₂) ∙ h₂) et)
-      two d₁ d₂ e₁ e₂ o₁ o₂ h₁ h₂ et (no y₁) (yes y₂) = absurd (one d₁ e₂ e₁ y₁ o₁ (subst (λ (x : ℕ). seen s′ x ≡ committed e₂) y₂ h₂) (sym (seen-other d₁ y₁) ∙ h₁) (sym et))
-      two d₁ d₂ e₁ e₂ o₁ o₂ h₁ h₂ et (no y₁) (no y₂) = sl .single d₁ d₂ e₁ e₂ o₁ o₂ (sym (seen-other d₁ y₁) ∙ h₁) (sym (seen-other d₂ y₂) ∙ h₂) et
-
   same-matches : (p : Draft) → Matches p (liveAt st i) → Matches p now
   same-matches p mt = record {
     values = unfold withPhase writesOf in mt .values;
@@ -111,13 +104,35 @@ module _ (st : Station) (s s′ : List ℕ) (b : Ledger) (inv : Inv st s b) (h :
     reads = unfold withPhase readsOf in mt .reads;
   }
 
+  -- the other slots are as they were
+  core-step : (seen s′ d ≡ damaged → ⊥) → ((d′ : ℕ) (e e′ : Entry) → d′ ≢ d → d′ < slots → seen s′ d ≡ committed e → seen s d′ ≡ committed e′ → e .id .txn ≡ e′ .id .txn → ⊥)
+      → (standing past : List Committed) → List·Permᴰ (inStore s′) standing → ((j : Committed) → List·Memᴰ j standing → List·Memᴰ j past) → ((j : Committed) → List·Memᴰ j past → Dominated standing j)
+      → Core s′ standing past
+  core-step whole one standing past found kept dominated = record {
+    size = size′;
+    undamaged = λ d′ o x. go d′ o x (ℕ-discrete d′ d);
+    single = λ d₁ d₂ e₁ e₂ o₁ o₂ h₁ h₂ et. two d₁ d₂ e₁ e₂ o₁ o₂ h₁ h₂ et (ℕ-discrete d₁ d) (ℕ-discrete d₂ d);
+    found = found;
+    kept = kept;
+    dominated = dominated;
+  }
+    where
+      go : (d′ : ℕ) → d′ < slots → seen s′ d′ ≡ damaged → Dec (d′ ≡ d) → ⊥
+      go d′ o x (yes y) = whole (subst (λ (k : ℕ). seen s′ k ≡ damaged) y x)
+      go d′ o x (no y) = inv .core .undamaged d′ o (sym (seen-other d′ y) ∙ x)
+
+      two : (d₁ d₂ : ℕ) (e₁ e₂ : Entry) → d₁ < slots → d₂ < slots → seen s′ d₁ ≡ committed e₁ → seen s′ d₂ ≡ committed e₂ → e₁ .id .txn ≡ e₂ .id .txn → Dec (d₁ ≡ d) → Dec (d₂ ≡ d) → d₁ ≡ d₂
+      two d₁ d₂ e₁ e₂ o₁ o₂ h₁ h₂ et (yes y₁) (yes y₂) = y₁ ∙ sym y₂
+      two d₁ d₂ e₁ e₂ o₁ o₂ h₁ h₂ et (yes y₁) (no y₂) = absurd (one d₂ e₁ e₂ y₂ o₂ (subst (λ (x : ℕ). seen s′ x ≡ committed e₁) y₁ h₁) (sym (seen-other d₂ y₂) ∙ h₂) et)
+      two d₁ d₂ e₁ e₂ o₁ o₂ h₁ h₂ et (no y₁) (yes y₂) = absurd (one d₁ e₂ e₁ y₁ o₁ (subst (λ (x : ℕ). seen s′ x ≡ committed e₂) y₂ h₂) (sym (seen-other d₁ y₁) ∙ h₁) (sym et))
+      two d₁ d₂ e₁ e₂ o₁ o₂ h₁ h₂ et (no y₁) (no y₂) = inv .core .single d₁ d₂ e₁ e₂ o₁ o₂ (sym (seen-other d₁ y₁) ∙ h₁) (sym (seen-other d₂ y₂) ∙ h₂) et
+
   -- what is left to show: the slot, and the standing transactions
-  pub step-inv : Prepared s′ now d c m → ((d′ : ℕ) (e e′ : Entry) → d′ ≢ d → d′ < slots → seen s′ d ≡ committed e → seen s d′ ≡ committed e′ → e .id .txn ≡ e′ .id .txn → ⊥)
-      → (standing past : List Committed) → Standing s′ standing past → Inv after s′ (record { drafts = b .drafts; standing = standing; past = past })
-  step-inv pr one standing past sd = record {
-    slots = slots-step pr one;
-    standing = sd;
-    drafts = drafts-same st (b .drafts) (inv .drafts) h t nz z now (txn-of _ (liveAt st i) ∙ place-hit st t z .1) same-matches;
+  pub step-inv : Prepared s′ now d c m → (standing past : List Committed) → Core s′ standing past → Inv after s′ (record { drafts = b .drafts; standing = standing; past = past })
+  step-inv pr standing past cr = record {
+    core = cr;
+    slots = slots-step pr;
+    drafts = drafts-same st (draftIn b) (inv .drafts) h t nz z now (txn-of _ (liveAt st i) ∙ place-hit st t z .1) same-matches;
     reads = reads-set st i now oi (inv .reads) (phase-reads (st .entries) _ (liveAt st i) (inv .reads i));
     ranges = ranges-set st i now oi (inv .ranges) (phase-ranges (Closing d c m) (liveAt st i) (λ d′ c′ n′ e. omega (arith, inv .ranges i .clock d c n q, closing-same d c m d′ c′ n′ e .1)) (inv .ranges i));
   }
@@ -183,8 +198,9 @@ module _ (st : Station) (s : List ℕ) (b : Ledger) (inv : Inv st s b) (h : soun
   content = versionRecord (nth l n .key) (record { clock = c; txn = l .txn }) (nth l n .value)
 
   pub version-stored : n < l .«write_count» → Inv (setLive st (placeOf t st) (withPhase (Closing d c (n + 1)) l)) (withRecord s d (n + 1) content) b
-  version-stored o = step-inv st s s′ b inv h t d c n (n + 1) nz z q size′ frame prepared (λ d′ e e′ nd o′ x. not-free (seen s′ d) e x unmarked) (b .standing) (b .past)
-      (record { found = rw (in-store s′, hold-same s s′ slots 0 (λ d′ y. same d′ (ℕ-discrete d′ d)), ← in-store) (inv .standing .found); kept = inv .standing .kept; dominated = inv .standing .dominated })
+  version-stored o = step-inv st s s′ b inv h t d c n (n + 1) nz z q size′ frame prepared (b .standing) (b .past)
+      (core-step st s s′ b inv h t d c n (n + 1) nz z q size′ frame (λ x. free≢damaged (sym unmarked ∙ x)) (λ d′ e e′ nd o′ x. not-free (seen s′ d) e x unmarked) (b .standing) (b .past)
+      (rw (in-store s′, hold-same s s′ slots 0 (λ d′ y. same d′ (ℕ-discrete d′ d)), ← in-store) (inv .core .found)) (inv .core .kept) (inv .core .dominated))
     where
       s′ : List ℕ
       s′ = withRecord s d (n + 1) content
@@ -196,13 +212,13 @@ module _ (st : Station) (s : List ℕ) (b : Ledger) (inv : Inv st s b) (h : soun
       on = omega (arith, o, write-limit l (closes .used .sets))
 
       size′ : length s′ ≡ storeSize
-      size′ = with-length s d (n + 1) content (inv .slots .size) (pr .low) on lb ∙ inv .slots .size
+      size′ = with-length s d (n + 1) content (inv .core .size) (pr .low) on lb ∙ inv .core .size
 
       frame : (d′ k : ℕ) → d′ ≢ d → k < width → recordAt s′ d′ k ≡ recordAt s d′ k
-      frame d′ k nd ok = record-elsewhere s d (n + 1) content (inv .slots .size) (pr .low) on lb d′ k nd ok
+      frame d′ k nd ok = record-elsewhere s d (n + 1) content (inv .core .size) (pr .low) on lb d′ k nd ok
 
       other : (k : ℕ) → k ≢ n + 1 → recordAt s′ d k ≡ recordAt s d k
-      other k nk = record-other s d (n + 1) content (inv .slots .size) (pr .low) on lb k nk
+      other k nk = record-other s d (n + 1) content (inv .core .size) (pr .low) on lb k nk
 
       was : seen s d ≡ free
       was = pr .unmarked (omega arith)
@@ -215,7 +231,7 @@ module _ (st : Station) (s : List ℕ) (b : Ledger) (inv : Inv st s b) (h : soun
       same d′ (no e) = holds-frame s s′ d′ (λ k ok. frame d′ k e ok)
 
       stored-at : (j : ℕ) → j < n + 1 → j < l .«write_count» → Dec (j ≡ n) → recordAt s′ d (suc j) ≡ versionRecord (nth l j .key) (record { clock = c; txn = l .txn }) (nth l j .value)
-      stored-at j a x (yes e) = rw (e, ← (add-one n)) (record-same s d (n + 1) content (inv .slots .size) (pr .low) on lb)
+      stored-at j a x (yes e) = rw (e, ← (add-one n)) (record-same s d (n + 1) content (inv .core .size) (pr .low) on lb)
       stored-at j a x (no e) = other (suc j) (λ y. e (omega arith)) ∙ pr .versions j (omega arith) x
 
       prepared : Prepared s′ (withPhase (Closing d c (n + 1)) l) d c (n + 1)
@@ -243,14 +259,13 @@ module _ (st : Station) (s : List ℕ) (b : Ledger) (inv : Inv st s b) (h : soun
         standing = record { id = record { clock = p .clock; txn = l .txn }; values = p .values } ∷ b .standing;
         past = record { id = record { clock = p .clock; txn = l .txn }; values = p .values } ∷ b .past;
       })
-  commit-stored en p mt = step-inv st s s′ b inv h t d c n (n + 1) nz z q size′ frame prepared
+  commit-stored en p mt = step-inv st s s′ b inv h t d c n (n + 1) nz z q size′ frame prepared (J ∷ b .standing) (J ∷ b .past)
+      (core-step st s s′ b inv h t d c n (n + 1) nz z q size′ frame (λ x. committed≢damaged _ (sym full ∙ x))
       (λ d′ e e′ nd o′ x y w. unseen st s (inv .slots) h (placeOf t st) d c n d′ e′ q nd o′ y (sym w ∙ (ap (λ (u : Entry). u .id .txn) (committed-injective e E (sym x ∙ full)) ∙ entryFor-txn l)))
       (J ∷ b .standing) (J ∷ b .past)
-      (record {
-        found = List·Permᴰ·trans perm (List·Permᴰ·cons same (inv .standing .found));
-        kept = λ j m. ⊎-elim (λ e. List·Memᴰ·head e) (λ x. List·Memᴰ·tail (inv .standing .kept j x)) (List·Memᴰ·cases-cons m);
-        dominated = λ j m. ⊎-elim (λ e. inl (List·Memᴰ·head e)) (λ x. more j (inv .standing .dominated j x)) (List·Memᴰ·cases-cons m);
-      })
+      (List·Permᴰ·trans perm (List·Permᴰ·cons same (inv .core .found)))
+      (λ j m. ⊎-elim (λ e. List·Memᴰ·head e) (λ x. List·Memᴰ·tail (inv .core .kept j x)) (List·Memᴰ·cases-cons m))
+      (λ j m. ⊎-elim (λ e. inl (List·Memᴰ·head e)) (λ x. more j (inv .core .dominated j x)) (List·Memᴰ·cases-cons m)))
     where
       J : Committed
       J = record { id = record { clock = p .clock; txn = l .txn }; values = p .values }
@@ -262,19 +277,19 @@ module _ (st : Station) (s : List ℕ) (b : Ledger) (inv : Inv st s b) (h : soun
       lb = length-commit E (fits .keys8)
 
       size′ : length s′ ≡ storeSize
-      size′ = with-length s d 0 (commitRecord E) (inv .slots .size) (pr .low) (lit< tt) lb ∙ inv .slots .size
+      size′ = with-length s d 0 (commitRecord E) (inv .core .size) (pr .low) (lit< tt) lb ∙ inv .core .size
 
       frame : (d′ k : ℕ) → d′ ≢ d → k < width → recordAt s′ d′ k ≡ recordAt s d′ k
-      frame d′ k nd ok = record-elsewhere s d 0 (commitRecord E) (inv .slots .size) (pr .low) (lit< tt) lb d′ k nd ok
+      frame d′ k nd ok = record-elsewhere s d 0 (commitRecord E) (inv .core .size) (pr .low) (lit< tt) lb d′ k nd ok
 
       was : seen s d ≡ free
       was = pr .unmarked (omega (arith, en))
 
       stored-at : (j : ℕ) → j < l .«write_count» → recordAt s′ d (suc j) ≡ versionRecord (nth l j .key) (record { clock = c; txn = l .txn }) (nth l j .value)
-      stored-at j o = record-other s d 0 (commitRecord E) (inv .slots .size) (pr .low) (lit< tt) lb (suc j) (omega arith) ∙ pr .versions j (omega (arith, en)) o
+      stored-at j o = record-other s d 0 (commitRecord E) (inv .core .size) (pr .low) (lit< tt) lb (suc j) (omega arith) ∙ pr .versions j (omega (arith, en)) o
 
       at-0 : recordAt s′ d 0 ≡ commitRecord E
-      at-0 = record-same s d 0 (commitRecord E) (inv .slots .size) (pr .low) (lit< tt) lb
+      at-0 = record-same s d 0 (commitRecord E) (inv .core .size) (pr .low) (lit< tt) lb
 
       key-at : (j : ℕ) → j < l .«write_count» → getD (keysOf E) j 0 ≡ nth l j .key
       key-at j o = ap (λ (x : List ℕ). getD x j 0) (keys-for l) ∙ (List·getD-map writeKey (writesOf l) j noWrite ∙ ap writeKey (nth-written l j o))
@@ -347,20 +362,19 @@ module _ (st : Station) (s : List ℕ) (b : Ledger) (inv : Inv st s b) (h : soun
           subst (λ (y : Id). wroteAs (st .entries) y x ≡ true) (ap (λ (y : Entry). y .id) (entry-get st c o) ∙ g .0)
           (as-wrote (st .entries) x c o (subst (λ (y : Entry). wrote y x ≡ true) (sym (entry-get st c o)) (g .1)))
 
-  pub acknowledged : l .«write_count» < n → Inv end s (withDraft t none b)
+  pub acknowledged : l .«write_count» < n → Inv end s (withDrafts (without t (b .drafts)) b)
+  unfolding withDrafts
   acknowledged o = record {
+    core = inv .core;
     slots = record {
-      size = inv .slots .size;
       count = setEntry-length cleared-st d E ∙ (unfold setLive in inv .slots .count);
       entered = entry-end (λ k x. x .id .txn ≢ 0 → seen s k ≡ committed x) (λ y. pr .marked o) (λ k nk. inv .slots .entered k);
       closing = live-end (λ j x. (d′ c′ n′ : ℕ) → x .phase ≡ Closing d′ c′ n′ → Prepared s x d′ c′ n′) (λ d′ c′ n′ e. absurd (not-closing (noLive .phase) d′ c′ n′ noLive-open e)) (λ j nj. inv .slots .closing j);
       unused = λ d′ od. entry-end (λ k x. k < slots → x .id .txn ≡ 0 → ((j c′ n′ : ℕ) → liveAt end j .phase ≡ Closing k c′ n′ → ⊥) → seen s k ≡ free)
           (λ ok e un. absurd (closes .used .numbered (sym (entryFor-txn l) ∙ e)))
           (λ k nk ok e un. inv .slots .unused k ok e (λ j c′ n′ y. was k nk un j c′ n′ y (ℕ-discrete j (placeOf t st)))) d′ od;
-      single = inv .slots .single;
     };
-    standing = unfold withDraft in inv .standing;
-    drafts = unfold withDraft in drafts-cast cleared-st end (at t none (b .drafts)) (setEntry-live cleared-st d E) (drafts-cleared st (b .drafts) (inv .drafts) h t z);
+    drafts = drafts-as _ _ _ (draft-without t (b .drafts)) (drafts-cast cleared-st end (at t none (draftIn b)) (setEntry-live cleared-st d E) (drafts-cleared st (draftIn b) (inv .drafts) h t z));
     reads = live-end (λ j x. Atomic (end .entries) (readsOf x)) (noLive-reads (end .entries)) (λ j nj r q mr mq w. inv .reads j r q mr mq (old-writer j r (q .key) mr w));
     ranges = live-end (λ j x. Ranges x) noLive-ranges (λ j nj. inv .ranges j);
   }
@@ -371,17 +385,18 @@ module _ (st : Station) (s : List ℕ) (b : Ledger) (inv : Inv st s b) (h : soun
 
 -- ── step ──
 -- the transaction from the draft of t
-committed-draft : (st : Station) (s′ : List ℕ) (b : Ledger) (t : ℕ) (after : Station) → isLive t st ≡ true → (p : Draft) → b .drafts t ≡ some p
+committed-draft : (st : Station) (s′ : List ℕ) (b : Ledger) (t : ℕ) (after : Station) → isLive t st ≡ true → (p : Draft) → draftOf t (b .drafts) ≡ some p
     → Inv after s′ (record {
       drafts = b .drafts;
       standing = record { id = record { clock = p .clock; txn = liveAt st (placeOf t st) .txn }; values = p .values } ∷ b .standing;
       past = record { id = record { clock = p .clock; txn = liveAt st (placeOf t st) .txn }; values = p .values } ∷ b .past;
     })
-    → Inv after s′ (record { drafts = b .drafts; standing = committedFrom t (b .drafts t) ++ b .standing; past = committedFrom t (b .drafts t) ++ b .past })
+    → Inv after s′ (record { drafts = b .drafts; standing = committedFrom (draftOf t (b .drafts)) ++ b .standing; past = committedFrom (draftOf t (b .drafts)) ++ b .past })
 unfolding committedFrom
 committed-draft st s′ b t after z p e inv =
-    subst (λ (x : Option Draft). Inv after s′ (record { drafts = b .drafts; standing = committedFrom t x ++ b .standing; past = committedFrom t x ++ b .past })) (sym e)
-    (subst (λ (u : ℕ). Inv after s′ (record { drafts = b .drafts; standing = record { id = record { clock = p .clock; txn = u }; values = p .values } ∷ b .standing; past = record { id = record { clock = p .clock; txn = u }; values = p .values } ∷ b .past })) (place-hit st t z .1) inv)
+    subst (λ (x : Option Draft). Inv after s′ (record { drafts = b .drafts; standing = committedFrom x ++ b .standing; past = committedFrom x ++ b .past })) (sym e)
+    (subst (λ (u : ℕ). Inv after s′ (record { drafts = b .drafts; standing = record { id = record { clock = p .clock; txn = u }; values = p .values } ∷ b .standing; past = record { id = record { clock = p .clock; txn = u }; values = p .values } ∷ b .past }))
+    (place-hit st t z .1 ∙ sym (draft-txn t (b .drafts) p e)) inv)
 
 by-phase : (st : Station) (s : List ℕ) (b : Ledger) (t : ℕ) → Inv st s b → sound st ≡ true → t ≢ 0 → isLive t st ≡ true
     → (p : Phase) → liveAt st (placeOf t st) .phase ≡ p → isClosing p ≡ true → Good s b (Step t) (stepped st (placeOf t st) (liveAt st (placeOf t st)) p)
@@ -390,10 +405,10 @@ by-phase st s b t inv h nz z Unused q c = absurd (false≢true c)
 by-phase st s b t inv h nz z Open q c = absurd (false≢true c)
 by-phase st s b t inv h nz z (Closing d c n) q _ =
     choice s b (Step t) (ltb n wc) _ _
-    (λ x. good-stores s b (Step t) _ _ st _ _ _ h inv (rw (entryFor-id (liveAt st (placeOf t st)) d c n q) (version-stored st s b inv h t d c n nz z q (ltb-true n wc x)))) λ x.
+    (λ x. good-stores s b (Step t) _ _ _ _ _ (lasting st s b h inv) (rw (entryFor-id (liveAt st (placeOf t st)) d c n q) (version-stored st s b inv h t d c n nz z q (ltb-true n wc x)))) λ x.
     choice s b (Step t) (eqb n wc) _ _
-    (λ y. let r = draft-of st (b .drafts) (inv .drafts) t (placeOf t st) (place-hit st t z .1) nz in
-    good-stores s b (Step t) _ _ st _ _ _ h inv (committed-draft st _ b t _ z (r .0) (r .1) (commit-stored st s b inv h t d c n nz z q (eqb-true n wc y) (r .0) (matches-at st (b .drafts) h (inv .drafts) t z (r .0) (r .1))))) λ y.
+    (λ y. let r = draft-of st (draftIn b) (inv .drafts) t (placeOf t st) (place-hit st t z .1) nz in
+    good-stores s b (Step t) _ _ _ _ _ (lasting st s b h inv) (committed-draft st _ b t _ z (r .0) (r .1) (commit-stored st s b inv h t d c n nz z q (eqb-true n wc y) (r .0) (matches-at st (draftIn b) h (inv .drafts) t z (r .0) (r .1))))) λ y.
     good-says s b (Step t) _ _ (acknowledged st s b inv h t d c n nz z q (omega (arith, ltb-false n wc x, eqb-false n wc y)))
   where
     wc : ℕ

@@ -1,10 +1,13 @@
 -- The public calls as functions with the contracts that the code is proved to meet, and histories run by them. Nothing of a call is used here
 -- but its contract.
-use Prim.Native.Nat.{ℕ}
+use Prim.Native.Nat.{ℕ, _<_}
 use mathlib.Core.Path.{_≡_}
 use mathlib.Core.List.{List, [], _∷_}
+use mathlib.Core.Option.{Option, some, none}
 use Rattle.model.specs.declared.Station.{Station}
 use Rattle.model.specs.declared.Outcome.{Outcome}
+use Rattle.model.specs.Limits.{txnRange, numberRange}
+use Rattle.model.specs.Ranges.{Every, IsByte, StationFits}
 use Rattle.model.specs.Effects.{outcomeOf, stored}
 use Rattle.model.specs.Start as Start
 use Rattle.model.specs.Put as Put
@@ -15,16 +18,16 @@ use Rattle.model.specs.Abort as Abort
 use Rattle.model.specs.Collect as Collect
 use Rattle.model.specs.Scan as Scan
 use Rattle.model.specs.Calls as C
-use Rattle.model.specs.Calls.{Call, InRange}
-use Rattle.history.specs.Ledger.{Ledger, feed}
-use Rattle.history.specs.Histories.{World}
+use Rattle.model.specs.Calls.{Call, IsTyped}
+use Rattle.history.specs.Ledger.{feed}
+use Rattle.history.specs.Histories.{Event, called, cut, running, World, handed, next, callIn}
 
 -- what a call hands back, and the store afterwards
 pub record Returned : Type 0 where
   pub outcome : Outcome
   pub store : List ℕ
 
--- eight functions, and the contracts of crates calls and recovery, word for word
+-- eight functions, as crates calls and recovery have them
 pub record Functions : Type 0 where
   pub start : Station → ℕ → Outcome
   pub put : Station → ℕ → ℕ → ℕ → Outcome
@@ -35,15 +38,18 @@ pub record Functions : Type 0 where
   pub collect : Station → List ℕ → ℕ → Returned
   pub scan : List ℕ → Outcome
 
+-- the contracts, word for word: what they say of values within their types
 pub record Meets (f : Functions) : Type 0 where
-  pub start : (st : Station) (t : ℕ) → f .start st t ≡ outcomeOf (Start.start st t)
-  pub put : (st : Station) (t k v : ℕ) → f .put st t k v ≡ outcomeOf (Put.put st t k v)
-  pub get : (st : Station) (s : List ℕ) (t k : ℕ) → f .get st s t k ≡ outcomeOf (Get.get st s t k)
-  pub commit : (st : Station) (t c : ℕ) → f .commit st t c ≡ outcomeOf (Commit.commit st t c)
-  pub step : (st : Station) (s : List ℕ) (t : ℕ) → (f .step st s t .outcome ≡ outcomeOf (Step.step st s t)) × (f .step st s t .store ≡ stored (Step.step st s t .stores) s)
-  pub abort : (st : Station) (t : ℕ) → f .abort st t ≡ outcomeOf (Abort.abort st t)
-  pub collect : (st : Station) (s : List ℕ) (d : ℕ) → (f .collect st s d .outcome ≡ outcomeOf (Collect.collect st s d)) × (f .collect st s d .store ≡ stored (Collect.collect st s d .stores) s)
-  pub scan : (s : List ℕ) → f .scan s ≡ outcomeOf (Scan.scan s)
+  pub start : (st : Station) (t : ℕ) → StationFits st → t < txnRange → f .start st t ≡ outcomeOf (Start.start st t)
+  pub put : (st : Station) (t k v : ℕ) → StationFits st → t < txnRange → IsByte k → v < numberRange → f .put st t k v ≡ outcomeOf (Put.put st t k v)
+  pub get : (st : Station) (s : List ℕ) (t k : ℕ) → StationFits st → Every IsByte s → t < txnRange → IsByte k → f .get st s t k ≡ outcomeOf (Get.get st s t k)
+  pub commit : (st : Station) (t c : ℕ) → StationFits st → t < txnRange → c < numberRange → f .commit st t c ≡ outcomeOf (Commit.commit st t c)
+  pub step : (st : Station) (s : List ℕ) (t : ℕ) → StationFits st → Every IsByte s → t < txnRange
+      → (f .step st s t .outcome ≡ outcomeOf (Step.step st s t)) × (f .step st s t .store ≡ stored (Step.step st s t .stores) s)
+  pub abort : (st : Station) (t : ℕ) → StationFits st → t < txnRange → f .abort st t ≡ outcomeOf (Abort.abort st t)
+  pub collect : (st : Station) (s : List ℕ) (d : ℕ) → StationFits st → Every IsByte s → IsByte d
+      → (f .collect st s d .outcome ≡ outcomeOf (Collect.collect st s d)) × (f .collect st s d .store ≡ stored (Collect.collect st s d .stores) s)
+  pub scan : (s : List ℕ) → Every IsByte s → f .scan s ≡ outcomeOf (Scan.scan s)
 
 -- a call of one of them: a call that is lent no store, or lent it to read, leaves it
 unfoldable pub returned : Functions → Call → Station → List ℕ → Returned
@@ -56,34 +62,24 @@ returned f (C.Abort t) st s = record { outcome = f .abort st t; store = s }
 returned f (C.Collect d) st s = f .collect st s d
 returned f C.Scan st s = record { outcome = f .scan s; store = s }
 
--- what happens: a call returns; or power goes, before the call has written its record or once that is written, and a scan starts the desk again
-pub data Moment : Type 0 where
-  returns : Call → Moment
-  lostBefore : Call → Moment
-  lostAfter : Call → Moment
+-- ── histories run by them ──
+unfoldable pub afterReturn : Functions → Option Station → Call → World → World
+afterReturn f none c w = w
+afterReturn f (some st) c w =
+    let r : Returned = returned f c st (w .store) in
+    record { desk = running (r .outcome .station); store = r .store; ledger = feed (r .outcome .answer) c (w .ledger) }
 
-unfoldable pub callAt : Moment → Call
-callAt (returns c) = c
-callAt (lostBefore c) = c
-callAt (lostAfter c) = c
+-- a contract speaks of a call that returns. Of one cut short, the first n of the records that its definition stores are written: a call writes
+-- them in that order, each whole, and no other byte
+unfoldable pub nextBy : Functions → Event → World → World
+nextBy f (called c) w = afterReturn f (handed c (w .desk)) c w
+nextBy f (cut c n) w = next (cut c n) w
 
-unfoldable pub again : Functions → List ℕ → Ledger → World
-again f s b = record { station = f .scan s .station; store = s; ledger = feed (f .scan s .answer) C.Scan b }
-
-unfoldable pub after : Functions → Moment → World → World
-after f (returns c) w =
-    let r : Returned = returned f c (w .station) (w .store) in
-    record { station = r .outcome .station; store = r .store; ledger = feed (r .outcome .answer) c (w .ledger) }
-after f (lostBefore c) w = again f (w .store) (w .ledger)
-after f (lostAfter c) w =
-    let r : Returned = returned f c (w .station) (w .store) in
-    again f (r .store) (feed (r .outcome .answer) c (w .ledger))
-
-unfoldable pub runBy : Functions → List Moment → World → World
+unfoldable pub runBy : Functions → List Event → World → World
 runBy f [] w = w
-runBy f (m ∷ ms) w = runBy f ms (after f m w)
+runBy f (v ∷ vs) w = runBy f vs (nextBy f v w)
 
 -- the only hypothesis: numbers are in the ranges of their types
-unfoldable pub CallsInRange : List Moment → Type 0
-CallsInRange [] = Unit {0}
-CallsInRange (m ∷ ms) = InRange (callAt m) × CallsInRange ms
+unfoldable pub AllTyped : List Event → Type 0
+AllTyped [] = Unit {0}
+AllTyped (v ∷ vs) = IsTyped (callIn v) × AllTyped vs

@@ -14,7 +14,7 @@ use Rattle.model.specs.Ids.{older}
 use Rattle.model.specs.Entries.{wrote, recordOf}
 use Rattle.model.specs.Records.{valueIn, recordAt}
 use Rattle.model.specs.Scan.{scan}
-use Rattle.history.specs.Ledger.{Draft, Committed, Ledger}
+use Rattle.history.specs.Ledger.{Draft, Committed, Ledger, draftOf}
 use Rattle.history.specs.Histories.{Event, begin, run, AllInRange}
 
 -- the transaction that slot d of the store holds under entry e: "ticket, clock and keys from the entry, values from the version slips"
@@ -46,12 +46,13 @@ pub record CutRule (s : List ℕ) (b : Ledger) : Type 0 where
   pub stands : (k : ℕ) (j : Committed) → List·Memᴰ j (b .past) → Wrote j k
       → ((h : Committed) → List·Memᴰ h (b .past) → Wrote h k → Newer (h .id) (j .id) → ⊥) → List·Memᴰ j (b .standing)
   -- "After each call, every id in a page's reads is a standing job's that wrote the key read"
-  pub reads : (t : ℕ) (p : Draft) (r : Read) → b .drafts t ≡ some p → List·Memᴰ r (p .reads)
+  pub reads : (t : ℕ) (p : Draft) (r : Read) → draftOf t (b .drafts) ≡ some p → List·Memᴰ r (p .reads)
       → (j : Committed) × List·Memᴰ j (b .standing) × (j .id ≡ r .id) × Wrote j (r .key)
   -- "and the reads are an Atomic Readset, i's transaction being that job."
-  pub atomic : (t : ℕ) (p : Draft) (r q : Read) (j : Committed) → b .drafts t ≡ some p → List·Memᴰ r (p .reads) → List·Memᴰ q (p .reads)
+  pub atomic : (t : ℕ) (p : Draft) (r q : Read) (j : Committed) → draftOf t (b .drafts) ≡ some p → List·Memᴰ r (p .reads) → List·Memᴰ q (p .reads)
       → List·Memᴰ j (b .standing) → j .id ≡ r .id → Wrote j (q .key) → Newer (r .id) (q .id) → ⊥
 
--- Demand 3: one claim about every list of calls and cuts, refused calls included and clocks in any order. `cut-rule` proves it.
+-- Demand 3: one claim about every list of calls and cuts, refused calls included and clocks in any order; so also of one that ends with a cut,
+-- before its scan. `cut-rule` proves it.
 abbrev pub Demand3 : Type 0
 Demand3 = (vs : List Event) → AllInRange vs → CutRule (run vs begin .store) (run vs begin .ledger)

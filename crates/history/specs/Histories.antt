@@ -2,63 +2,72 @@
 use Prim.Native.Nat.{ℕ}
 use mathlib.Core.Bool.{cond}
 use mathlib.Core.List.{List, [], _∷_}
+use mathlib.Core.Option.{Option, some, none}
 use lib.Dec.{leb}
 use lib.ListN.{length, take, replicate}
 use Rattle.model.specs.declared.Station.{Station}
 use Rattle.model.specs.Limits.{storeSize}
 use Rattle.model.specs.Stations.{emptyStation}
 use Rattle.model.specs.Effects.{Effect, stored}
-use Rattle.model.specs.Scan.{scan}
-use Rattle.model.specs.Calls.{Call, Scan, does, InRange}
+use Rattle.model.specs.Calls.{Call, does, isScan, InRange}
 use Rattle.history.specs.Ledger.{Ledger, emptyLedger, feed}
 
 pub data Event : Type 0 where
   -- a call
   called : Call → Event
-  -- a call cut short after its first n stores, and then a scan
+  -- a call cut short: power goes after its first n stores
   cut : Call → ℕ → Event
 
+-- a station runs, or was lost in a cut
+pub data Desk : Type 0 where
+  running : Station → Desk
+  down : Desk
+
 pub record World : Type 0 where
-  pub station : Station
+  pub desk : Desk
   pub store : List ℕ
   pub ledger : Ledger
 
 -- "At first none."
 unfoldable pub begin : World
-begin = record { station = emptyStation; store = replicate storeSize 0; ledger = emptyLedger }
+begin = record { desk = running emptyStation; store = replicate storeSize 0; ledger = emptyLedger }
 
-unfoldable pub afterCall : Call → World → World
-afterCall c w =
-    let e : Effect = does c (w .station) (w .store) in
-    record { station = e .station; store = stored (e .stores) (w .store); ledger = feed (e .answer) c (w .ledger) }
+-- the station that a call is handed. After a cut "the next call is a scan", which needs none: any other does nothing until then
+unfoldable pub handed : Call → Desk → Option Station
+handed c (running st) = some st
+handed c down = cond (isScan c) (some emptyStation) none
 
--- 01 'Words': "a cut falls only between such writes, those before it standing whole and the cut call's later ones never begun, and the
--- answer that reports a write counts as given with it": once its last store stands, the answer is fed. The station is lost.
-unfoldable pub cutStore : Call → ℕ → World → List ℕ
-cutStore c n w = stored (take n (does c (w .station) (w .store) .stores)) (w .store)
+unfoldable pub afterCall : Option Station → Call → World → World
+afterCall none c w = w
+afterCall (some st) c w =
+    let e : Effect = does c st (w .store) in
+    record { desk = running (e .station); store = stored (e .stores) (w .store); ledger = feed (e .answer) c (w .ledger) }
 
-unfoldable pub cutLedger : Call → ℕ → World → Ledger
-cutLedger c n w =
-    let e : Effect = does c (w .station) (w .store) in
-    cond (leb (length (e .stores)) n) (feed (e .answer) c (w .ledger)) (w .ledger)
+-- 01 'Words': "the answer that reports a write counts as given with it": what the ledger is after the first n stores of a call. Every
+-- call here reports with its last store, or stores nothing
+unfoldable pub fedAfter : ℕ → Call → Effect → Ledger → Ledger
+fedAfter n c e b = cond (leb (length (e .stores)) n) (feed (e .answer) c b) b
 
--- a scan starts the station again, from the store alone
-unfoldable pub restarted : List ℕ → Ledger → World
-restarted s b = record { station = scan s .station; store = s; ledger = feed (scan s .answer) Scan b }
+-- "a cut falls only between such writes, those before it standing whole and the cut call's later ones never begun". The station is lost
+unfoldable pub afterCut : Option Station → Call → ℕ → World → World
+afterCut none c n w = w
+afterCut (some st) c n w =
+    let e : Effect = does c st (w .store) in
+    record { desk = down; store = stored (take n (e .stores)) (w .store); ledger = fedAfter n c e (w .ledger) }
 
 unfoldable pub next : Event → World → World
-next (called c) w = afterCall c w
-next (cut c n) w = restarted (cutStore c n w) (cutLedger c n w)
+next (called c) w = afterCall (handed c (w .desk)) c w
+next (cut c n) w = afterCut (handed c (w .desk)) c n w
 
 unfoldable pub run : List Event → World → World
 run [] w = w
 run (v ∷ vs) w = run vs (next v w)
 
--- the only hypothesis: numbers are in the ranges of their types
-unfoldable pub callOf : Event → Call
-callOf (called c) = c
-callOf (cut c n) = c
+-- the only hypothesis: transactions and numbers are in their ranges
+unfoldable pub callIn : Event → Call
+callIn (called c) = c
+callIn (cut c n) = c
 
 unfoldable pub AllInRange : List Event → Type 0
 AllInRange [] = Unit {0}
-AllInRange (v ∷ vs) = InRange (callOf v) × AllInRange vs
+AllInRange (v ∷ vs) = InRange (callIn v) × AllInRange vs

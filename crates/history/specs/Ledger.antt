@@ -14,6 +14,7 @@ use Rattle.model.specs.Calls.{Call, txnOf, keyOf, numberOf}
 
 -- the draft (page) of a live transaction: its clock once it closes, its values by key, its reads
 pub record Draft : Type 0 where
+  pub txn : ℕ
   pub clock : ℕ
   pub values : ℕ → Option ℕ
   pub reads : List Read
@@ -24,32 +25,56 @@ pub record Committed : Type 0 where
   pub values : ℕ → Option ℕ
 
 pub record Ledger : Type 0 where
-  pub drafts : ℕ → Option Draft
+  pub drafts : List Draft
   pub standing : List Committed
   pub past : List Committed
 
 unfoldable pub emptyLedger : Ledger
-emptyLedger = record { drafts = λ t. none; standing = []; past = [] }
+emptyLedger = record { drafts = []; standing = []; past = [] }
+
+-- ── drafts ──
+-- that of a transaction, if it has one
+unfoldable pub draftOf : ℕ → List Draft → Option Draft
+draftOf t [] = none
+draftOf t (p ∷ ps) = cond (eqb t (p .txn)) (some p) (draftOf t ps)
+
+-- those but its own
+unfoldable pub without : ℕ → List Draft → List Draft
+without t [] = []
+without t (p ∷ ps) = cond (eqb t (p .txn)) (without t ps) (p ∷ without t ps)
+
+-- all of them, its own revised
+unfoldable pub revised : ℕ → (Draft → Draft) → List Draft → List Draft
+revised t f [] = []
+revised t f (p ∷ ps) = cond (eqb t (p .txn)) (f p) p ∷ revised t f ps
+
+unfoldable pub withDrafts : List Draft → Ledger → Ledger
+withDrafts ps b = record { drafts = ps; standing = b .standing; past = b .past }
 
 -- ── parts of the rules ──
 -- a function with x at n
 unfoldable pub at : {A : Type 0} → ℕ → A → (ℕ → A) → ℕ → A
 at n x f m = cond (eqb m n) x (f m)
 
--- the draft of t, if any, replaced
-unfoldable pub revised : (Draft → Draft) → Option Draft → Option Draft
-revised f none = none
-revised f (some p) = some (f p)
+abbrev pub blankDraft : ℕ → Draft
+blankDraft t = record { txn = t; clock = 0; values = λ k. none; reads = [] }
 
-unfoldable pub onDraft : ℕ → (Draft → Draft) → Ledger → Ledger
-onDraft t f b = record { drafts = at t (revised f (b .drafts t)) (b .drafts); standing = b .standing; past = b .past }
+abbrev pub keeping : ℕ → ℕ → Draft → Draft
+keeping k v p = record { txn = p .txn; clock = p .clock; values = at k (some v) (p .values); reads = p .reads }
 
-unfoldable pub withDraft : ℕ → Option Draft → Ledger → Ledger
-withDraft t x b = record { drafts = at t x (b .drafts); standing = b .standing; past = b .past }
+abbrev pub reading : ℕ → Id → Draft → Draft
+reading k i p = record { txn = p .txn; clock = p .clock; values = p .values; reads = record { key = k; id = i } ∷ p .reads }
 
-unfoldable pub committedFrom : ℕ → Option Draft → List Committed
-committedFrom t none = []
-committedFrom t (some p) = record { id = record { clock = p .clock; txn = t }; values = p .values } ∷ []
+abbrev pub closingAt : ℕ → Draft → Draft
+closingAt c p = record { txn = p .txn; clock = c; values = p .values; reads = p .reads }
+
+-- "the page's ticket, clock and values by key"
+abbrev pub committedOf : Draft → Committed
+committedOf p = record { id = record { clock = p .clock; txn = p .txn }; values = p .values }
+
+unfoldable pub committedFrom : Option Draft → List Committed
+committedFrom none = []
+committedFrom (some p) = committedOf p ∷ []
 
 unfoldable pub strike : ℕ → List Committed → List Committed
 strike t [] = []
@@ -58,25 +83,25 @@ strike t (j ∷ js) = cond (eqb (j .id .txn) t) (strike t js) (j ∷ strike t js
 -- ── the rules, a row for each answer, in 01's order ──
 unfoldable pub feed : Answer → Call → Ledger → Ledger
 -- "started: a blank page for the ticket."
-feed A.Started c b = withDraft (txnOf c) (some (record { clock = 0; values = λ k. none; reads = [] })) b
+feed A.Started c b = withDrafts (blankDraft (txnOf c) ∷ without (txnOf c) (b .drafts)) b
 -- "kept: the value goes on its page under the key, over any older one."
-feed A.Kept c b = onDraft (txnOf c) (λ p. record { clock = p .clock; values = at (keyOf c) (some (numberOf c)) (p .values); reads = p .reads }) b
+feed A.Kept c b = withDrafts (revised (txnOf c) (keeping (keyOf c) (numberOf c)) (b .drafts)) b
 -- "version: the key asked and the id answered join the page's reads."
-feed (A.Version v i) c b = onDraft (txnOf c) (λ p. record { clock = p .clock; values = p .values; reads = record { key = keyOf c; id = i } ∷ p .reads }) b
+feed (A.Version v i) c b = withDrafts (revised (txnOf c) (reading (keyOf c) i) (b .drafts)) b
 -- "closing: the clock given goes on the page."
-feed (A.Closing d) c b = onDraft (txnOf c) (λ p. record { clock = numberOf c; values = p .values; reads = p .reads }) b
+feed (A.Closing d) c b = withDrafts (revised (txnOf c) (closingAt (numberOf c)) (b .drafts)) b
 -- "slipped: the page's ticket, clock and values by key become a job, standing and past; the page stays."
 feed (A.Slipped d) c b =
-    let j : List Committed = committedFrom (txnOf c) (b .drafts (txnOf c)) in
+    let j : List Committed = committedFrom (draftOf (txnOf c) (b .drafts)) in
     record { drafts = b .drafts; standing = j ++ b .standing; past = j ++ b .past }
 -- "empty, dropped, done: the ticket's page, if any, is torn out."
-feed A.Empty c b = withDraft (txnOf c) none b
-feed A.Dropped c b = withDraft (txnOf c) none b
-feed (A.Done i) c b = withDraft (txnOf c) none b
+feed A.Empty c b = withDrafts (without (txnOf c) (b .drafts)) b
+feed A.Dropped c b = withDrafts (without (txnOf c) (b .drafts)) b
+feed (A.Done i) c b = withDrafts (without (txnOf c) (b .drafts)) b
 -- "collected: the standing job of the ticket answered is struck."
 feed (A.Collected i) c b = record { drafts = b .drafts; standing = strike (i .txn) (b .standing); past = b .past }
 -- "found: every page is torn out."
-feed (A.Found n) c b = record { drafts = λ t. none; standing = b .standing; past = b .past }
+feed (A.Found n) c b = withDrafts [] b
 -- "Any other answer, a refusal too: nothing."
 feed (A.Own v) c b = b
 feed A.None c b = b

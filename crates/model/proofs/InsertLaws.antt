@@ -11,8 +11,9 @@ use native.Mathlib.Nat.{lt-irrefl, le-refl}
 use native.Mathlib.Omega.{arith}
 use borrow.Author.Tests.{ltb-true, ltb-false, leb-true, leb-false, eqb-true, eqb-false, lt-ltb, le-leb, ne-eqb}
 use Rattle.model.specs.Lists.{_and_, all, any, insert, padded, member, ascending}
+use Rattle.model.specs.Ranges.{Every}
 use Rattle.model.proofs.Tests.{and-left, and-right, and-intro, and-second, not-of-false}
-use Rattle.model.proofs.ListLaws.{all-head, all-tail, all-cons, member-no}
+use Rattle.model.proofs.ListLaws.{all-head, all-tail, all-cons, member-no, every-append, every-replicate}
 
 -- ── ascending ──
 pub ascending-head : (lo hi n : ℕ) (ns : List ℕ) → ascending lo hi (n ∷ ns) ≡ true → (lo ≤ n) × (n < hi)
@@ -151,6 +152,12 @@ module _ {A : Type 0} (key : A → ℕ) (x : A) where
       (λ e. all-cons p x ys q (all-tail p y ys h))
       (λ o. all-cons p x (y ∷ ys) q h)
 
+  -- all of it have a property (specs/Ranges)
+  pub every-insert : (P : A → Type 0) (xs : List A) → Every P xs → P x → Every P (insert key x xs)
+  unfolding insert
+  every-insert P [] h q = (q, tt)
+  every-insert P (y ∷ ys) h q = insert-rule (λ l. Every P l) y ys (λ o. (h .0, every-insert P ys (h .1) q)) (λ e. (q, h .1)) (λ o. (q, h))
+
 module _ {A : Type 0} where
   -- ── padded ──
   pub padded-take : (z : A) (n : ℕ) (xs : List A) → take (length xs) (padded z n xs) ≡ xs
@@ -164,3 +171,7 @@ module _ {A : Type 0} where
   pub padded-length : (z : A) (n : ℕ) (xs : List A) → length xs ≤ n → length (padded z n xs) ≡ n
   unfolding padded
   padded-length z n xs o = length-append xs _ ∙ omega (arith, length-replicate (n - length xs) z)
+
+  pub every-padded : (P : A → Type 0) (z : A) (n : ℕ) (xs : List A) → Every P xs → P z → Every P (padded z n xs)
+  unfolding padded
+  every-padded P z n xs h q = every-append P xs _ h (every-replicate P (n - length xs) z q)

@@ -14,6 +14,7 @@ pub mod GetLaws
 pub mod SoundLaws
 pub mod SoundFacts
 pub mod SoundKept
+pub mod RangesKept
 pub mod ReadYourWrites
 pub mod BenchTable
 pub mod RunSheet

@@ -1,9 +1,9 @@
 -- Laws of the searches and tests on lists (specs/Lists), over plain lists.
-use Prim.Native.Nat.{ℕ, zero, suc, _+_, _<_, suc-le-suc}
+use Prim.Native.Nat.{ℕ, zero, suc, _+_, _<_, _≤_, suc-le-suc}
 use mathlib.Core.Path.{_≡_, refl, sym, ap, subst, _∙_}
 use mathlib.Core.Logic.{_≢_, _⊎_, inl, inr, ⊎-elim}
 use mathlib.Core.Bool.{Bool, true, false, true≢false, false≢true}
-use mathlib.Core.List.{List, [], _∷_, map, List·Memᴰ, List·Memᴰ·head, List·Memᴰ·tail, List·Memᴰ·not-nil, List·Memᴰ·cases-cons}
+use mathlib.Core.List.{List, [], _∷_, _++_, map, List·Memᴰ, List·Memᴰ·head, List·Memᴰ·tail, List·Memᴰ·not-nil, List·Memᴰ·cases-cons}
 use lib.Dec.{eqb}
 use lib.ListN.{length, take, drop, getD, replicate, set, length-set, List·getD-eq-default}
 use lib.Seq.{getD-set-same, getD-set-other}
@@ -12,6 +12,7 @@ use native.Mathlib.Decide.{ℕ-discrete, decLt}
 use native.Mathlib.Omega.{arith}
 use borrow.Author.Tests.{eqb-true, eq-eqb}
 use Rattle.model.specs.Lists.{all, any, first, count, from, member, anyBelow, greatestBelow}
+use Rattle.model.specs.Ranges.{Every}
 use Rattle.model.proofs.Tests.{or-cases}
 
 module _ {A : Type 0} where
@@ -285,3 +286,48 @@ module _ {A : Type 0} where
     unfolding all
     all-map p q g [] h = refl
     all-map p q g (x ∷ xs) h = all-cons q (f x) (map f xs) (g x (all-head p x xs h)) (all-map p q g xs (all-tail p x xs h))
+
+-- ── all elements have a property (specs/Ranges) ──
+module _ {A : Type 0} (P : A → Type 0) where
+  pub every-at : (xs : List A) → Every P xs → (i : ℕ) (d : A) → i < length xs → P (getD xs i d)
+  every-at [] h i d o = absurd (not-suc-le-zero o)
+  every-at (x ∷ xs) h zero d o = h .0
+  every-at (x ∷ xs) h (suc i) d o = every-at xs (h .1) i d (le-of-suc-le-suc o)
+
+  -- and so has the default
+  pub every-everywhere : (xs : List A) → Every P xs → (d : A) → P d → (i : ℕ) → P (getD xs i d)
+  every-everywhere [] h d q i = q
+  every-everywhere (x ∷ xs) h d q zero = h .0
+  every-everywhere (x ∷ xs) h d q (suc i) = every-everywhere xs (h .1) d q i
+
+  pub every-set : (xs : List A) → Every P xs → (i : ℕ) (x : A) → P x → Every P (set xs i x)
+  every-set [] h i x q = tt
+  every-set (y ∷ ys) h zero x q = (q, h .1)
+  every-set (y ∷ ys) h (suc i) x q = (h .0, every-set ys (h .1) i x q)
+
+  pub every-take : (n : ℕ) (xs : List A) → Every P xs → Every P (take n xs)
+  every-take zero xs h = tt
+  every-take (suc n) [] h = tt
+  every-take (suc n) (x ∷ xs) h = (h .0, every-take n xs (h .1))
+
+  pub every-drop : (n : ℕ) (xs : List A) → Every P xs → Every P (drop n xs)
+  every-drop zero xs h = h
+  every-drop (suc n) [] h = tt
+  every-drop (suc n) (x ∷ xs) h = every-drop n xs (h .1)
+
+  pub every-append : (xs ys : List A) → Every P xs → Every P ys → Every P (xs ++ ys)
+  every-append [] ys h k = k
+  every-append (x ∷ xs) ys h k = (h .0, every-append xs ys (h .1) k)
+
+  pub every-replicate : (n : ℕ) (x : A) → P x → Every P (replicate n x)
+  every-replicate zero x q = tt
+  every-replicate (suc n) x q = (q, every-replicate n x q)
+
+  pub every-from : (f : ℕ → A) (n i : ℕ) → ((j : ℕ) → i ≤ j → j < i + n → P (f j)) → Every P (from n i f)
+  unfolding from
+  every-from f zero i h = tt
+  every-from f (suc n) i h = (h i (omega arith) (omega arith), every-from f n (suc i) (λ j a b. h j (omega arith) (omega arith)))
+
+  pub every-map : {B : Type 0} (f : B → A) (Q : B → Type 0) → ((x : B) → Q x → P (f x)) → (xs : List B) → Every Q xs → Every P (map f xs)
+  every-map f Q g [] h = tt
+  every-map f Q g (x ∷ xs) h = (g x (h .0), every-map f Q g xs (h .1))

@@ -250,6 +250,9 @@ zeros-mark : (n d : ℕ) → markIn (recordAt (replicate n 0) d 0) ≡ freeMark
 unfolding markIn recordAt
 zeros-mark n d = getD-take recordSize (drop (recordPlace d 0) (replicate n 0)) 0 0 (lit< tt) ∙ (getD-drop (recordPlace d 0) (replicate n 0) 0 0 ∙ getD-all n (recordPlace d 0 + 0) 0)
 
+pub zeros-free : (n d : ℕ) → seen (replicate n 0) d ≡ free
+zeros-free n d = seen-free (replicate n 0) d (zeros-mark n d)
+
 -- "All zeros scan to the empty station."
 pub scan-zeros : scan (replicate storeSize 0) ≡ says (A.Found 0) emptyStation
-scan-zeros = scan-empty (replicate storeSize 0) (length-replicate {A = ℕ} storeSize 0) (λ d o. seen-free (replicate storeSize 0) d (zeros-mark storeSize d))
+scan-zeros = scan-empty (replicate storeSize 0) (length-replicate {A = ℕ} storeSize 0) (λ d o. zeros-free storeSize d)

@@ -1,0 +1,342 @@
+-- A station within its types stays so under every call, and a store of bytes stays one of bytes.
+use Prim.Native.Nat.{ℕ, zero, suc, _+_, _*_, _/_, _^_, _<_, _≤_}
+use mathlib.Core.Path.{_≡_, refl, sym, _∙_}
+use mathlib.Core.Bool.{Bool, true, false, not}
+use mathlib.Core.List.{List, [], _∷_, map}
+use lib.Dec.{eqb, ltb, leb, lit<}
+use lib.ListN.{length, take, drop, replicate, length-set, length-map, length-drop}
+use lib.Seq.{length-take-le}
+use native.Mathlib.Nat.{suc-ne-zero}
+use native.Mathlib.Omega.{arith}
+use borrow.Author.Tests.{ltb-true, leb-false, eqb-true, eqb-false, not-false, le-leb}
+use Rattle.model.specs.declared.Id.{Id}
+use Rattle.model.specs.declared.Live.{Live}
+use Rattle.model.specs.declared.Entry.{Entry}
+use Rattle.model.specs.declared.Station.{Station}
+use Rattle.model.specs.declared.Phase.{Phase}
+use Rattle.model.specs.declared.Phase.the-variants.{Unused, Open, Closing}
+use Rattle.model.specs.declared.Answer.{Answer}
+use Rattle.model.specs.Lists.{_and_, anyBelow}
+use Rattle.model.specs.Limits.{keys, livePlaces, slots, writeLimit, readLimit, recordSize, storeSize, txnRange, numberRange, byteRange}
+use Rattle.model.specs.Ids.{noId}
+use Rattle.model.specs.Bytes.{bytes, number, headBytes, idIn}
+use Rattle.model.specs.Lives.{noWrite, noRead, blank, noLive, writesOf, readsOf, writeKey, readKey, hasWritten, hasRead, closingSlot, closingClock, recordsStored, withWrites, withReads, withPhase}
+use Rattle.model.specs.Entries.{noEntry, wroteAs, entryIn, entryFor, committedMark, commitRecord}
+use Rattle.model.specs.Stations.{idleStation, emptyStation, liveAt, entryAt, setLive, setEntry, isLive, isHeld, placeOf, isFree}
+use Rattle.model.specs.Records.{versionRecord, zeroRecord, recordPlace, recordAt, withRecord}
+use Rattle.model.specs.Slots.{judged, seen}
+use Rattle.model.specs.Reading.{Choice, own, absent, nofit, version}
+use Rattle.model.specs.Effects.{RecordWrite, Effect, stored, says, saysStoring, Row, _when_, refusals, wrongLength, unsound}
+use Rattle.model.specs.Start.{opened, start}
+use Rattle.model.specs.Put.{withWrite, put}
+use Rattle.model.specs.Get.{choiceOf, withRead, noRoom, answered, get}
+use Rattle.model.specs.Commit.{highestFree, commit}
+use Rattle.model.specs.Step.{oneMore, stepped, step}
+use Rattle.model.specs.Abort.{abort}
+use Rattle.model.specs.Collect.{collect}
+use Rattle.model.specs.Scan.{slotsSeen, entrySeen, lowestBroken, scanned, scan}
+use Rattle.model.specs.Ranges.{Every, IsByte, IdFits, WriteFits, ReadFits, PhaseFits, LiveFits, EntryFits, StationFits}
+use Rattle.model.specs.Calls.{Call, Start, Put, Get, Commit, Step, Abort, Collect, Scan, does, txnOf, numberOf, IsTyped}
+use Rattle.model.proofs.Tests.{and-first, and-second, not-of-false}
+use Rattle.model.proofs.ListLaws.{greatest-below, every-at, every-everywhere, every-set, every-take, every-drop, every-append, every-replicate, every-from, every-map}
+use Rattle.model.proofs.InsertLaws.{every-insert, padded-length, every-padded}
+use Rattle.model.proofs.RefusalLaws.{guard, unguarded, cond-rule}
+use Rattle.model.proofs.ScanLaws.{entries-length}
+use Rattle.model.proofs.StationLaws.{place-hit}
+use Rattle.model.proofs.GetLaws.{version-entry, version-wrote}
+use Rattle.model.proofs.SoundLaws.{Used, write-limit, read-limit, used-withWrite, used-withRead}
+use Rattle.model.proofs.SoundFacts.{live-facts}
+
+-- ── bytes ──
+pub bytes-are : (n x : ℕ) → Every IsByte (bytes n x)
+unfolding bytes
+bytes-are zero x = tt
+bytes-are (suc n) x = (omega arith, bytes-are n (x / byteRange))
+
+pub bytes-zeros : (n : ℕ) → Every IsByte (replicate n 0)
+bytes-zeros n = every-replicate IsByte n 0 (lit< tt)
+
+pub number-below : (n : ℕ) (bs : List ℕ) → length bs ≡ n → Every IsByte bs → number bs < byteRange ^ n
+unfolding number
+number-below zero [] l h = omega arith
+number-below zero (b ∷ bs) l h = absurd (suc-ne-zero _ l)
+number-below (suc n) [] l h = absurd (suc-ne-zero _ (sym l))
+number-below (suc n) (b ∷ bs) l h =
+    let o : b < 256 = h .0 in
+    let r : number bs < 256 ^ n = number-below n bs (omega arith) (h .1) in
+    let below : b + 256 * number bs < 256 ^ suc n = omega arith in
+    below
+
+-- ── what is unused ──
+noId-fits : IdFits noId
+noId-fits = record { clock64 = lit< tt; txn32 = lit< tt }
+
+noWrite-fits : WriteFits noWrite
+noWrite-fits = record { key8 = lit< tt; value64 = lit< tt }
+
+noRead-fits : ReadFits noRead
+noRead-fits = record { key8 = lit< tt; id = noId-fits }
+
+noEntry-fits : EntryFits noEntry
+noEntry-fits = record { id = noId-fits; count8 = lit< tt; key-places = refl; keys = bytes-zeros writeLimit }
+
+blank-fits : (t : ℕ) (p : Phase) → t < txnRange → PhaseFits p → LiveFits (blank t p)
+blank-fits t p o f = record {
+  txn32 = o;
+  phase = f;
+  writes8 = lit< tt;
+  write-places = refl;
+  writes = every-replicate WriteFits writeLimit noWrite noWrite-fits;
+  reads8 = lit< tt;
+  read-places = refl;
+  reads = every-replicate ReadFits readLimit noRead noRead-fits;
+}
+
+noLive-fits : LiveFits noLive
+unfolding closingSlot closingClock recordsStored
+noLive-fits = blank-fits 0 Unused (lit< tt) (record { slot8 = lit< tt; clock64 = lit< tt; stored8 = lit< tt })
+
+opened-fits : (t : ℕ) → t < txnRange → LiveFits (opened t)
+unfolding opened closingSlot closingClock recordsStored
+opened-fits t o = blank-fits t Open o (record { slot8 = lit< tt; clock64 = lit< tt; stored8 = lit< tt })
+
+idle-fits : (es : List Entry) → length es ≡ slots → Every EntryFits es → StationFits (idleStation es)
+idle-fits es l f = record { live-places = refl; live = every-replicate LiveFits livePlaces noLive noLive-fits; entry-places = l; entries = f }
+
+pub fits-empty : StationFits emptyStation
+unfolding emptyStation
+fits-empty = idle-fits (replicate slots noEntry) refl (every-replicate EntryFits slots noEntry noEntry-fits)
+
+-- ── a station's places and slots ──
+module _ (st : Station) (f : StationFits st) where
+  setLive-fits : (i : ℕ) (l : Live) → LiveFits l → StationFits (setLive st i l)
+  unfolding setLive
+  setLive-fits i l g = record { live-places = length-set (st .live) i l ∙ f .live-places; live = every-set LiveFits (st .live) (f .live) i l g; entry-places = f .entry-places; entries = f .entries }
+
+  setEntry-fits : (d : ℕ) (e : Entry) → EntryFits e → StationFits (setEntry st d e)
+  unfolding setEntry
+  setEntry-fits d e g = record { live-places = f .live-places; live = f .live; entry-places = length-set (st .entries) d e ∙ f .entry-places; entries = every-set EntryFits (st .entries) (f .entries) d e g }
+
+-- ── a live transaction changed ──
+module _ (l : Live) (f : LiveFits l) where
+  withWrite-fits : (es : List Entry) (k v : ℕ) → Used es l → k < keys → v < numberRange → (not (hasWritten k l) and leb writeLimit (l .«write_count»)) ≡ false → LiveFits (withWrite k v l)
+  unfolding withWrite withWrites writesOf
+  withWrite-fits es k v u o ov r = record {
+    txn32 = f .txn32;
+    phase = f .phase;
+    reads8 = f .reads8;
+    read-places = f .read-places;
+    reads = f .reads;
+    writes8 = omega (arith, limit);
+    write-places = padded-length noWrite writeLimit _ limit;
+    writes = every-padded WriteFits noWrite writeLimit _ (every-insert writeKey _ WriteFits (writesOf l) (every-take WriteFits (l .«write_count») (l .writes) (f .writes)) (record { key8 = omega arith; value64 = ov })) noWrite-fits;
+  }
+    where
+      limit : withWrite k v l .«write_count» ≤ writeLimit
+      limit = write-limit (withWrite k v l) (used-withWrite es k v l u o r .sets)
+
+  withRead-fits : (es : List Entry) (k : ℕ) (i : Id) → Used es l → k < keys → IdFits i → (not (hasRead k l) and leb readLimit (l .«read_count»)) ≡ false → wroteAs es i k ≡ true → LiveFits (withRead k i l)
+  unfolding withRead withReads readsOf
+  withRead-fits es k i u o oi r w = record {
+    txn32 = f .txn32;
+    phase = f .phase;
+    writes8 = f .writes8;
+    write-places = f .write-places;
+    writes = f .writes;
+    reads8 = omega (arith, limit);
+    read-places = padded-length noRead readLimit _ limit;
+    reads = every-padded ReadFits noRead readLimit _ (every-insert readKey _ ReadFits (readsOf l) (every-take ReadFits (l .«read_count») (l .reads) (f .reads)) (record { key8 = omega arith; id = oi })) noRead-fits;
+  }
+    where
+      limit : withRead k i l .«read_count» ≤ readLimit
+      limit = read-limit (withRead k i l) (used-withRead es k i l u o r w .sets)
+
+  withPhase-fits : (p : Phase) → PhaseFits p → LiveFits (withPhase p l)
+  unfolding withPhase
+  withPhase-fits p g = record { txn32 = f .txn32; phase = g; writes8 = f .writes8; write-places = f .write-places; writes = f .writes; reads8 = f .reads8; read-places = f .read-places; reads = f .reads }
+
+  -- its entry
+  entryFor-fits : EntryFits (entryFor l)
+  unfolding entryFor
+  entryFor-fits = record {
+    id = record { clock64 = f .phase .clock64; txn32 = f .txn32 };
+    count8 = f .writes8;
+    key-places = length-map (l .writes) writeKey ∙ f .write-places;
+    keys = every-map IsByte writeKey WriteFits (λ w g. g .key8) (l .writes) (f .writes);
+  }
+
+closing-fits : (d c : ℕ) → d < slots → c < numberRange → PhaseFits (Closing d c 0)
+unfolding closingSlot closingClock recordsStored
+closing-fits d c od oc = record { slot8 = omega arith; clock64 = oc; stored8 = lit< tt }
+
+oneMore-fits : (p : Phase) → PhaseFits p → recordsStored p ≤ writeLimit → PhaseFits (oneMore p)
+unfolding oneMore recordsStored closingSlot closingClock
+oneMore-fits Unused f o = f
+oneMore-fits Open f o = f
+oneMore-fits (Closing d c n) f o = record { slot8 = f .slot8; clock64 = f .clock64; stored8 = omega arith }
+
+-- ── records ──
+head-bytes : (a b : ℕ) (i : Id) → IsByte a → IsByte b → Every IsByte (headBytes a b i)
+unfolding headBytes
+head-bytes a b i ha hb = (ha, (hb, (lit< tt, (lit< tt, every-append IsByte (bytes 4 (i .txn)) (bytes 8 (i .clock)) (bytes-are 4 (i .txn)) (bytes-are 8 (i .clock))))))
+
+version-bytes : (k : ℕ) (i : Id) (v : ℕ) → IsByte k → Every IsByte (versionRecord k i v)
+unfolding versionRecord
+version-bytes k i v h = every-append IsByte (headBytes k 0 i) (bytes 8 v) (head-bytes k 0 i h (lit< tt)) (bytes-are 8 v)
+
+commit-bytes : (e : Entry) → EntryFits e → Every IsByte (commitRecord e)
+unfolding commitRecord
+commit-bytes e f = every-append IsByte (headBytes committedMark (e .count) (e .id)) (e .keys) (head-bytes committedMark (e .count) (e .id) (lit< tt) (f .count8)) (f .keys)
+
+-- the entry in a record's bytes
+entryIn-fits : (r : List ℕ) → length r ≡ recordSize → Every IsByte r → EntryFits (entryIn r)
+unfolding entryIn idIn
+entryIn-fits r l h = record {
+  id = record { clock64 = part 8 8 (omega arith); txn32 = part 4 4 (omega arith) };
+  count8 = every-everywhere IsByte r h 0 (lit< tt) 1;
+  key-places = part-length 8 16 (omega arith);
+  keys = part-bytes 8 16;
+}
+  where
+    part-length : (n at : ℕ) → at + n ≤ recordSize → length (take n (drop at r)) ≡ n
+    part-length n at o = length-take-le n (drop at r) (omega (arith, length-drop at r))
+
+    part-bytes : (n at : ℕ) → Every IsByte (take n (drop at r))
+    part-bytes n at = every-take IsByte n (drop at r) (every-drop IsByte at r h)
+
+    part : (n at : ℕ) → at + n ≤ recordSize → number (take n (drop at r)) < byteRange ^ n
+    part n at o = number-below n (take n (drop at r)) (part-length n at o) (part-bytes n at)
+
+-- ── what is read of a slot ──
+judged-fits : (a b : Bool) (e : Entry) → EntryFits e → EntryFits (entrySeen (judged a b e))
+unfolding judged entrySeen
+judged-fits true b e f = noEntry-fits
+judged-fits false true e f = f
+judged-fits false false e f = noEntry-fits
+
+seen-fits : (s : List ℕ) (d : ℕ) → length s ≡ storeSize → Every IsByte s → d < slots → EntryFits (entrySeen (seen s d))
+unfolding seen recordAt
+seen-fits s d l h o = judged-fits _ _ _ (entryIn-fits (recordAt s d 0)
+    (length-take-le recordSize (drop (recordPlace d 0) s) (omega (arith, length-drop (recordPlace d 0) s)))
+    (every-take IsByte recordSize (drop (recordPlace d 0) s) (every-drop IsByte (recordPlace d 0) s h)))
+
+found-fits : (s : List ℕ) → length s ≡ storeSize → Every IsByte s → Every EntryFits (map entrySeen (slotsSeen s))
+unfolding slotsSeen
+found-fits s l h = every-map EntryFits entrySeen (λ x. EntryFits (entrySeen x)) (λ x f. f) (slotsSeen s)
+    (every-from (λ x. EntryFits (entrySeen x)) (seen s) slots 0 (λ d a b. seen-fits s d l h (omega arith)))
+
+-- ── what is shown of each call ──
+abbrev ContentFits : RecordWrite → Type 0
+ContentFits w = Every IsByte (w .content)
+
+-- the station handed back is within its types, and what is stored are bytes
+record EffectFits (e : Effect) : Type 0 where
+  pub handed : StationFits (e .station)
+  pub writes : Every ContentFits (e .stores)
+
+says-fits : (a : Answer) (st : Station) → StationFits st → EffectFits (says a st)
+unfolding says
+says-fits a st f = record { handed = f; writes = tt }
+
+stores-fits : (a : Answer) (st : Station) (d n : ℕ) (r : List ℕ) → StationFits st → Every IsByte r → EffectFits (saysStoring a st d n r)
+unfolding saysStoring
+stores-fits a st d n r f h = record { handed = f; writes = (h, tt) }
+
+scan-fits : (s : List ℕ) → Every IsByte s → EffectFits (scan s)
+unfolding scan scanned wrongLength
+scan-fits s h =
+    guard EffectFits 1 _ _ emptyStation _ (says-fits _ _ fits-empty) λ h1.
+    unguarded EffectFits emptyStation _ (
+    cond-rule EffectFits (ltb (lowestBroken (slotsSeen s)) (length (slotsSeen s))) _ _ (λ q. says-fits _ _ fits-empty) λ q.
+    says-fits _ _ (idle-fits _ (entries-length s) (found-fits s (eqb-true (length s) storeSize (not-false _ h1)) h)))
+
+-- ── the calls, in a station within its types ──
+free-low : (st : Station) → anyBelow (isFree st) slots ≡ true → highestFree st < slots
+unfolding highestFree
+free-low st h = greatest-below (isFree st) slots h .0
+
+module _ (st : Station) (f : StationFits st) where
+  entry-fits : (d : ℕ) → d < length (st .entries) → EntryFits (entryAt st d)
+  unfolding entryAt
+  entry-fits d o = every-at EntryFits (st .entries) (f .entries) d _ o
+
+  live-fits : (t : ℕ) → not (isLive t st) ≡ false → LiveFits (liveAt st (placeOf t st))
+  unfolding liveAt
+  live-fits t h8 = every-at LiveFits (st .live) (f .live) (placeOf t st) _ (place-hit st t (not-false _ h8) .0)
+
+  live-used : (t : ℕ) → unsound st ≡ false → eqb t 0 ≡ false → not (isLive t st) ≡ false → Used (st .entries) (liveAt st (placeOf t st))
+  unfolding unsound
+  live-used t h2 h3 h8 = live-facts st (not-false _ h2) (placeOf t st) (λ e. eqb-false t 0 h3 (sym (place-hit st t (not-false _ h8) .1) ∙ e))
+
+  -- a row of refusals hands back the station unaltered
+  row : (n : ℕ) (b : Bool) (rs : List Row) (e : Effect) → (b ≡ false → EffectFits (refusals rs st e)) → EffectFits (refusals (n when b ∷ rs) st e)
+  row n b rs e g = guard EffectFits n b rs st e (says-fits _ st f) g
+
+  -- another transaction at a place, and nothing stored
+  relive : (a : Answer) (i : ℕ) (l : Live) → LiveFits l → EffectFits (says a (setLive st i l))
+  relive a i l g = says-fits a _ (setLive-fits st f i l g)
+
+  module _ (t : ℕ) where
+    abbrev i : ℕ
+    i = placeOf t st
+
+    abbrev l : Live
+    l = liveAt st (placeOf t st)
+
+    answered-fits : (s : List ℕ) (k : ℕ) → LiveFits l → Used (st .entries) l → k < keys → (ch : Choice) → choiceOf st l k ≡ ch → noRoom l k ch ≡ false → EffectFits (answered st s i k ch)
+    unfolding noRoom answered
+    answered-fits s k g u o (own v) e r = says-fits _ st f
+    answered-fits s k g u o absent e r = says-fits _ st f
+    answered-fits s k g u o nofit e r = says-fits _ st f
+    answered-fits s k g u o (version d) e r = relive _ _ _ (withRead-fits l g (st .entries) k _ u o (entry-fits d (version-entry st l k d e .0) .id) r (version-wrote st l k d e))
+
+    stepped-fits : LiveFits l → Used (st .entries) l → EffectFits (stepped st i l (l .phase))
+    unfolding stepped
+    stepped-fits g u =
+        cond-rule EffectFits (ltb (recordsStored (l .phase)) (l .«write_count»)) _ _
+        (λ q. stores-fits _ _ _ _ _ (more (omega (arith, ltb-true (recordsStored (l .phase)) (l .«write_count») q))) (version-bytes _ _ _ (every-everywhere WriteFits (l .writes) (g .writes) noWrite noWrite-fits _ .key8))) λ n1.
+        cond-rule EffectFits (eqb (recordsStored (l .phase)) (l .«write_count»)) _ _
+        (λ q. stores-fits _ _ _ _ _ (more (omega (arith, eqb-true (recordsStored (l .phase)) (l .«write_count») q))) (commit-bytes _ (entryFor-fits l g))) λ n2.
+        says-fits _ _ (setEntry-fits _ (setLive-fits st f i noLive noLive-fits) _ _ (entryFor-fits l g))
+      where
+        more : recordsStored (l .phase) ≤ l .«write_count» → StationFits (setLive st i (withPhase (oneMore (l .phase)) l))
+        more o = setLive-fits st f i _ (withPhase-fits l g _ (oneMore-fits (l .phase) (g .phase) (omega (arith, o, write-limit l (u .sets)))))
+
+  call-fits : (c : Call) (s : List ℕ) → IsTyped c → Every IsByte s → EffectFits (does c st s)
+  unfolding does txnOf numberOf start put get commit step abort collect zeroRecord
+  call-fits (Start t) s y h = row 2 _ _ _ λ h2. row 3 _ _ _ λ h3. row 6 _ _ _ λ h6. row 7 _ _ _ λ h7. unguarded EffectFits st _ (relive _ _ _ (opened-fits t (y .0 .0)))
+  call-fits (Put t k v) s y h = row 2 _ _ _ λ h2. row 3 _ _ _ λ h3. row 4 _ _ _ λ h4. row 8 _ _ _ λ h8. row 9 _ _ _ λ h9. row 11 _ _ _ λ h11.
+      unguarded EffectFits st _ (relive _ _ _ (withWrite-fits _ (live-fits t h8) (st .entries) k v (live-used t h2 h3 h8) (leb-false keys k h4) (y .0 .1) h11))
+  call-fits (Get t k) s y h = row 1 _ _ _ λ h1. row 2 _ _ _ λ h2. row 3 _ _ _ λ h3. row 4 _ _ _ λ h4. row 8 _ _ _ λ h8. row 9 _ _ _ λ h9. row 12 _ _ _ λ h12. row 17 _ _ _ λ h17.
+      unguarded EffectFits st _ (answered-fits t s k (live-fits t h8) (live-used t h2 h3 h8) (leb-false keys k h4) _ refl h12)
+  call-fits (Commit t c) s y h = row 2 _ _ _ λ h2. row 3 _ _ _ λ h3. row 5 _ _ _ λ h5. row 8 _ _ _ λ h8. row 9 _ _ _ λ h9. row 13 _ _ _ λ h13.
+      unguarded EffectFits st _ (
+      cond-rule EffectFits (isHeld t st) _ _ (λ q. says-fits _ st f) λ nh.
+      cond-rule EffectFits (eqb (l t .«write_count») 0) _ _ (λ q. relive _ _ _ noLive-fits) λ nw.
+      let w : 1 ≤ l t .«write_count» = omega (arith, eqb-false (l t .«write_count») 0 nw) in
+      relive _ _ _ (withPhase-fits _ (live-fits t (and-first _ _ h8 (not-of-false _ nh))) _ (closing-fits _ c (free-low st (not-false _ (and-second _ _ h13 (le-leb _ _ w)))) (y .0 .1))))
+  call-fits (Step t) s y h = row 1 _ _ _ λ h1. row 2 _ _ _ λ h2. row 3 _ _ _ λ h3. row 8 _ _ _ λ h8. row 10 _ _ _ λ h10. unguarded EffectFits st _ (stepped-fits t (live-fits t h8) (live-used t h2 h3 h8))
+  call-fits (Abort t) s y h = row 2 _ _ _ λ h2. row 3 _ _ _ λ h3. row 8 _ _ _ λ h8. row 9 _ _ _ λ h9. unguarded EffectFits st _ (relive _ _ _ noLive-fits)
+  call-fits (Collect d) s y h = row 1 _ _ _ λ h1. row 2 _ _ _ λ h2. row 14 _ _ _ λ h14. row 15 _ _ _ λ h15. row 16 _ _ _ λ h16. row 17 _ _ _ λ h17.
+      unguarded EffectFits st _ (stores-fits _ _ _ _ _ (setEntry-fits st f d noEntry noEntry-fits) (bytes-zeros recordSize))
+  call-fits Scan s y h = scan-fits s h
+
+-- records of bytes stored
+stored-bytes : (ws : List RecordWrite) (s : List ℕ) → Every ContentFits ws → Every IsByte s → Every IsByte (stored ws s)
+unfolding stored withRecord
+stored-bytes [] s g h = h
+stored-bytes (w ∷ ws) s g h = stored-bytes ws _ (g .1) (every-append IsByte (take at s) _ (every-take IsByte at s h) (every-append IsByte (w .content) _ (g .0) (every-drop IsByte (at + recordSize) s h)))
+  where
+    at : ℕ
+    at = recordPlace (w .slot) (w .index)
+
+module _ (c : Call) (st : Station) (s : List ℕ) (y : IsTyped c) (f : StationFits st) (h : Every IsByte s) where
+  pub fits-kept : StationFits (does c st s .station)
+  fits-kept = call-fits st f c s y h .handed
+
+  -- whatever of its record writes is done
+  pub bytes-kept : (n : ℕ) → Every IsByte (stored (take n (does c st s .stores)) s)
+  bytes-kept n = stored-bytes _ s (every-take ContentFits n _ (call-fits st f c s y h .writes)) h
+
+  pub bytes-kept-all : Every IsByte (stored (does c st s .stores) s)
+  bytes-kept-all = stored-bytes _ s (call-fits st f c s y h .writes) h
