@@ -24,6 +24,7 @@ use edits::low32;
 use edits::same_station;
 use libc::STDOUT_FILENO;
 use sheet::Command;
+use sheet::same_bytes;
 ghost use mathlib.Core.Path.{_≡_};
 ghost use Prim.Native.Nat.{_≤_};
 ghost use lib.ListN.{length};
@@ -119,20 +120,6 @@ fn copy_over(to: &mut [u8], from: &[u8]) {
         to[i] = from[i];
         i += 1;
     }
-}
-
-fn same_bytes(a: &[u8], b: &[u8]) -> bool {
-    if a.len() != b.len() {
-        return false;
-    }
-    let mut i = 0;
-    while i < a.len() {
-        if a[i] != b[i] {
-            return false;
-        }
-        i += 1;
-    }
-    true
 }
 
 // ---- a station's field changed

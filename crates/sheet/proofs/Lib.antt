@@ -1,8 +1,4 @@
 pub mod Example
-pub mod FieldLaws
-pub mod ReadLaws
-pub mod DigitLaws
-pub mod RoundTrip
-pub mod WrittenLaws
+pub mod SameLaws
 pub mod LineLaws
 pub mod PrintLaws

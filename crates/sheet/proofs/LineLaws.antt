@@ -14,14 +14,15 @@ use Rattle.model.specs.Lists.{_and_}
 use Rattle.model.specs.Limits.{txnRange, numberRange, byteRange}
 use Rattle.model.specs.Calls.{Call, Scan}
 use Rattle.model.proofs.Tests.{and-none-left}
+use Rattle.decimal.specs.Digits.{isDigit, numberBelow}
+use Rattle.decimal.specs.Fields.{field, afterField}
+use Rattle.decimal.proofs.FieldLaws.{field-taken, field-whole, after-none, after-some, rest-part}
+use Rattle.decimal.proofs.ReadLaws.{read-ended}
 use Rattle.sheet.specs.declared.Command.the-variants as C
-use Rattle.sheet.specs.Decimal.{numberBelow}
-use Rattle.sheet.specs.Words.{Verb, isCut}
-use Rattle.sheet.specs.Lines.{lineLimit, field, afterComma, verbIn, ifUnused, callIn, ofFields, fourth, third, second, lineCall}
+use Rattle.sheet.specs.Words.{Verb, isCut, comma}
+use Rattle.sheet.specs.Lines.{lineLimit, verbIn, ifUnused, callIn, ofFields, fourth, third, second, lineCall}
 use Rattle.sheet.specs.Commands.{commandOf}
 use Rattle.sheet.specs.Parts.{onlyIf}
-use Rattle.sheet.proofs.FieldLaws.{field-taken, field-whole, after-none, after-some, rest-part}
-use Rattle.sheet.proofs.ReadLaws.{read-comma}
 
 -- ── a field that cannot be read ──
 no-number : (v : Option Verb) (t k : Option ℕ) → ofFields v t k none ≡ none
@@ -47,7 +48,7 @@ no-txn (some v) k (some bs) = refl
 no-txn-third : (v : Option Verb) (r : Option (List ℕ)) → third v none r ≡ none
 unfolding third
 no-txn-third v none = refl
-no-txn-third v (some bs) = no-txn v (numberBelow byteRange (field bs)) (afterComma bs)
+no-txn-third v (some bs) = no-txn v (numberBelow byteRange (field comma bs)) (afterField comma bs)
 
 -- ── the last field ──
 module _ (v : Option Verb) (t k : ℕ) (bs : List ℕ) where
@@ -55,33 +56,34 @@ module _ (v : Option Verb) (t k : ℕ) (bs : List ℕ) where
   unfolding fourth
   without h = rw h (no-number v (some t) (some k))
 
-  pub fourth-comma : length (field bs) < length bs → fourth v (some t) (some k) (some bs) ≡ none
-  fourth-comma o = without (read-comma numberRange bs o)
+  pub fourth-comma : length (field comma bs) < length bs → fourth v (some t) (some k) (some bs) ≡ none
+  unfolding isDigit _and_
+  fourth-comma o = without (read-ended comma refl numberRange bs o)
 
-  pub fourth-none : numberBelow numberRange (field bs) ≡ none → fourth v (some t) (some k) (some bs) ≡ none
-  fourth-none h = go (decLt (length (field bs)) (length bs))
+  pub fourth-none : numberBelow numberRange (field comma bs) ≡ none → fourth v (some t) (some k) (some bs) ≡ none
+  fourth-none h = go (decLt (length (field comma bs)) (length bs))
     where
-      go : Dec (length (field bs) < length bs) → fourth v (some t) (some k) (some bs) ≡ none
+      go : Dec (length (field comma bs) < length bs) → fourth v (some t) (some k) (some bs) ≡ none
       go (yes o) = fourth-comma o
-      go (no o) = without (sym (ap (numberBelow numberRange) (field-whole bs (omega arith))) ∙ h)
+      go (no o) = without (sym (ap (numberBelow numberRange) (field-whole comma bs (omega arith))) ∙ h)
 
-  pub fourth-more : (n : ℕ) → length bs ≤ length (field bs) → numberBelow numberRange (field bs) ≡ some n → fourth v (some t) (some k) (some bs) ≡ ofFields v (some t) (some k) (some n)
+  pub fourth-more : (n : ℕ) → length bs ≤ length (field comma bs) → numberBelow numberRange (field comma bs) ≡ some n → fourth v (some t) (some k) (some bs) ≡ ofFields v (some t) (some k) (some n)
   unfolding fourth
-  fourth-more n o h = rw (sym (ap (numberBelow numberRange) (field-whole bs o)) ∙ h)
+  fourth-more n o h = rw (sym (ap (numberBelow numberRange) (field-whole comma bs o)) ∙ h)
 
 -- ── a field before a comma, which stands at a place ──
-module _ (v : Option Verb) (bs : List ℕ) (at : ℕ) (e : at ≡ length (field bs)) where
-  is-last : length bs ≤ at → afterComma bs ≡ none
-  is-last o = after-none bs (omega arith)
+module _ (v : Option Verb) (bs : List ℕ) (at : ℕ) (e : at ≡ length (field comma bs)) where
+  is-last : length bs ≤ at → afterField comma bs ≡ none
+  is-last o = after-none comma bs (omega arith)
 
-  is-more : at < length bs → afterComma bs ≡ some (take (length bs - (at + 1)) (drop (at + 1) bs))
-  is-more o = after-some bs (omega arith) ∙ ap (λ (n : ℕ). some (drop (n + 1) bs)) (sym e) ∙ ap (λ (l : List ℕ). some l) (sym (rest-part bs (at + 1) (omega arith)))
+  is-more : at < length bs → afterField comma bs ≡ some (take (length bs - (at + 1)) (drop (at + 1) bs))
+  is-more o = after-some comma bs (omega arith) ∙ ap (λ (n : ℕ). some (drop (n + 1) bs)) (sym e) ∙ ap (λ (l : List ℕ). some l) (sym (rest-part bs (at + 1) (omega arith)))
 
   pub third-last : (t : Option ℕ) → length bs ≤ at → third v t (some bs) ≡ none
   unfolding third fourth
   third-last t o = rw (is-last o)
 
-  pub third-more : (t : Option ℕ) (k : ℕ) → at < length bs → numberBelow byteRange (field bs) ≡ some k → third v t (some bs) ≡ fourth v t (some k) (some (take (length bs - (at + 1)) (drop (at + 1) bs)))
+  pub third-more : (t : Option ℕ) (k : ℕ) → at < length bs → numberBelow byteRange (field comma bs) ≡ some k → third v t (some bs) ≡ fourth v t (some k) (some (take (length bs - (at + 1)) (drop (at + 1) bs)))
   unfolding third
   third-more t k o h = rw (h, is-more o)
 
@@ -89,7 +91,7 @@ module _ (v : Option Verb) (bs : List ℕ) (at : ℕ) (e : at ≡ length (field 
   unfolding second third
   second-last o = rw (is-last o)
 
-  pub second-more : (t : ℕ) → at < length bs → numberBelow txnRange (field bs) ≡ some t → second v (some bs) ≡ third v (some t) (some (take (length bs - (at + 1)) (drop (at + 1) bs)))
+  pub second-more : (t : ℕ) → at < length bs → numberBelow txnRange (field comma bs) ≡ some t → second v (some bs) ≡ third v (some t) (some (take (length bs - (at + 1)) (drop (at + 1) bs)))
   unfolding second
   second-more t o h = rw (h, is-more o)
 
@@ -100,16 +102,16 @@ module _ (v : Option Verb) (bs : List ℕ) (at : ℕ) (e : at ≡ length (field 
   pub line-more : length bs ≤ lineLimit → at < length bs → v ≡ verbIn (take at bs) → lineCall bs ≡ second v (some (take (length bs - (at + 1)) (drop (at + 1) bs)))
   unfolding lineCall
   line-more l o q =
-      let f : field bs ≡ take at bs = sym (ap (λ (n : ℕ). take n bs) e ∙ field-taken bs) in
+      let f : field comma bs ≡ take at bs = sym (ap (λ (n : ℕ). take n bs) e ∙ field-taken comma bs) in
       rw (le-leb (length bs) lineLimit l, is-more o, f, sym q)
 
-pub third-none : (v : Option Verb) (t : Option ℕ) (bs : List ℕ) → numberBelow byteRange (field bs) ≡ none → third v t (some bs) ≡ none
+pub third-none : (v : Option Verb) (t : Option ℕ) (bs : List ℕ) → numberBelow byteRange (field comma bs) ≡ none → third v t (some bs) ≡ none
 unfolding third
-third-none v t bs h = rw h (no-key v t (afterComma bs))
+third-none v t bs h = rw h (no-key v t (afterField comma bs))
 
-pub second-none : (v : Option Verb) (bs : List ℕ) → numberBelow txnRange (field bs) ≡ none → second v (some bs) ≡ none
+pub second-none : (v : Option Verb) (bs : List ℕ) → numberBelow txnRange (field comma bs) ≡ none → second v (some bs) ≡ none
 unfolding second
-second-none v bs h = rw h (no-txn-third v (afterComma bs))
+second-none v bs h = rw h (no-txn-third v (afterField comma bs))
 
 pub line-long : (bs : List ℕ) → lineLimit < length bs → lineCall bs ≡ none
 unfolding lineCall

@@ -1,4 +1,3 @@
-pub mod Decimal
 pub mod Words
 pub mod Lines
 pub mod Commands

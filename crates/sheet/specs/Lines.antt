@@ -1,28 +1,20 @@
 -- 01 'The run sheet': what a line of input asks. "Fields are in a fixed order parted by commas, no quoting. Input: verb,ticket,key,number."
 use Prim.Native.Nat.{ℕ}
 use mathlib.Core.Bool.{Bool, true, false, cond}
-use mathlib.Core.List.{List, [], _∷_}
+use mathlib.Core.List.{List}
 use mathlib.Core.Option.{Option, some, none}
 use lib.Dec.{eqb, leb}
 use lib.ListN.{length}
 use Rattle.model.specs.Lists.{_and_, same}
 use Rattle.model.specs.Limits.{txnRange, numberRange, byteRange}
 use Rattle.model.specs.Calls.{Call, Start, Put, Get, Commit, Step, Abort, Collect, Scan}
-use Rattle.sheet.specs.Decimal.{numberBelow}
+use Rattle.decimal.specs.Digits.{numberBelow}
+use Rattle.decimal.specs.Fields.{field, afterField}
 use Rattle.sheet.specs.Words.{Verb, isStart, isPut, isGet, isCommit, isStep, isAbort, isCollect, isCut, verbBytes, comma}
 
 -- "A line has at most 64 bytes before its newline"
 abbrev pub lineLimit : ℕ
 lineLimit = 64
-
--- the bytes before the first comma; those after it, if there is one
-unfoldable pub field : List ℕ → List ℕ
-field [] = []
-field (b ∷ bs) = cond (eqb b comma) [] (b ∷ field bs)
-
-unfoldable pub afterComma : List ℕ → Option (List ℕ)
-afterComma [] = none
-afterComma (b ∷ bs) = cond (eqb b comma) (some bs) (afterComma bs)
 
 -- the verb whose name the bytes are
 unfoldable pub verbIn : List ℕ → Option Verb
@@ -67,12 +59,12 @@ fourth v t k (some bs) = ofFields v t k (numberBelow numberRange bs)
 
 unfoldable pub third : Option Verb → Option ℕ → Option (List ℕ) → Option Call
 third v t none = none
-third v t (some bs) = fourth v t (numberBelow byteRange (field bs)) (afterComma bs)
+third v t (some bs) = fourth v t (numberBelow byteRange (field comma bs)) (afterField comma bs)
 
 unfoldable pub second : Option Verb → Option (List ℕ) → Option Call
 second v none = none
-second v (some bs) = third v (numberBelow txnRange (field bs)) (afterComma bs)
+second v (some bs) = third v (numberBelow txnRange (field comma bs)) (afterField comma bs)
 
 -- the call that a line asks for; none where it is "longer or otherwise formed": row 19
 unfoldable pub lineCall : List ℕ → Option Call
-lineCall bs = cond (leb (length bs) lineLimit) (second (verbIn (field bs)) (afterComma bs)) none
+lineCall bs = cond (leb (length bs) lineLimit) (second (verbIn (field comma bs)) (afterField comma bs)) none

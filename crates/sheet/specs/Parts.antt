@@ -1,17 +1,12 @@
 -- What the functions below the two of the sheet read and write.
-use Prim.Native.Nat.{ℕ, _+_}
-use mathlib.Core.Bool.{Bool, true, false, not}
-use mathlib.Core.List.{List, [], _∷_, _++_}
+use Prim.Native.Nat.{ℕ}
+use mathlib.Core.Bool.{Bool, true, false}
+use mathlib.Core.List.{List, [], _∷_}
 use mathlib.Core.Option.{Option, some, none}
-use lib.Dec.{eqb, leb}
-use lib.ListN.{length, take, drop, getD}
-use Rattle.model.specs.Lists.{_and_, _or_}
 use Rattle.sheet.specs.declared.Command.{Command}
 use Rattle.sheet.specs.declared.Command.the-variants as C
 use Rattle.sheet.specs.declared.Word.{Word}
 use Rattle.sheet.specs.declared.Word.the-variants as W
-use Rattle.sheet.specs.declared.Number.{Number}
-use Rattle.sheet.specs.declared.Number.the-variants.{Of, Unread}
 use Rattle.sheet.specs.Words.{Verb, isStart, isPut, isGet, isCommit, isStep, isAbort, isCollect, isCut}
 
 -- the verb that a word of the code stands for
@@ -25,15 +20,6 @@ verbOf W.Abort = some isAbort
 verbOf W.Collect = some isCollect
 verbOf W.Cut = some isCut
 verbOf W.Unknown = none
-
--- some byte, and no 0 before another
-unfoldable pub startsNumber : List ℕ → Bool
-startsNumber bs = leb 1 (length bs) and (eqb (length bs) 1 or not (eqb (getD bs 0 0) 48))
-
--- the number of a field, if it has one, with the field's length
-unfoldable pub numberRead : Option ℕ → ℕ → Number
-numberRead (some n) at = Of n at
-numberRead none at = Unread
 
 -- a command, if the fields that it does not use are 0
 unfoldable pub onlyIf : Bool → Command → Command
@@ -59,7 +45,3 @@ words =
     102 ∷ 111 ∷ 117 ∷ 110 ∷ 100 ∷ 44 ∷
     114 ∷ 101 ∷ 102 ∷ 117 ∷ 115 ∷ 101 ∷ 100 ∷ 44 ∷
     []
-
--- a list with w written over it from a place on
-unfoldable pub written : List ℕ → ℕ → List ℕ → List ℕ
-written s at w = take at s ++ (w ++ drop (at + length w) s)

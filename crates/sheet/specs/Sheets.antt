@@ -13,7 +13,7 @@ use Rattle.model.specs.Stations.{emptyStation}
 use Rattle.model.specs.Effects.{Effect, stored, says}
 use Rattle.model.specs.Calls.{Call, does}
 use Rattle.model.specs.Answers.{valuesOf}
-use Rattle.sheet.specs.Decimal.{digits}
+use Rattle.decimal.specs.Digits.{digits}
 use Rattle.sheet.specs.Words.{wordOf, comma, newline, header}
 use Rattle.sheet.specs.Lines.{lineCall}
 

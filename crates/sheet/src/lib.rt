@@ -1,19 +1,24 @@
 // The run sheet: lines of calls in, lines of answers out. Their bytes are defined in specs/.
+use decimal::Number;
+use decimal::field_end;
+use decimal::number_in;
+use decimal::write_bytes;
+use decimal::write_number;
 use model::Answer;
 ghost use mathlib.Core.Path.{_≡_};
-ghost use Prim.Native.Nat.{suc, _+_, _-_, _^_, _≤_, _<_};
+ghost use Prim.Native.Nat.{_+_, _≤_};
 ghost use mathlib.Core.List.{[], _∷_, _++_};
 ghost use mathlib.Core.Option.{some};
 ghost use lib.Dec.{eqb};
 ghost use lib.ListN.{length, take, drop};
 ghost use Rattle.model.specs.Answers.{valuesOf};
 ghost use Rattle.model.specs.Lists.{_and_, same};
-ghost use Rattle.sheet.specs.Decimal.{digits, numberBelow};
+ghost use Rattle.decimal.specs.Written.{written};
 ghost use Rattle.sheet.specs.Words.{wordOf, header};
-ghost use Rattle.sheet.specs.Lines.{field, verbIn, ofFields, second, third, fourth, lineCall};
+ghost use Rattle.sheet.specs.Lines.{verbIn, ofFields, second, third, fourth, lineCall};
 ghost use Rattle.sheet.specs.Commands.{commandOf};
 ghost use Rattle.sheet.specs.Sheets.{printed};
-ghost use Rattle.sheet.specs.Parts.{verbOf, startsNumber, numberRead, onlyIf, words, written};
+ghost use Rattle.sheet.specs.Parts.{verbOf, onlyIf, words};
 
 // The bytes of a line, at most.
 const LINE: usize = 64;
@@ -24,30 +29,6 @@ const TXN_MAX: u64 = 4294967295;
 const KEY_MAX: u64 = 255;
 
 const NUMBER_MAX: u64 = 18446744073709551615;
-
-// The powers of ten below 2^64.
-const POWERS: [u64; 20] = [
-    1,
-    10,
-    100,
-    1000,
-    10000,
-    100000,
-    1000000,
-    10000000,
-    100000000,
-    1000000000,
-    10000000000,
-    100000000000,
-    1000000000000,
-    10000000000000,
-    100000000000000,
-    1000000000000000,
-    10000000000000000,
-    100000000000000000,
-    1000000000000000000,
-    10000000000000000000,
-];
 
 // The words of the answers, each with the comma after it.
 const WORDS: [u8; 102] =
@@ -79,12 +60,6 @@ pub enum Word {
     Unknown,
 }
 
-// A number's field, with its length.
-enum Number {
-    Of(u64, usize),
-    Unread,
-}
-
 // A part of the words.
 struct Part {
     at: usize,
@@ -98,21 +73,8 @@ pub struct Values {
     pub c: u64,
 }
 
-// The place of the first comma; the length where there is none.
-fn comma_at(s: &[u8]) -> usize
-    ensures { λ r. ⌜ r ≡ length (field (now (s .entry))) ⌝ }
-{
-    let mut i = 0;
-    while i < s.len() {
-        if s[i] == b',' {
-            return i;
-        }
-        i += 1;
-    }
-    i
-}
-
-fn same_bytes(a: &[u8], b: &[u8]) -> bool
+// The same bytes in the same order.
+pub fn same_bytes(a: &[u8], b: &[u8]) -> bool
     ensures { λ r. ⌜ r ≡ same (now (a .entry)) (now (b .entry)) ⌝ }
 {
     if a.len() != b.len() {
@@ -157,56 +119,6 @@ fn word_in(s: &[u8]) -> Word
         return Word::Cut;
     }
     Word::Unknown
-}
-
-// A field has a byte, and no 0 before another.
-fn starts_number(s: &[u8]) -> bool
-    ensures { λ r. ⌜ r ≡ startsNumber (field (now (s .entry))) ⌝ }
-{
-    if s.len() == 0 {
-        return false;
-    }
-    if s[0] == b',' {
-        return false;
-    }
-    if s[0] != b'0' {
-        return true;
-    }
-    if s.len() == 1 {
-        return true;
-    }
-    s[1] == b','
-}
-
-// A field that is a decimal and at most max. The test comes before the digit is added, so that no sum wraps.
-fn number_in(s: &[u8], max: u64) -> Number
-    requires { ⌜ 9 ≤ max ⌝ }
-    ensures { λ r. ⌜ r ≡ numberRead (numberBelow (suc max) (field (now (s .entry)))) (length (field (now (s .entry)))) ⌝ }
-{
-    if !starts_number(s) {
-        return Number::Unread;
-    }
-    let mut sum: u64 = 0;
-    let mut i = 0;
-    while i < s.len() {
-        let b = s[i];
-        if b == b',' {
-            return Number::Of(sum, i);
-        }
-        if b < b'0' {
-            return Number::Unread;
-        }
-        if b > b'9' {
-            return Number::Unread;
-        }
-        let digit = (b - b'0') as u64;
-        if sum > (max - digit) / 10 {
-            return Number::Unread;
-        }
-        sum = sum * 10 + digit;
-        i += 1;
-    }
-    Number::Of(sum, i)
 }
 
 // Two fields are 0.
@@ -271,7 +183,7 @@ pub fn command_for(word: Word, t: u32, k: u8, n: u64) -> Command
 fn after_key(word: Word, t: u32, k: u8, rest: &[u8]) -> Command
     ensures { λ r. ⌜ r ≡ commandOf (fourth (verbOf word) (some t) (some k) (some (now (rest .entry)))) ⌝ }
 {
-    let number = number_in(rest, NUMBER_MAX);
+    let number = number_in(rest, b',', NUMBER_MAX);
     let Number::Of(n, at) = number else {
         return Command::Malformed;
     };
@@ -285,7 +197,7 @@ fn after_key(word: Word, t: u32, k: u8, rest: &[u8]) -> Command
 fn after_txn(word: Word, t: u32, rest: &[u8]) -> Command
     ensures { λ r. ⌜ r ≡ commandOf (third (verbOf word) (some t) (some (now (rest .entry)))) ⌝ }
 {
-    let number = number_in(rest, KEY_MAX);
+    let number = number_in(rest, b',', KEY_MAX);
     let Number::Of(k, at) = number else {
         return Command::Malformed;
     };
@@ -299,7 +211,7 @@ fn after_txn(word: Word, t: u32, rest: &[u8]) -> Command
 fn after_verb(word: Word, rest: &[u8]) -> Command
     ensures { λ r. ⌜ r ≡ commandOf (second (verbOf word) (some (now (rest .entry)))) ⌝ }
 {
-    let number = number_in(rest, TXN_MAX);
+    let number = number_in(rest, b',', TXN_MAX);
     let Number::Of(t, at) = number else {
         return Command::Malformed;
     };
@@ -316,57 +228,11 @@ pub fn parse_line(line: &[u8]) -> Command
     if line.len() > LINE {
         return Command::Malformed;
     }
-    let at = comma_at(line);
+    let at = field_end(line, b',');
     if at >= line.len() {
         return Command::Malformed;
     }
     after_verb(word_in(&line[..at]), &line[at + 1..])
-}
-
-// How many digits a number has.
-fn digit_count(x: u64) -> usize
-    ensures { λ r. ⌜ (1 ≤ r) × (r ≤ 20) × (x < 10 ^ r) × (1 < r → 10 ^ (r - 1) ≤ x) ⌝ }
-{
-    let mut n = 1;
-    while n < 20 {
-        if x < POWERS[n] {
-            return n;
-        }
-        n += 1;
-    }
-    n
-}
-
-// A number's digits and one byte after them, from a place on; the place after both.
-fn write_number(out: &mut [u8], start: usize, x: u64, end: u8) -> usize
-    requires { ⌜ start + 21 ≤ length (now out) ⌝ }
-    ensures { λ r. ⌜ (r ≡ start + length (digits x) + 1) × (r ≤ start + 21) × (now (out .exit) ≡ written (now (out .entry)) start (digits x ++ (end ∷ []))) ⌝ }
-{
-    let mut left = digit_count(x);
-    let mut rest = x;
-    let mut at = start;
-    while 0 < left {
-        left -= 1;
-        let power = POWERS[left];
-        out[at] = b'0' + (rest / power) as u8;
-        rest = rest % power;
-        at += 1;
-    }
-    out[at] = end;
-    at + 1
-}
-
-// Bytes written over others, from a place on; the place after them.
-fn write_bytes(out: &mut [u8], start: usize, w: &[u8]) -> usize
-    requires { ⌜ start + length (now w) ≤ length (now out) ⌝ }
-    ensures { λ r. ⌜ (r ≡ start + length (now (w .entry))) × (now (out .exit) ≡ written (now (out .entry)) start (now (w .entry))) ⌝ }
-{
-    let mut i = 0;
-    while i < w.len() {
-        out[start + i] = w[i];
-        i += 1;
-    }
-    start + i
 }
 
 // Where an answer's word and its comma stand in the words.

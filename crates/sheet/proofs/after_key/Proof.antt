@@ -5,7 +5,7 @@ use lib.ListN.{length}
 use borrow.Author.Needs.{needs}
 use Rattle.sheet.specs.Commands.{commandOf}
 use Rattle.sheet.specs.Parts.{verbOf}
-use Rattle.sheet.proofs.ReadLaws.{unread, read-as}
+use Rattle.decimal.proofs.ReadLaws.{unread, read-as}
 use Rattle.sheet.proofs.LineLaws.{fourth-comma, fourth-none, fourth-more, malformed}
 use Rattle.sheet.proofs.after_key.Statement.{statement}
 use Rattle.sheet.proofs.after_key.Tie as tie

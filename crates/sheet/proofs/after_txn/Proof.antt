@@ -4,10 +4,11 @@ use mathlib.Core.Option.{some}
 use borrow.Author.Needs.{needs}
 use native.Mathlib.Omega.{arith}
 use Rattle.model.specs.Limits.{byteRange}
-use Rattle.sheet.specs.Lines.{field}
+use Rattle.decimal.specs.Fields.{field}
+use Rattle.sheet.specs.Words.{comma}
 use Rattle.sheet.specs.Commands.{commandOf}
 use Rattle.sheet.specs.Parts.{verbOf}
-use Rattle.sheet.proofs.ReadLaws.{unread, read-below, read-as}
+use Rattle.decimal.proofs.ReadLaws.{unread, read-below, read-as}
 use Rattle.sheet.proofs.LineLaws.{third-last, third-more, third-none, malformed}
 use Rattle.sheet.proofs.after_txn.Statement.{statement}
 use Rattle.sheet.proofs.after_txn.Tie as tie
@@ -38,7 +39,7 @@ cast-after-key c =
     let a = c .before .before .before .before .before .before .args in
     let m = c .before .before .number .given in
     let r = read-as _ _ _ (m .0 .0) (m .0 .1 .0) (c .before .before .before .before .number-in .ensures) (m .1) in
-    omega (arith, read-below byteRange (field (a .rest .now)) (m .0 .0) (r .0))
+    omega (arith, read-below byteRange (field comma (a .rest .now)) (m .0 .0) (r .0))
 
 add-after-key : tie.Need-add-after-key
 add-after-key c = search needs

@@ -3,10 +3,11 @@ use mathlib.Core.Path.{sym, ap, _∙_}
 use borrow.Author.Needs.{needs}
 use native.Mathlib.Omega.{arith}
 use Rattle.model.specs.Limits.{txnRange}
-use Rattle.sheet.specs.Lines.{field}
+use Rattle.decimal.specs.Fields.{field}
+use Rattle.sheet.specs.Words.{comma}
 use Rattle.sheet.specs.Commands.{commandOf}
 use Rattle.sheet.specs.Parts.{verbOf}
-use Rattle.sheet.proofs.ReadLaws.{unread, read-below, read-as}
+use Rattle.decimal.proofs.ReadLaws.{unread, read-below, read-as}
 use Rattle.sheet.proofs.LineLaws.{second-last, second-more, second-none, malformed}
 use Rattle.sheet.proofs.after_verb.Statement.{statement}
 use Rattle.sheet.proofs.after_verb.Tie as tie
@@ -37,7 +38,7 @@ cast-after-txn c =
     let a = c .before .before .before .before .before .before .args in
     let m = c .before .before .number .given in
     let r = read-as _ _ _ (m .0 .0) (m .0 .1 .0) (c .before .before .before .before .number-in .ensures) (m .1) in
-    omega (arith, read-below txnRange (field (a .rest .now)) (m .0 .0) (r .0))
+    omega (arith, read-below txnRange (field comma (a .rest .now)) (m .0 .0) (r .0))
 
 add-after-txn : tie.Need-add-after-txn
 add-after-txn c = search needs

@@ -13,16 +13,16 @@ use Rattle.sheet.proofs.parse_line.Tie as tie
 returns : tie.Need-returns
 returns c = malformed _ (line-long (c .before .before .args .line .now) (c .if1 .taken))
 
-comma-at-requires : tie.Need-comma-at-requires
-comma-at-requires c κs = search needs
+field-end-requires : tie.Need-field-end-requires
+field-end-requires c κs = search needs
 
 returns-2 : tie.Need-returns-2
 returns-2 c =
     let s = c .before .before .before .before .args .line .now in
-    malformed _ (line-last none s (c .before .comma-at .result) (c .before .comma-at .ensures) (c .before .before .if1 .left) (c .if2 .taken))
+    malformed _ (line-last none s (c .before .field-end .result) (c .before .field-end .ensures) (c .before .before .if1 .left) (c .if2 .taken))
 
 slice-aggregate-word-in : tie.Need-slice-aggregate-word-in
-slice-aggregate-word-in c = sym (length-take-le (c .before .before .comma-at .result) (c .before .before .before .before .before .args .line .now) (omega arith))
+slice-aggregate-word-in c = sym (length-take-le (c .before .before .field-end .result) (c .before .before .before .before .before .args .line .now) (omega arith))
 
 word-in-requires : tie.Need-word-in-requires
 word-in-requires c κs = search needs
@@ -45,7 +45,7 @@ after-verb-requires c κs = search needs
 returns-3 : tie.Need-returns-3
 returns-3 c =
     let s = c .before .before .before .before .before .before .before .before .args .line .now in
-    let m = c .before .before .before .before .before .comma-at in
+    let m = c .before .before .before .before .before .field-end in
     let w = c .before .before .word-in in
     c .after-verb .ensures
     ∙ ap commandOf (sym (line-more (verbOf (w .result)) s (m .result) (m .ensures) (c .before .before .before .before .before .before .if1 .left) (c .before .before .before .before .if2 .left) (w .ensures)))
@@ -55,7 +55,7 @@ parse-line-spec =
     tie.close
     (tie.spec
     returns
-    comma-at-requires
+    field-end-requires
     returns-2
     slice-aggregate-word-in
     word-in-requires

@@ -2,7 +2,7 @@
 use borrow.Author.Needs.{needs}
 use native.Mathlib.Omega.{arith}
 use Rattle.sheet.specs.Words.{header}
-use Rattle.sheet.proofs.PrintLaws.{wrote-all}
+use Rattle.decimal.proofs.WrittenLaws.{wrote-all}
 use Rattle.sheet.proofs.print_header.Statement.{statement}
 use Rattle.sheet.proofs.print_header.Tie as tie
 

@@ -5,7 +5,7 @@ use lib.ListN.{length, drop}
 use borrow.Author.Needs.{needs}
 use native.Mathlib.Omega.{arith}
 use Rattle.model.specs.Lists.{same}
-use Rattle.sheet.proofs.FieldLaws.{same-long, same-next, same-not, same-end}
+use Rattle.sheet.proofs.SameLaws.{same-long, same-next, same-not, same-end}
 use Rattle.sheet.proofs.same_bytes.Statement.{statement}
 use Rattle.sheet.proofs.same_bytes.Tie as tie
 

@@ -1,12 +1,12 @@
 -- Bytes written over others.
-use Prim.Native.Nat.{ℕ, _+_, _<_, _≤_}
+use Prim.Native.Nat.{ℕ, _+_, _<_, _≤_, zero-le}
 use mathlib.Core.Path.{_≡_, sym, ap, ap₂, _∙_}
 use mathlib.Core.List.{List, [], _∷_, _++_, append-assoc}
 use lib.ListN.{length, take, drop, set, length-append, take-append-drop, length-take, length-drop}
 use lib.Seq.{take-length, take-append-seam, drop-drop, paste, take-at, drop-at, take-suc-set, drop-set-lt}
 use native.Mathlib.Omega.{arith}
 use native.Mathlib.Numerals.{add-one}
-use Rattle.sheet.specs.Parts.{written}
+use Rattle.decimal.specs.Written.{written}
 
 pub written-length : (s : List ℕ) (at : ℕ) (w : List ℕ) → at + length w ≤ length s → length (written s at w) ≡ length s
 unfolding written
@@ -52,3 +52,34 @@ pub ended : (s t : List ℕ) (base at a : ℕ) (w : List ℕ) → base + length 
 ended s t base at a w l o p q = written-of s (set t at a) base (at + 1) (w ++ (a ∷ [])) (simp length-append (omega arith))
     (rw (add-one at, take-suc-set t at a o, p) (append-assoc (take base s) w (a ∷ [])))
     (drop-next s t at a q)
+
+-- w was written over s from a place up to another
+pub record Wrote (s t : List ℕ) (base till : ℕ) (w : List ℕ) : Type 0 where
+  pub till-is : till ≡ base + length w
+  pub now-is : t ≡ written s base w
+
+wrote-length : (s t : List ℕ) (at to : ℕ) (w : List ℕ) → Wrote s t at to w → to ≤ length s → length t ≡ length s
+wrote-length s t at to w h o = ap length (h .now-is) ∙ written-length s at w (omega (arith, h .till-is))
+
+pub wrote-more : (s t u : List ℕ) (at to end : ℕ) (v w : List ℕ) → Wrote s t at to v → Wrote t u to end w → to ≤ length s → Wrote s u at end (v ++ w)
+wrote-more s t u at to end v w h k o =
+    record {
+      till-is = simp length-append (omega (arith, h .till-is, k .till-is));
+      now-is = k .now-is ∙ ap₂ (λ (x : List ℕ) (n : ℕ). written x n w) (h .now-is) (h .till-is) ∙ written-more s at v w (omega (arith, h .till-is));
+    }
+
+-- all of a lent slice but its first n bytes is as it was
+pub wrote-all : (s t : List ℕ) (n : ℕ) (w : List ℕ) → Wrote s t 0 n w → n ≤ length s → (take n t ≡ w) × (drop n t ≡ drop n s) × (length t ≡ length s)
+wrote-all s t n w h o =
+    let e : length w ≡ n = omega (arith, h .till-is) in (
+      ap₂ take (sym e) (h .now-is) ∙ written-taken s w,
+      ap₂ (λ (k : ℕ) (x : List ℕ). drop k x) (h .till-is) (h .now-is) ∙ written-dropped s 0 w zero-le ∙ ap (λ (k : ℕ). drop k s) (sym (h .till-is)),
+      wrote-length s t 0 n w h o,
+    )
+
+-- what a call that writes a field and one byte after it ensures
+abbrev pub Field : List ℕ → List ℕ → ℕ → ℕ → ℕ → List ℕ → ℕ → Type 0
+Field s t base till most ds end = (till ≡ base + length ds + 1) × (till ≤ base + most) × (t ≡ written s base (ds ++ (end ∷ [])))
+
+pub wrote-field : (s t : List ℕ) (base till most : ℕ) (ds : List ℕ) (end : ℕ) → Field s t base till most ds end → Wrote s t base till (ds ++ (end ∷ []))
+wrote-field s t base till most ds end h = record { till-is = simp length-append (omega (arith, h .0)); now-is = h .2 }

@@ -1,11 +1,11 @@
--- `sheet::digit_count` meets its contract.
+-- `decimal::digit_count` meets its contract.
 use Prim.Native.Nat.{ℕ, _+_, _-_, _^_, _<_, _≤_}
 use mathlib.Core.Path.{_≡_, sym, subst}
 use borrow.Author.Needs.{needs}
 use native.Mathlib.Omega.{arith}
-use Rattle.sheet.proofs.DigitLaws.{powers, power-at}
-use Rattle.sheet.proofs.digit_count.Statement.{statement}
-use Rattle.sheet.proofs.digit_count.Tie as tie
+use Rattle.decimal.proofs.DigitLaws.{powers, power-at}
+use Rattle.decimal.proofs.digit_count.Statement.{statement}
+use Rattle.decimal.proofs.digit_count.Tie as tie
 
 abbrev Inv-loop : tie.InvT-loop
 Inv-loop x n₀ n = (1 ≤ n) × (n ≤ 20) × (1 < n → 10 ^ (n - 1) ≤ x)

@@ -1,15 +1,15 @@
--- `sheet::write_number` meets its contract.
+-- `decimal::write_number` meets its contract.
 use Prim.Native.Nat.{ℕ, _+_, _-_, _^_, _<_, _≤_}
 use mathlib.Core.Path.{_≡_, refl, sym, ap, _∙_}
 use mathlib.Core.List.{List, _++_, append-nil}
 use lib.ListN.{length, take, drop, getD, length-set}
 use borrow.Author.Needs.{needs}
 use native.Mathlib.Omega.{arith}
-use Rattle.sheet.specs.Decimal.{digits}
-use Rattle.sheet.proofs.DigitLaws.{fixed, length-fixed, digits-are, powers, power-at, digit-next, digit-small, rest-small, power-pos}
-use Rattle.sheet.proofs.WrittenLaws.{drop-next, ended}
-use Rattle.sheet.proofs.write_number.Statement.{statement}
-use Rattle.sheet.proofs.write_number.Tie as tie
+use Rattle.decimal.specs.Digits.{digits}
+use Rattle.decimal.proofs.DigitLaws.{fixed, length-fixed, digits-are, powers, power-at, digit-next, digit-small, rest-small, power-pos}
+use Rattle.decimal.proofs.WrittenLaws.{drop-next, ended}
+use Rattle.decimal.proofs.write_number.Statement.{statement}
+use Rattle.decimal.proofs.write_number.Tie as tie
 
 abbrev Inv-loop : tie.InvT-loop
 Inv-loop out₀ base x end left₀ rest₀ at₀ out left rest at = (left + at ≡ base + length (digits x)) × (left ≤ 20) × (length (digits x) ≤ 20) × (length out ≡ length out₀) × (rest < 10 ^ left) × (take at out ++ fixed left rest ≡ take base out₀ ++ digits x) × (drop at out ≡ drop at out₀)

@@ -12,7 +12,7 @@ use native.Mathlib.Numerals.{add-one}
 use borrow.Author.Tests.{eqb-true, lt-ltb, le-ltb}
 use Rattle.model.specs.Lists.{_and_}
 use Rattle.model.proofs.Tests.{and-left, and-right}
-use Rattle.sheet.specs.Decimal.{digitsOf, digits}
+use Rattle.decimal.specs.Digits.{digitsOf, digits}
 
 -- the last k digits of a number
 unfoldable pub fixed : ℕ → ℕ → List ℕ

@@ -2,18 +2,22 @@
 use Prim.Native.Nat.{ℕ, zero, suc, _+_, _*_, _-_, _/_, _%_, _<_, _≤_}
 use mathlib.Core.Path.{_≡_, refl, sym, ap, ap₂, _∙_}
 use mathlib.Core.Logic.{_≢_, ⊎-elim}
-use mathlib.Core.Bool.{true, not}
+use mathlib.Core.Bool.{true, false, not}
 use mathlib.Core.List.{List, [], _∷_, _++_, append-nil, append-assoc}
-use lib.Dec.{eqb}
-use lib.ListN.{length}
-use native.Mathlib.Nat.{not-suc-le-zero, suc-ne-zero, le-refl}
+use mathlib.Core.Option.{some}
+use lib.Dec.{eqb, leb}
+use lib.ListN.{length, getD}
+use native.Mathlib.Nat.{not-suc-le-zero, suc-ne-zero, zero-lt-suc, lt-irrefl, le-refl}
 use native.Mathlib.Decide.{decLt}
 use native.Mathlib.Omega.{arith}
-use borrow.Author.Tests.{leb-true, eqb-true, eqb-false, not-true, lt-ltb, le-ltb}
-use Rattle.model.specs.Lists.{_or_, all}
-use Rattle.model.proofs.Tests.{and-left, and-right, or-cases}
-use Rattle.model.proofs.ListLaws.{all-head, all-tail}
-use Rattle.sheet.specs.Decimal.{digitsOf, digits, isDigit, numberFrom, isDecimal}
+use borrow.Author.Tests.{leb-true, eqb-true, eqb-false, not-true, lt-ltb, le-ltb, le-leb, eq-eqb, ne-eqb}
+use Rattle.model.specs.Lists.{_and_, _or_, all}
+use Rattle.model.proofs.Tests.{and-left, and-right, and-intro, or-cases, or-intro-left, or-intro-right, not-of-false}
+use Rattle.model.proofs.ListLaws.{all-head, all-tail, all-cons}
+use Rattle.decimal.specs.Digits.{digitsOf, digits, isDigit, numberFrom, isDecimal, numberBelow}
+use Rattle.decimal.specs.Fields.{field}
+use Rattle.decimal.proofs.FieldLaws.{field-yes}
+use Rattle.decimal.proofs.ReadLaws.{digits-field}
 
 digits-small : (m n : ℕ) → n < 10 → digitsOf (suc m) n ≡ (48 + n) ∷ []
 unfolding digitsOf
@@ -45,6 +49,60 @@ number-of (suc m) n o = go (decLt n 10) (number-of m (n / 10))
 pub number-digits : (n : ℕ) → numberFrom 0 (digits n) ≡ n
 unfolding digits
 number-digits n = number-of (suc n) n (le-refl _)
+
+-- digits are a decimal: digits only, and the first is not 0 where the number is not
+digit-of : (n : ℕ) → n < 10 → isDigit (48 + n) ≡ true
+unfolding isDigit
+digit-of n h = and-intro _ _ (le-leb 48 (48 + n) (omega arith)) (le-leb (48 + n) 57 (omega arith))
+
+all-last : (b : ℕ) (bs : List ℕ) → all isDigit bs ≡ true → isDigit b ≡ true → all isDigit (bs ++ (b ∷ [])) ≡ true
+unfolding all
+all-last b [] h d = all-cons isDigit b [] d refl
+all-last b (x ∷ bs) h d = all-cons isDigit x (bs ++ (b ∷ [])) (all-head isDigit x bs h) (all-last b bs (all-tail isDigit x bs h) d)
+
+abbrev Shaped : List ℕ → ℕ → Type 0
+Shaped ds n = (all isDigit ds ≡ true) × (1 ≤ length ds) × (0 < n → getD ds 0 0 ≢ 48)
+
+shaped-last : (b : ℕ) (ds : List ℕ) (n m : ℕ) → 0 < m → isDigit b ≡ true → Shaped ds m → Shaped (ds ++ (b ∷ [])) n
+shaped-last b [] n m o d h = absurd (not-suc-le-zero (h .1))
+shaped-last b (x ∷ ds) n m o d h = (all-last b (x ∷ ds) (h .0) d, zero-lt-suc _, λ q. h .2 o)
+
+shaped : (m n : ℕ) → n < m → Shaped (digitsOf m n) n
+unfolding all
+shaped zero n o = absurd (not-suc-le-zero o)
+shaped (suc m) n o = go (decLt n 10) (shaped m (n / 10))
+  where
+    go : Dec (n < 10) → (n / 10 < m → Shaped (digitsOf m (n / 10)) (n / 10)) → Shaped (digitsOf (suc m) n) n
+    go (yes h) ih = rw (digits-small m n h) (all-last (48 + n) [] refl (digit-of n h), le-refl 1, λ q e. lt-irrefl 48 (omega arith))
+    go (no h) ih = rw (digits-large m n (omega arith)) (shaped-last (48 + n % 10) (digitsOf m (n / 10)) n (n / 10) (omega arith) (digit-of (n % 10) (omega arith)) (ih (omega arith)))
+
+pub digits-all : (n : ℕ) → all isDigit (digits n) ≡ true
+unfolding digits
+digits-all n = shaped (suc n) n (le-refl _) .0
+
+pub digits-decimal : (n : ℕ) → isDecimal (digits n) ≡ true
+unfolding isDecimal digits
+digits-decimal n = go (decLt n 10)
+  where
+    h : Shaped (digitsOf (suc n) n) n
+    h = shaped (suc n) n (le-refl _)
+
+    body : (leb 1 (length (digitsOf (suc n) n)) and all isDigit (digitsOf (suc n) n)) ≡ true
+    body = and-intro _ _ (le-leb 1 (length (digitsOf (suc n) n)) (h .1)) (h .0)
+
+    go : Dec (n < 10) → isDecimal (digitsOf (suc n) n) ≡ true
+    go (yes o) = and-intro _ _ body (or-intro-left _ _ (eq-eqb (length (digitsOf (suc n) n)) 1 (ap length (digits-small n n o))))
+    go (no o) = and-intro _ _ body (or-intro-right _ _ (not-of-false _ (ne-eqb (getD (digitsOf (suc n) n) 0 0) 48 (h .2 (omega arith)))))
+
+-- a number below a bound is read from its digits
+pub read-digits : (bound n : ℕ) → n < bound → numberBelow bound (digits n) ≡ some n
+unfolding numberBelow _and_
+read-digits bound n h = rw (digits-decimal n, number-digits n, lt-ltb n bound h)
+
+-- and its field ends where they do
+pub field-digits : (end : ℕ) → isDigit end ≡ false → (n : ℕ) (rest : List ℕ) → field end (digits n ++ (end ∷ rest)) ≡ digits n
+field-digits end z n rest =
+    digits-field end z (digits n) (end ∷ rest) (digits-all n) ∙ ap (λ (l : List ℕ). digits n ++ l) (field-yes end end rest (eq-eqb end end refl)) ∙ append-nil (digits n)
 
 -- ── read, then printed ──
 -- more steps than a number has digits make no difference

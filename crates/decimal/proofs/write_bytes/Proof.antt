@@ -1,4 +1,4 @@
--- `sheet::write_bytes` meets its contract.
+-- `decimal::write_bytes` meets its contract.
 use Prim.Native.Nat.{ℕ, _+_, _-_, _≤_}
 use mathlib.Core.Path.{_≡_, refl, sym, ap, _∙_}
 use mathlib.Core.List.{List}
@@ -7,9 +7,9 @@ use lib.Seq.{paste, paste-zero, paste-suc}
 use borrow.Author.Needs.{needs}
 use native.Mathlib.Omega.{arith}
 use native.Mathlib.Numerals.{add-one}
-use Rattle.sheet.proofs.WrittenLaws.{pasted-all}
-use Rattle.sheet.proofs.write_bytes.Statement.{statement}
-use Rattle.sheet.proofs.write_bytes.Tie as tie
+use Rattle.decimal.proofs.WrittenLaws.{pasted-all}
+use Rattle.decimal.proofs.write_bytes.Statement.{statement}
+use Rattle.decimal.proofs.write_bytes.Tie as tie
 
 abbrev Inv-loop : tie.InvT-loop
 Inv-loop out₀ base w i₀ out i = (i ≤ length w) × (length out ≡ length out₀) × (out ≡ paste out₀ base w i)

@@ -1,22 +1,22 @@
--- `sheet::number_in` meets its contract.
+-- `decimal::number_in` meets its contract.
 use Prim.Native.Nat.{suc, _+_, _-_, _≤_}
 use mathlib.Core.Path.{_≡_, sym, ap, _∙_}
 use lib.ListN.{length, drop}
 use borrow.Author.Needs.{needs}
 use native.Mathlib.Omega.{arith}
 use borrow.Author.Tests.{not-true, not-false}
-use Rattle.sheet.specs.Decimal.{numberBelow}
-use Rattle.sheet.specs.Lines.{field}
-use Rattle.sheet.proofs.FieldLaws.{field-here, field-next, field-end}
-use Rattle.sheet.proofs.ReadLaws.{readOn, read-next, read-low, read-high, read-over, read-end, read-none, read-start, as-unread, as-read}
-use Rattle.sheet.proofs.number_in.Statement.{statement}
-use Rattle.sheet.proofs.number_in.Tie as tie
+use Rattle.decimal.specs.Digits.{numberBelow}
+use Rattle.decimal.specs.Fields.{field}
+use Rattle.decimal.proofs.FieldLaws.{field-here, field-next, field-end}
+use Rattle.decimal.proofs.ReadLaws.{readOn, read-next, read-low, read-high, read-over, read-end, read-none, read-start, as-unread, as-read}
+use Rattle.decimal.proofs.number_in.Statement.{statement}
+use Rattle.decimal.proofs.number_in.Tie as tie
 
 abbrev Inv-loop : tie.InvT-loop
-Inv-loop s max sum₀ i₀ sum i = (i ≤ length s) × (sum ≤ max) × (length (field s) ≡ i + length (field (drop i s))) × (numberBelow (suc max) (field s) ≡ readOn (suc max) sum (field (drop i s)))
+Inv-loop s end max sum₀ i₀ sum i = (i ≤ length s) × (sum ≤ max) × (length (field end s) ≡ i + length (field end (drop i s))) × (numberBelow (suc max) (field end s) ≡ readOn (suc max) sum (field end (drop i s)))
 
 abbrev μ-loop : tie.MeasureT-loop
-μ-loop s max sum₀ i₀ sum i = length s - i
+μ-loop s end max sum₀ i₀ sum i = length s - i
 
 starts-number-requires : tie.Need-starts-number-requires Inv-loop μ-loop
 starts-number-requires c κs = search needs
@@ -24,12 +24,12 @@ starts-number-requires c κs = search needs
 returns : tie.Need-returns Inv-loop μ-loop
 returns c =
     let a = c .before .before .before .args in
-    as-unread _ _ (read-none (suc (a .max)) (field (a .s .now)) (sym (c .before .starts-number .ensures) ∙ not-true _ (c .if1 .taken)))
+    as-unread _ _ (read-none (suc (a .max)) (field (a .end) (a .s .now)) (sym (c .before .starts-number .ensures) ∙ not-true _ (c .if1 .taken)))
 
 loop-holds : tie.Need-loop-holds Inv-loop μ-loop
 loop-holds c =
     let a = c .before .before .before .args in
-    (omega arith, omega arith, omega arith, read-start (suc (a .max)) (field (a .s .now)) (sym (c .before .starts-number .ensures) ∙ not-false _ (c .if1 .left)))
+    (omega arith, omega arith, omega arith, read-start (suc (a .max)) (field (a .end) (a .s .now)) (sym (c .before .starts-number .ensures) ∙ not-false _ (c .if1 .left)))
 
 shared-slice-read-b : tie.Need-shared-slice-read-b Inv-loop μ-loop
 shared-slice-read-b c = search needs
@@ -38,20 +38,20 @@ returns-2 : tie.Need-returns-2 Inv-loop μ-loop
 returns-2 c =
     let l = c .before .before .before in
     let a = l .before .before .before .before .args in
-    let e = field-here (a .s .now) (l .loop .i) (omega arith) (c .if2 .taken) in
-    as-read _ _ (l .loop .sum) (l .loop .i) (l .loop .inv .3 ∙ read-end (suc (a .max)) (l .loop .sum) (field (drop (l .loop .i) (a .s .now))) e (omega arith)) (omega (arith, ap length e))
+    let e = field-here (a .end) (a .s .now) (l .loop .i) (omega arith) (c .if2 .taken) in
+    as-read _ _ (l .loop .sum) (l .loop .i) (l .loop .inv .3 ∙ read-end (suc (a .max)) (l .loop .sum) (field (a .end) (drop (l .loop .i) (a .s .now))) e (omega arith)) (omega (arith, ap length e))
 
 returns-3 : tie.Need-returns-3 Inv-loop μ-loop
 returns-3 c =
     let l = c .before .before .before .before in
     let a = l .before .before .before .before .args in
-    as-unread _ _ (l .loop .inv .3 ∙ read-low (suc (a .max)) (l .loop .sum) (a .s .now) (l .loop .i) (omega arith) (c .before .if2 .left) (c .if3 .taken))
+    as-unread _ _ (l .loop .inv .3 ∙ read-low (a .end) (suc (a .max)) (l .loop .sum) (a .s .now) (l .loop .i) (omega arith) (c .before .if2 .left) (c .if3 .taken))
 
 returns-4 : tie.Need-returns-4 Inv-loop μ-loop
 returns-4 c =
     let l = c .before .before .before .before .before in
     let a = l .before .before .before .before .args in
-    as-unread _ _ (l .loop .inv .3 ∙ read-high (suc (a .max)) (l .loop .sum) (a .s .now) (l .loop .i) (omega arith) (c .before .before .if2 .left) (c .if4 .taken))
+    as-unread _ _ (l .loop .inv .3 ∙ read-high (a .end) (suc (a .max)) (l .loop .sum) (a .s .now) (l .loop .i) (omega arith) (c .before .before .if2 .left) (c .if4 .taken))
 
 cast-digit : tie.Need-cast-digit Inv-loop μ-loop
 cast-digit c = search needs
@@ -67,8 +67,8 @@ returns-5 c =
     _
     _
     (l .loop .inv .3
-    ∙ read-next (suc (a .max)) (l .loop .sum) (a .s .now) (l .loop .i) (omega arith) (c .before .before .before .if2 .left) (omega arith) (omega arith)
-    ∙ read-over (suc (a .max)) _ (field (drop (l .loop .i + 1) (a .s .now))) (omega arith))
+    ∙ read-next (a .end) (suc (a .max)) (l .loop .sum) (a .s .now) (l .loop .i) (omega arith) (c .before .before .before .if2 .left) (omega arith) (omega arith)
+    ∙ read-over (suc (a .max)) _ (field (a .end) (drop (l .loop .i + 1) (a .s .now))) (omega arith))
 
 mul-sum : tie.Need-mul-sum Inv-loop μ-loop
 mul-sum c = search needs
@@ -89,16 +89,16 @@ loop-again c =
     let d = c .before .before .before .if2 .left in (
       omega arith,
       omega arith,
-      omega (arith, ap length (field-next (a .s .now) (l .loop .i) (omega arith) d)),
-      l .loop .inv .3 ∙ read-next (suc (a .max)) (l .loop .sum) (a .s .now) (l .loop .i) (omega arith) d (omega arith) (omega arith),
+      omega (arith, ap length (field-next (a .end) (a .s .now) (l .loop .i) (omega arith) d)),
+      l .loop .inv .3 ∙ read-next (a .end) (suc (a .max)) (l .loop .sum) (a .s .now) (l .loop .i) (omega arith) d (omega arith) (omega arith),
     )
 
 returns-6 : tie.Need-returns-6 Inv-loop μ-loop
 returns-6 c =
     let l = c .before in
     let a = l .before .before .before .before .args in
-    let e = field-end (a .s .now) (l .loop .i) (omega arith) in
-    as-read _ _ (l .loop .sum) (l .loop .i) (l .loop .inv .3 ∙ read-end (suc (a .max)) (l .loop .sum) (field (drop (l .loop .i) (a .s .now))) e (omega arith)) (omega (arith, ap length e))
+    let e = field-end (a .end) (a .s .now) (l .loop .i) (omega arith) in
+    as-read _ _ (l .loop .sum) (l .loop .i) (l .loop .inv .3 ∙ read-end (suc (a .max)) (l .loop .sum) (field (a .end) (drop (l .loop .i) (a .s .now))) e (omega arith)) (omega (arith, ap length e))
 
 pub number-in-spec : {M : Type 1} → statement M
 number-in-spec =

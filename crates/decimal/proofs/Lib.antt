@@ -1,0 +1,5 @@
+pub mod FieldLaws
+pub mod ReadLaws
+pub mod DigitLaws
+pub mod RoundTrip
+pub mod WrittenLaws
