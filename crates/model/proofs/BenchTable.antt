@@ -66,6 +66,13 @@ K = 11
 abbrev L : ℕ
 L = 22
 
+-- "a {K}, b {L}; K read; then c {K, L} held"
+pub readBeforeC : List Line
+readBeforeC =
+    whole 1 1 63 (w K 10 ∷ []) ++ whole 2 2 62 (w L 20 ∷ []) ++ ((Start 9, A.Started) ∷ (Get 9 K, A.Version 10 (id 1 1)) ∷ [])
+    ++ whole 3 3 61 (w K 30 ∷ w L 31 ∷ [])
+
+-- a row each, in 01's order and from 01's own state
 pub starred : List (List Line)
 starred =
     -- "Entries a {L}, b {K, L}: read K gives b, then L gives b."
@@ -74,17 +81,15 @@ starred =
     -- "Only a {L}; L read; then b {K, L} held: K is nofit."
     ∷ (whole 1 1 63 (w L 10 ∷ []) ++ ((Start 9, A.Started) ∷ (Get 9 L, A.Version 10 (id 1 1)) ∷ [])
     ++ whole 2 2 62 (w K 20 ∷ w L 21 ∷ []) ++ ((Get 9 K, A.Nofit) ∷ []))
-    -- "a {K}, b {L}; K read; then c {K, L} held": by 9 and by 8, so that L is read once before b is collected and once after
-    ∷ (whole 1 1 63 (w K 10 ∷ []) ++ whole 2 2 62 (w L 20 ∷ [])
-    ++ ((Start 9, A.Started) ∷ (Get 9 K, A.Version 10 (id 1 1)) ∷ (Start 8, A.Started) ∷ (Get 8 K, A.Version 10 (id 1 1)) ∷ [])
-    ++ whole 3 3 61 (w K 30 ∷ w L 31 ∷ [])
-    -- ": L gives b." "The same, b collected first: L is nofit (§5.2.1)." "The same, collecting a: 16."
-    ++ ((Get 9 L, A.Version 20 (id 2 2)) ∷ (Abort 9, A.Dropped) ∷ (Collect 62, A.Collected (id 2 2)) ∷ (Get 8 L, A.Nofit) ∷ (Collect 63, A.Refused 16 0) ∷ []))
+    -- "a {K}, b {L}; K read; then c {K, L} held: L gives b."
+    ∷ (readBeforeC ++ ((Get 9 L, A.Version 20 (id 2 2)) ∷ []))
+    -- "The same, b collected first: L is nofit (§5.2.1)."
+    ∷ (readBeforeC ++ ((Collect 62, A.Collected (id 2 2)) ∷ (Get 9 L, A.Nofit) ∷ []))
+    -- "The same, collecting a: 16."
+    ∷ (readBeforeC ++ ((Collect 63, A.Refused 16 0) ∷ []))
     -- "Clock 100, tickets 5 and 9 write K: 9 is newer.": it is read, and of the two only 5 can be collected
     ∷ (whole 5 100 63 (w K 5 ∷ []) ++ whole 9 100 62 (w K 9 ∷ [])
     ++ ((Start 1, A.Started) ∷ (Get 1 K, A.Version 9 (id 100 9)) ∷ (Collect 62, A.Refused 15 0) ∷ (Collect 63, A.Collected (id 100 5)) ∷ []))
-    -- the same with the slots changed about
-    ∷ (whole 9 100 63 (w K 9 ∷ []) ++ whole 5 100 62 (w K 5 ∷ []) ++ ((Start 1, A.Started) ∷ (Get 1 K, A.Version 9 (id 100 9)) ∷ []))
     -- "Clock 100 held, then clock 50, both only K: K gives 100, and 50 can be collected."
     ∷ (whole 5 100 63 (w K 5 ∷ []) ++ whole 9 50 62 (w K 9 ∷ []) ++ ((Start 1, A.Started) ∷ (Get 1 K, A.Version 5 (id 100 5)) ∷ (Collect 62, A.Collected (id 50 9)) ∷ []))
     -- "Eight keys, one put again: kept. A ninth key: 11."
@@ -96,12 +101,14 @@ starred =
     ∷ ((Start 5, A.Started) ∷ (Commit 5 1, A.Empty) ∷ (Commit 5 1, A.Refused 8 0) ∷ [])
     ∷ []
 
--- The ★ rows refute "Storing the commit slip ahead of the last version slip" (the cut), "Testing the lower bound alone and forgetting
--- conflicts" (nofit) and "Comparing clocks and leaving tickets out" (5 and 9). The other two:
+-- The ★ rows refute "Storing the commit slip ahead of the last version slip" (the cut) and "Testing the lower bound alone and forgetting
+-- conflicts" (nofit). The other three:
 pub slipsOfThought : List (List Line)
 slipsOfThought =
+    -- "Comparing clocks and leaving tickets out.": 9 is newer than 5 whichever closed first
+    (whole 9 100 63 (w K 9 ∷ []) ++ whole 5 100 62 (w K 5 ∷ []) ++ ((Start 1, A.Started) ∷ (Get 1 K, A.Version 9 (id 100 9)) ∷ []))
     -- "Entering own puts in the read list.": own K is no read of K's version, so that may be collected; and the station stays sound
-    (whole 1 1 63 (w K 10 ∷ []) ++ ((Start 9, A.Started) ∷ (Put 9 K 5, A.Kept) ∷ (Get 9 K, A.Own 5) ∷ []) ++ whole 2 2 62 (w K 20 ∷ [])
+    ∷ (whole 1 1 63 (w K 10 ∷ []) ++ ((Start 9, A.Started) ∷ (Put 9 K 5, A.Kept) ∷ (Get 9 K, A.Own 5) ∷ []) ++ whole 2 2 62 (w K 20 ∷ [])
     ++ ((Collect 63, A.Collected (id 1 1)) ∷ []))
     -- "Making the entry at slip time, before the acknowledging step.": till then nobody reads it, and its slot can't be collected
     ∷ (slipped 5 1 63 (w K 5 ∷ []) ++ ((Start 9, A.Started) ∷ (Get 9 K, A.None) ∷ (Collect 63, A.Refused 14 0) ∷ (Step 5, A.Done (id 1 5)) ∷ (Get 9 K, A.Version 5 (id 1 5)) ∷ []))
@@ -124,7 +131,7 @@ wrote-K-L = record { id = id 2 2; count = 2; keys = K ∷ L ∷ [] }
 
 -- The claim: every line of every case is answered as the table says.
 pub bench-holds : map given table ≡ map expected table
-unfolding puts versions begun slipped whole starred slipsOfThought given expected table _and_ _or_ all any first filter count insert padded from member ascending distinct same anyBelow greatestBelow older sameId newerOf greatest emptyStation writesOf readsOf keysOf wrote wroteAs hasWritten hasRead valueUnder isClosing closingSlot closingClock recordsStored liveAt entryAt setLive setEntry liveTxns heldTxns isLive isHeld placeOf slotOf holds slotMark closingSlots isFree bytes number idIn markIn entryIn valueIn headBytes commitRecord versionRecord zeroRecord entryRules commitRules carriesEntry carriesVersion recordAt withRecord recordOf versionsCarry judged seen isNoWrite isNoRead isNoEntry isNoLive zeroPastCounts setsRight names inUse closingRight placeRight entryRight sound lowerBound conflictsWith conflicts passes keepNewer newest chosen choose newerOn superseded isReadBy isRead stored says saysStoring refusals wrongLength unsound opened start withWrites withWrite put choiceOf withReads withRead versionAt noRoom notCarried answered get withPhase highestFree commit entryFor oneMore stepped step abort collect slotsSeen entrySeen isCommitted breaks lowestBroken scanned scan does answers
+unfolding puts versions begun slipped whole readBeforeC starred slipsOfThought given expected table _and_ _or_ all any first filter count insert padded from member ascending distinct same anyBelow greatestBelow older sameId newerOf greatest emptyStation writesOf readsOf keysOf wrote wroteAs hasWritten hasRead valueUnder isClosing closingSlot closingClock recordsStored liveAt entryAt setLive setEntry liveTxns heldTxns isLive isHeld placeOf slotOf holds slotMark closingSlots isFree bytes number idIn markIn entryIn valueIn headBytes commitRecord versionRecord zeroRecord entryRules commitRules carriesEntry carriesVersion recordAt withRecord recordOf versionsCarry judged seen isNoWrite isNoRead isNoEntry isNoLive zeroPastCounts setsRight names inUse closingRight placeRight entryRight sound lowerBound conflictsWith conflicts passes keepNewer newest chosen choose newerOn superseded isReadBy isRead stored says saysStoring refusals wrongLength unsound opened start withWrites withWrite put choiceOf withReads withRead versionAt noRoom notCarried answered get withPhase highestFree commit entryFor oneMore stepped step abort collect slotsSeen entrySeen isCommitted breaks lowestBroken scanned scan does answers
 bench-holds = refl
 
 -- The lower bound shows only on a read list that no history makes: L read at a's version, K at b's, which wrote L too. Then a is below
