@@ -18,8 +18,7 @@ use Rattle.model.specs.Sound.{sound}
 use Rattle.model.specs.Effects.{Effect, stored}
 use Rattle.model.specs.Scan.{entrySeen}
 use Rattle.model.specs.Calls.{Call, Start, Put, Get, Commit, Step, Abort, Collect, Scan, does, isScan, txnOf, numberOf, InRange}
-use Rattle.model.proofs.SlotLaws.{committed≢free, free≢damaged}
-use Rattle.model.proofs.ScanLaws.{zeros-free}
+use Rattle.model.proofs.SlotLaws.{committed≢free, free≢damaged, zeros-free}
 use Rattle.model.proofs.SoundKept.{sound-empty, sound-scan, sound-kept}
 use Rattle.history.specs.Ledger.{Ledger, emptyLedger}
 use Rattle.history.specs.Histories.{Event, called, cut, Desk, running, down, World, begin, handed, afterCall, fedAfter, afterCut, next, run, callIn, AllInRange}

@@ -32,7 +32,7 @@ pub record World : Type 0 where
 unfoldable pub begin : World
 begin = record { desk = running emptyStation; store = replicate storeSize 0; ledger = emptyLedger }
 
--- the station that a call is handed. After a cut "the next call is a scan", which needs none: any other does nothing until then
+-- the station that a call is handed. "All else in a station is lost in a cut.": until a scan, which needs none, a call does nothing
 unfoldable pub handed : Call → Desk → Option Station
 handed c (running st) = some st
 handed c down = cond (isScan c) (some emptyStation) none

@@ -31,7 +31,7 @@ use Rattle.model.specs.Step.{oneMore, stepped, step}
 use Rattle.model.specs.Abort.{abort}
 use Rattle.model.specs.Collect.{collect}
 use Rattle.model.specs.Scan.{slotsSeen, entrySeen, isCommitted, breaks, lowestBroken, scanned, scan}
-use Rattle.model.specs.Calls.{Call, Start, Put, Get, Commit, Step, Abort, Collect, Scan, does, answers}
+use Rattle.model.specs.Calls.{Call, Start, Put, Get, Commit, Step, Collect, Scan, does, answers}
 
 abbrev pub Line : Type 0
 Line = Call × Answer

@@ -4,9 +4,9 @@ use mathlib.Core.Path.{_≡_, refl, sym, ap, subst, _∙_}
 use mathlib.Core.Logic.{_≢_, _⊎_, inl, inr}
 use mathlib.Core.Bool.{Bool, true, false, true≢false}
 use mathlib.Core.List.{List, map}
-use lib.Dec.{eqb, lit<}
-use lib.ListN.{length, take, drop, getD, replicate, length-replicate, length-map, List·getD-map}
-use lib.Seq.{getD-take, getD-drop, length-take-le}
+use lib.Dec.{eqb}
+use lib.ListN.{length, take, getD, replicate, length-replicate, length-map, List·getD-map}
+use lib.Seq.{getD-take, length-take-le}
 use native.Mathlib.Decide.{ℕ-discrete, decLt}
 use native.Mathlib.Omega.{arith}
 use borrow.Author.Tests.{lt-ltb, le-ltb, eq-eqb, ne-eqb}
@@ -14,15 +14,13 @@ use Rattle.model.specs.declared.Live.{Live}
 use Rattle.model.specs.declared.Entry.{Entry}
 use Rattle.model.specs.declared.Answer.the-variants as A
 use Rattle.model.specs.Lists.{first, count, from, member}
-use Rattle.model.specs.Limits.{slots, recordSize, storeSize}
-use Rattle.model.specs.Entries.{markIn, freeMark}
+use Rattle.model.specs.Limits.{slots, storeSize}
 use Rattle.model.specs.Stations.{emptyStation, entryAt, idleStation}
-use Rattle.model.specs.Records.{recordPlace, recordAt}
 use Rattle.model.specs.Slots.{Seen, free, committed, damaged, seen}
 use Rattle.model.specs.Effects.{says, refusals, wrongLength}
 use Rattle.model.specs.Scan.{slotsSeen, entrySeen, isCommitted, breaks, lowestBroken, scanned, scan}
-use Rattle.model.proofs.ListLaws.{first-finds, first-none, first-before, first-passes, getD-inside, getD-all, from-length, from-at, member-finds, member-none}
-use Rattle.model.proofs.SlotLaws.{rules-txn, committed≢free, free≢damaged, seen-free, committed-rules}
+use Rattle.model.proofs.ListLaws.{first-finds, first-none, first-before, first-passes, getD-inside, from-length, from-at, member-finds, member-none}
+use Rattle.model.proofs.SlotLaws.{rules-txn, committed≢free, free≢damaged, committed-rules, zeros-free}
 
 -- ── the lowest slot that breaks the rules ──
 -- the first that passes, told by what is before it
@@ -245,13 +243,6 @@ scan-empty s l f = scan-finds s l keeps ∙ (rw all-free)
 
     all-free : slotsSeen s ≡ replicate slots free
     all-free = unfold slotsSeen from in from-same (seen s) (λ d. free) slots 0 (λ j a b. f j (omega arith))
-
-zeros-mark : (n d : ℕ) → markIn (recordAt (replicate n 0) d 0) ≡ freeMark
-unfolding markIn recordAt
-zeros-mark n d = getD-take recordSize (drop (recordPlace d 0) (replicate n 0)) 0 0 (lit< tt) ∙ (getD-drop (recordPlace d 0) (replicate n 0) 0 0 ∙ getD-all n (recordPlace d 0 + 0) 0)
-
-pub zeros-free : (n d : ℕ) → seen (replicate n 0) d ≡ free
-zeros-free n d = seen-free (replicate n 0) d (zeros-mark n d)
 
 -- "All zeros scan to the empty station."
 pub scan-zeros : scan (replicate storeSize 0) ≡ says (A.Found 0) emptyStation

@@ -5,8 +5,8 @@ use mathlib.Core.Logic.{_≢_}
 use mathlib.Core.Bool.{Bool, true, false}
 use mathlib.Core.List.{List, [], _∷_}
 use lib.Dec.{eqb, lit<}
-use lib.ListN.{length, take, drop, getD, length-take}
-use lib.Seq.{take-take, drop-drop, length-take-le}
+use lib.ListN.{length, take, drop, getD, replicate, length-take}
+use lib.Seq.{take-take, drop-drop, getD-take, getD-drop, length-take-le}
 use native.Mathlib.Nat.{le-of-suc-le-suc, not-suc-le-zero, zero-lt-suc, lt-irrefl}
 use native.Mathlib.Omega.{arith}
 use borrow.Author.Tests.{leb-true, eqb-true, eq-eqb, ne-eqb}
@@ -18,7 +18,7 @@ use Rattle.model.specs.Entries.{keysOf, wrote, markIn, entryIn, freeMark
 use Rattle.model.specs.Records.{zeroRecord, carriesVersion, recordPlace, recordAt, withRecord}
 use Rattle.model.specs.Slots.{free, committed, damaged, versionsCarry, judged, seen, slotBytes}
 use Rattle.model.proofs.Tests.{and-left, and-right, and-intro}
-use Rattle.model.proofs.ListLaws.{member-finds}
+use Rattle.model.proofs.ListLaws.{member-finds, getD-all}
 use Rattle.model.proofs.RecordLaws.{length-zero, zero-mark, rules-mark, rules-entry, rules-carries, record-same, record-other, record-elsewhere}
 
 -- ── the rules of an entry ──
@@ -205,6 +205,11 @@ slot-record s d n o = take-inside (recordPlace 0 n) recordSize slotSize (drop (s
 pub slot-bytes : (s : List ℕ) (d : ℕ) → seen (slotBytes s d) 0 ≡ seen s d
 slot-bytes s d = seen-frame (slotBytes s d) s 0 d (λ n o. slot-record s d n o)
 
+-- they are a part of the store
+pub slot-part : (s : List ℕ) (d : ℕ) → seen (take slotSize (drop (slotSize * d) s)) 0 ≡ seen s d
+unfolding slotBytes
+slot-part s d = slot-bytes s d
+
 -- ── a record written into a store ──
 -- other slots look as they did
 pub seen-elsewhere : (s : List ℕ) (d n : ℕ) (r : List ℕ) → length s ≡ storeSize → d < slots → n < width → length r ≡ recordSize → (c : ℕ) → c ≢ d → seen (withRecord s d n r) c ≡ seen s c
@@ -217,3 +222,11 @@ seen-unmarked s d n r z od on l h = seen-free (withRecord s d (suc n) r) d (ap m
 -- a zeroed commit record frees a slot
 pub seen-cleared : (s : List ℕ) (d : ℕ) → length s ≡ storeSize → d < slots → seen (withRecord s d 0 zeroRecord) d ≡ free
 seen-cleared s d z od = seen-free (withRecord s d 0 zeroRecord) d (ap markIn (record-same s d 0 zeroRecord z od (lit< tt) length-zero) ∙ zero-mark)
+
+-- ── a store of zeros ──
+zeros-mark : (n d : ℕ) → markIn (recordAt (replicate n 0) d 0) ≡ freeMark
+unfolding markIn recordAt
+zeros-mark n d = getD-take recordSize (drop (recordPlace d 0) (replicate n 0)) 0 0 (lit< tt) ∙ (getD-drop (recordPlace d 0) (replicate n 0) 0 0 ∙ getD-all n (recordPlace d 0 + 0) 0)
+
+pub zeros-free : (n d : ℕ) → seen (replicate n 0) d ≡ free
+zeros-free n d = seen-free (replicate n 0) d (zeros-mark n d)

@@ -19,11 +19,11 @@ use Rattle.model.specs.declared.Answer.the-variants as A
 use Rattle.model.specs.Lists.{any, count, member}
 use Rattle.model.specs.Limits.{slots, slotSize, storeSize}
 use Rattle.model.specs.Stations.{emptyStation, idleStation}
-use Rattle.model.specs.Slots.{Seen, free, committed, damaged, seen, slotBytes}
+use Rattle.model.specs.Slots.{Seen, free, committed, damaged, seen}
 use Rattle.model.specs.Effects.{outcomeOf, says}
 use Rattle.model.specs.Scan.{slotsSeen, entrySeen, isCommitted, breaks, scan}
 use Rattle.model.proofs.ListLaws.{count-yes, count-no, member-yes, member-no}
-use Rattle.model.proofs.SlotLaws.{slot-bytes}
+use Rattle.model.proofs.SlotLaws.{slot-part}
 use Rattle.model.proofs.ScanLaws.{seen-length, seen-at, txnSeen, none-keeps, scan-finds, scan-refused}
 use Rattle.records.specs.declared.Slot.{Slot}
 use Rattle.records.specs.declared.Mark.{Mark}
@@ -47,7 +47,7 @@ module _ (ts : List ℕ) (n i t : ℕ) where
 pub part-slot : (s : List ℕ) (d : ℕ) → seen (take (slotSize * d + slotSize - slotSize * d) (drop (slotSize * d) s)) 0 ≡ seen s d
 part-slot s d =
     let e : slotSize * d + slotSize - slotSize * d ≡ slotSize = omega arith in
-    ap (λ (k : ℕ). seen (take k (drop (slotSize * d) s)) 0) e ∙ (unfold slotBytes in slot-bytes s d)
+    ap (λ (k : ℕ). seen (take k (drop (slotSize * d) s)) 0) e ∙ slot-part s d
 
 pub part-length : (s : List ℕ) (d : ℕ) → length s ≡ storeSize → d < slots → length (take (slotSize * d + slotSize - slotSize * d) (drop (slotSize * d) s)) ≡ slotSize
 part-length s d l o = mid-len (slotSize * d) (slotSize * d + slotSize) s (omega arith) ∙ omega arith
