@@ -12,22 +12,22 @@ use Rattle.model.specs.Calls.{Call, Start, Put, Get, Commit, Step, Abort, Colle
 use Rattle.model.proofs.StoreLaws.{start-stores-nothing, put-stores-nothing, get-stores-nothing, commit-stores-nothing, abort-stores-nothing, scan-stores-nothing}
 use Rattle.model.proofs.RangesKept.{fits-empty, bytes-zeros, fits-kept, bytes-kept, bytes-kept-all}
 use Rattle.history.specs.Ledger.{feed}
-use Rattle.history.specs.Histories.{Event, called, cut, Desk, running, down, World, begin, handed, afterCall, afterCut, next, run, callIn, AllInRange}
+use Rattle.history.specs.Histories.{Event, called, cut, Node, running, down, World, begin, handed, afterCall, afterCut, next, run, callIn, AllInRange}
 use Rattle.history.specs.CutRule.{CutRule}
 use Rattle.history.specs.Contracts.{Functions, Meets, returned, afterReturn, nextBy, runBy, AllTyped}
 use Rattle.history.proofs.DraftLaws.{some-inj}
 use Rattle.history.proofs.Theorem.{cut-rule}
 
 -- ── a history stays within the types ──
-abbrev TypedDesk : Desk → Type 0
-TypedDesk (running st) = StationFits st
-TypedDesk down = Unit {0}
+abbrev TypedNode : Node → Type 0
+TypedNode (running st) = StationFits st
+TypedNode down = Unit {0}
 
 record Typed (w : World) : Type 0 where
-  desk : TypedDesk (w .desk)
+  node : TypedNode (w .node)
   store : Every IsByte (w .store)
 
-handed-fits : (c : Call) (k : Desk) (st : Station) → TypedDesk k → handed c k ≡ some st → StationFits st
+handed-fits : (c : Call) (k : Node) (st : Station) → TypedNode k → handed c k ≡ some st → StationFits st
 unfolding handed isScan
 handed-fits c (running st₀) st f e = subst StationFits (some-inj e) f
 handed-fits (Start t) down st f e = absurd (Option·none-ne-some st e)
@@ -41,22 +41,22 @@ handed-fits Scan down st f e = subst StationFits (some-inj e) fits-empty
 
 typed-next : (v : Event) (w : World) → IsTyped (callIn v) → Typed w → Typed (next v w)
 unfolding next callIn
-typed-next (called c) w r tw = go (handed c (w .desk)) refl
+typed-next (called c) w r tw = go (handed c (w .node)) refl
   where
-    go : (x : Option Station) → handed c (w .desk) ≡ x → Typed (afterCall x c w)
+    go : (x : Option Station) → handed c (w .node) ≡ x → Typed (afterCall x c w)
     go none e = unfold afterCall in tw
     go (some st) e =
-        let f = handed-fits c (w .desk) st (tw .desk) e in
-        unfold afterCall in record { desk = fits-kept c st (w .store) r f (tw .store); store = bytes-kept-all c st (w .store) r f (tw .store) }
-typed-next (cut c n) w r tw = go (handed c (w .desk)) refl
+        let f = handed-fits c (w .node) st (tw .node) e in
+        unfold afterCall in record { node = fits-kept c st (w .store) r f (tw .store); store = bytes-kept-all c st (w .store) r f (tw .store) }
+typed-next (cut c n) w r tw = go (handed c (w .node)) refl
   where
-    go : (x : Option Station) → handed c (w .desk) ≡ x → Typed (afterCut x c n w)
+    go : (x : Option Station) → handed c (w .node) ≡ x → Typed (afterCut x c n w)
     go none e = unfold afterCut in tw
-    go (some st) e = unfold afterCut in record { desk = tt; store = bytes-kept c st (w .store) r (handed-fits c (w .desk) st (tw .desk) e) (tw .store) n }
+    go (some st) e = unfold afterCut in record { node = tt; store = bytes-kept c st (w .store) r (handed-fits c (w .node) st (tw .node) e) (tw .store) n }
 
 typed-begin : Typed begin
 unfolding begin
-typed-begin = record { desk = fits-empty; store = bytes-zeros storeSize }
+typed-begin = record { node = fits-empty; store = bytes-zeros storeSize }
 
 all-in-range : (vs : List Event) → AllTyped vs → AllInRange vs
 unfolding AllTyped AllInRange
@@ -83,13 +83,13 @@ module _ (f : Functions) (m : Meets f) where
 
   next-is : (v : Event) (w : World) → IsTyped (callIn v) → Typed w → nextBy f v w ≡ next v w
   unfolding nextBy next callIn
-  next-is (called c) w r tw = go (handed c (w .desk)) refl
+  next-is (called c) w r tw = go (handed c (w .node)) refl
     where
-      go : (x : Option Station) → handed c (w .desk) ≡ x → afterReturn f x c w ≡ afterCall x c w
+      go : (x : Option Station) → handed c (w .node) ≡ x → afterReturn f x c w ≡ afterCall x c w
       go none e = unfold afterReturn afterCall in refl
       go (some st) e =
-          let p = returned-is c st (w .store) r (handed-fits c (w .desk) st (tw .desk) e) (tw .store) in
-          unfold afterReturn afterCall outcomeOf in λ i. record { desk = running (p .0 i .station); store = p .1 i; ledger = feed (p .0 i .answer) c (w .ledger) }
+          let p = returned-is c st (w .store) r (handed-fits c (w .node) st (tw .node) e) (tw .store) in
+          unfold afterReturn afterCall outcomeOf in λ i. record { node = running (p .0 i .station); store = p .1 i; ledger = feed (p .0 i .answer) c (w .ledger) }
   next-is (cut c n) w r tw = refl
 
   run-is : (vs : List Event) (w : World) → AllTyped vs → Typed w → runBy f vs w ≡ run vs w

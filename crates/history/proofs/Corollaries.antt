@@ -42,7 +42,7 @@ use Rattle.history.proofs.CommittedLaws.{stands, wrote-committed, commi
 use Rattle.history.proofs.Theorem.{running-keeps, cut-rule}
 
 -- ── no dirty read: a version that a get answers is a committed transaction's, which stands, under that key with that value ──
-pub no-dirty-read : (vs : List Event) → AllInRange vs → (st : Station) → run vs begin .desk ≡ running st → (t k v : ℕ) (i : Id)
+pub no-dirty-read : (vs : List Event) → AllInRange vs → (st : Station) → run vs begin .node ≡ running st → (t k v : ℕ) (i : Id)
     → does (Get t k) st (run vs begin .store) .answer ≡ A.Version v i
     → (j : Committed) × List·Memᴰ j (run vs begin .ledger .standing) × (j .id ≡ i) × (j .values k ≡ some v)
 unfolding does versionAt
@@ -87,12 +87,12 @@ past-fed (A.Refused n d) c b j m = m
 
 past-next : (v : Event) (w : World) (j : Committed) → List·Memᴰ j (w .ledger .past) → List·Memᴰ j (next v w .ledger .past)
 unfolding next
-past-next (called c) w j m = go (handed c (w .desk))
+past-next (called c) w j m = go (handed c (w .node))
   where
     go : (x : Option Station) → List·Memᴰ j (afterCall x c w .ledger .past)
     go none = unfold afterCall in m
     go (some st) = unfold afterCall in past-fed _ c (w .ledger) j m
-past-next (cut c n) w j m = go (handed c (w .desk))
+past-next (cut c n) w j m = go (handed c (w .node))
   where
     fed : (e : Effect) (y : Bool) → List·Memᴰ j (cond y (feed (e .answer) c (w .ledger)) (w .ledger) .past)
     fed e true = past-fed _ c (w .ledger) j m
@@ -144,7 +144,7 @@ done-stands st s b inv t i (Closing d c n) q _ h =
     pr : Prepared s (liveAt st (placeOf t st)) d c n
     pr = inv .slots .closing (placeOf t st) d c n q
 
-pub acknowledged-stands : (vs : List Event) → AllInRange vs → (st : Station) → run vs begin .desk ≡ running st → (t : ℕ) (i : Id)
+pub acknowledged-stands : (vs : List Event) → AllInRange vs → (st : Station) → run vs begin .node ≡ running st → (t : ℕ) (i : Id)
     → does (Step t) st (run vs begin .store) .answer ≡ A.Done i
     → (j : Committed) × List·Memᴰ j (run vs begin .ledger .standing) × List·Memᴰ j (run vs begin .ledger .past) × (j .id ≡ i)
 unfolding does step all
@@ -172,7 +172,7 @@ retry-alters-nothing st t c i h =
     let r = held-first (isHeld t st) (eqb (liveAt st (placeOf t st) .«write_count») 0) st _ _ _ _ i (sym (ap (λ (e : Effect). e .answer) (a .1)) ∙ h) in
     (r .0, r .1, a .1 ∙ (r .2 ∙ ap (λ (x : Id). says (A.Done x) st) (r .1)), eqb-false t 0 (row-off 3 _ _ (row-off 2 _ _ (a .0) .1) .0))
 
-pub retry-stands-once : (vs : List Event) → AllInRange vs → (st : Station) → run vs begin .desk ≡ running st → (t c : ℕ) (i : Id)
+pub retry-stands-once : (vs : List Event) → AllInRange vs → (st : Station) → run vs begin .node ≡ running st → (t c : ℕ) (i : Id)
     → does (Commit t c) st (run vs begin .store) .answer ≡ A.Done i
     → (j : Committed) × List·Memᴰ j (run vs begin .ledger .standing) × (j .id ≡ i) × ((x : Committed) → List·Memᴰ x (run vs begin .ledger .standing) → x .id .txn ≡ i .txn → x ≡ j)
 unfolding does

@@ -102,6 +102,6 @@ module _ (st : Station) (s : List ℕ) (b : Ledger) (h : sound st ≡ true) (inv
       off 17 _ _ st _ (not-of-true _ (committed-carries s d (entryAt st d) (inv .slots .entered d (held-txn st d (not-false _ (or-right _ _ h14)))))) (unguarded Calm st _ (calm-stores _ _ _ _ _ refl))))
   calm Scan = rw (scan-is s (b .standing) (b .past) (inv .core)) (calm-says _ _ refl)
 
-pub never-refused : (vs : List Event) → AllInRange vs → (st : Station) → run vs begin .desk ≡ running st → (c : Call) → member (refusedWith (does c st (run vs begin .store) .answer)) faults ≡ false
+pub never-refused : (vs : List Event) → AllInRange vs → (st : Station) → run vs begin .node ≡ running st → (c : Call) → member (refusedWith (does c st (run vs begin .store) .answer)) faults ≡ false
 unfolding Calm
 never-refused vs f st e c = let r = running-keeps vs f st e in calm _ _ _ (r .0) (r .1) c

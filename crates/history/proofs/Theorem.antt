@@ -21,7 +21,7 @@ use Rattle.model.specs.Calls.{Call, Start, Put, Get, Commit, Step, Abort, Colle
 use Rattle.model.proofs.SlotLaws.{committed≢free, free≢damaged, zeros-free}
 use Rattle.model.proofs.SoundKept.{sound-empty, sound-scan, sound-kept}
 use Rattle.history.specs.Ledger.{Ledger, emptyLedger}
-use Rattle.history.specs.Histories.{Event, called, cut, Desk, running, down, World, begin, handed, afterCall, fedAfter, afterCut, next, run, callIn, AllInRange}
+use Rattle.history.specs.Histories.{Event, called, cut, Node, running, down, World, begin, handed, afterCall, fedAfter, afterCut, next, run, callIn, AllInRange}
 use Rattle.history.specs.CutRule.{Demand3}
 use Rattle.history.specs.Matches.{Correspond}
 use Rattle.history.proofs.Invariant.{Core, Lasting, draftIn, Inv, Good}
@@ -74,13 +74,13 @@ call-keeps Scan st s b f h inv = scan-keeps s b (inv .core)
 
 -- ── a history ──
 -- what holds of a world: what lasts, and of a running station that it is sound, and the invariant
-abbrev pub Running : Desk → List ℕ → Ledger → Type 0
+abbrev pub Running : Node → List ℕ → Ledger → Type 0
 Running (running st) s b = (sound st ≡ true) × Inv st s b
 Running down s b = Unit {0}
 
 pub record State (w : World) : Type 0 where
   pub lasts : Lasting (w .store) (w .ledger)
-  pub runs : Running (w .desk) (w .store) (w .ledger)
+  pub runs : Running (w .node) (w .store) (w .ledger)
 
 -- the one call of a station that is down
 down-scan : (c : Call) (s : List ℕ) (b : Ledger) (st : Station) → Core s (b .standing) (b .past) → handed c down ≡ some st → Good s b c (does c st s) × (sound (does c st s .station) ≡ true)
@@ -95,7 +95,7 @@ down-scan (Collect d) s b st core e = absurd (Option·none-ne-some st e)
 down-scan Scan s b st core e = (scan-keeps s b core, sound-scan s)
 
 -- a call that is handed a station does what it owes
-pub handed-keeps : (c : Call) (s : List ℕ) (b : Ledger) (k : Desk) (st : Station) → InRange c → Core s (b .standing) (b .past) → Running k s b → handed c k ≡ some st
+pub handed-keeps : (c : Call) (s : List ℕ) (b : Ledger) (k : Node) (st : Station) → InRange c → Core s (b .standing) (b .past) → Running k s b → handed c k ≡ some st
     → Good s b c (does c st s) × (sound (does c st s .station) ≡ true)
 unfolding handed
 handed-keeps c s b (running st₀) st f core r e =
@@ -104,28 +104,28 @@ handed-keeps c s b down st f core r e = unfold handed in down-scan c s b st core
 
 pub called-keeps : (c : Call) (w : World) → InRange c → State w → State (next (called c) w)
 unfolding next
-called-keeps c w f sw = go (handed c (w .desk)) refl
+called-keeps c w f sw = go (handed c (w .node)) refl
   where
-    go : (x : Option Station) → handed c (w .desk) ≡ x → State (afterCall x c w)
+    go : (x : Option Station) → handed c (w .node) ≡ x → State (afterCall x c w)
     go none e = unfold afterCall in sw
     go (some st) e =
-        let g = handed-keeps c (w .store) (w .ledger) (w .desk) st f (sw .lasts .core) (sw .runs) e in
+        let g = handed-keeps c (w .store) (w .ledger) (w .node) st f (sw .lasts .core) (sw .runs) e in
         unfold afterCall in record { lasts = lasting _ _ _ (g .1) (g .0 .after); runs = (g .1, g .0 .after) }
 
 -- when power goes after the first n stores, what lasts holds
 pub cut-keeps : (c : Call) (n : ℕ) (w : World) → InRange c → State w → State (next (cut c n) w)
 unfolding next
-cut-keeps c n w f sw = go (handed c (w .desk)) refl
+cut-keeps c n w f sw = go (handed c (w .node)) refl
   where
     prefix : (e : Effect) → Good (w .store) (w .ledger) c e → sound (e .station) ≡ true → Dec (n < length (e .stores)) → Lasting (stored (take n (e .stores)) (w .store)) (fedAfter n c e (w .ledger))
     prefix e good h (yes y) = good .before n y
     prefix e good h (no y) =
         unfold fedAfter in rw (le-leb (length (e .stores)) n (omega arith), take-all n (e .stores) (omega arith)) (lasting _ _ _ h (good .after))
 
-    go : (x : Option Station) → handed c (w .desk) ≡ x → State (afterCut x c n w)
+    go : (x : Option Station) → handed c (w .node) ≡ x → State (afterCut x c n w)
     go none e = unfold afterCut in sw
     go (some st) e =
-        let g = handed-keeps c (w .store) (w .ledger) (w .desk) st f (sw .lasts .core) (sw .runs) e in
+        let g = handed-keeps c (w .store) (w .ledger) (w .node) st f (sw .lasts .core) (sw .runs) e in
         unfold afterCut in record { lasts = prefix (does c st (w .store)) (g .0) (g .1) (decLt n (length (does c st (w .store) .stores))); runs = tt }
 
 pub next-keeps : (v : Event) (w : World) → InRange (callIn v) → State w → State (next v w)
@@ -148,13 +148,13 @@ pub history-keeps : (vs : List Event) → AllInRange vs → State (run vs begin)
 history-keeps vs f = run-keeps vs begin f begin-state
 
 -- of the station that runs after a history
-pub running-keeps : (vs : List Event) → AllInRange vs → (st : Station) → run vs begin .desk ≡ running st → (sound st ≡ true) × Inv st (run vs begin .store) (run vs begin .ledger)
-running-keeps vs f st e = subst (λ (k : Desk). Running k (run vs begin .store) (run vs begin .ledger)) e (history-keeps vs f .runs)
+pub running-keeps : (vs : List Event) → AllInRange vs → (st : Station) → run vs begin .node ≡ running st → (sound st ≡ true) × Inv st (run vs begin .store) (run vs begin .ledger)
+running-keeps vs f st e = subst (λ (k : Node). Running k (run vs begin .store) (run vs begin .ledger)) e (history-keeps vs f .runs)
 
 -- ── the cut rule ──
 pub cut-rule : Demand3
 cut-rule vs f = cut-rule-of _ _ (history-keeps vs f .lasts)
 
 -- "A ticket is live while it has a page."
-pub drafts-correspond : (vs : List Event) → AllInRange vs → (st : Station) → run vs begin .desk ≡ running st → Correspond st (draftIn (run vs begin .ledger))
+pub drafts-correspond : (vs : List Event) → AllInRange vs → (st : Station) → run vs begin .node ≡ running st → Correspond st (draftIn (run vs begin .ledger))
 drafts-correspond vs f st e = running-keeps vs f st e .1 .drafts

@@ -67,12 +67,12 @@ unfoldable pub afterReturn : Functions → Option Station → Call → World →
 afterReturn f none c w = w
 afterReturn f (some st) c w =
     let r : Returned = returned f c st (w .store) in
-    record { desk = running (r .outcome .station); store = r .store; ledger = feed (r .outcome .answer) c (w .ledger) }
+    record { node = running (r .outcome .station); store = r .store; ledger = feed (r .outcome .answer) c (w .ledger) }
 
 -- a contract speaks of a call that returns. Of one cut short, the first n of the records that its definition stores are written: a call writes
 -- them in that order, each whole, and no other byte
 unfoldable pub nextBy : Functions → Event → World → World
-nextBy f (called c) w = afterReturn f (handed c (w .desk)) c w
+nextBy f (called c) w = afterReturn f (handed c (w .node)) c w
 nextBy f (cut c n) w = next (cut c n) w
 
 unfoldable pub runBy : Functions → List Event → World → World

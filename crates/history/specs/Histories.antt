@@ -18,22 +18,22 @@ pub data Event : Type 0 where
   -- a call cut short: power goes after its first n stores
   cut : Call → ℕ → Event
 
--- a station runs, or was lost in a cut
-pub data Desk : Type 0 where
-  running : Station → Desk
-  down : Desk
+-- a node of the paper: a station that runs, or that a cut has taken
+pub data Node : Type 0 where
+  running : Station → Node
+  down : Node
 
 pub record World : Type 0 where
-  pub desk : Desk
+  pub node : Node
   pub store : List ℕ
   pub ledger : Ledger
 
 -- "At first none."
 unfoldable pub begin : World
-begin = record { desk = running emptyStation; store = replicate storeSize 0; ledger = emptyLedger }
+begin = record { node = running emptyStation; store = replicate storeSize 0; ledger = emptyLedger }
 
 -- the station that a call is handed. "All else in a station is lost in a cut.": until a scan, which needs none, a call does nothing
-unfoldable pub handed : Call → Desk → Option Station
+unfoldable pub handed : Call → Node → Option Station
 handed c (running st) = some st
 handed c down = cond (isScan c) (some emptyStation) none
 
@@ -41,7 +41,7 @@ unfoldable pub afterCall : Option Station → Call → World → World
 afterCall none c w = w
 afterCall (some st) c w =
     let e : Effect = does c st (w .store) in
-    record { desk = running (e .station); store = stored (e .stores) (w .store); ledger = feed (e .answer) c (w .ledger) }
+    record { node = running (e .station); store = stored (e .stores) (w .store); ledger = feed (e .answer) c (w .ledger) }
 
 -- 01 'Words': "the answer that reports a write counts as given with it": what the ledger is after the first n stores of a call. Every
 -- call here reports with its last store, or stores nothing
@@ -53,11 +53,11 @@ unfoldable pub afterCut : Option Station → Call → ℕ → World → World
 afterCut none c n w = w
 afterCut (some st) c n w =
     let e : Effect = does c st (w .store) in
-    record { desk = down; store = stored (take n (e .stores)) (w .store); ledger = fedAfter n c e (w .ledger) }
+    record { node = down; store = stored (take n (e .stores)) (w .store); ledger = fedAfter n c e (w .ledger) }
 
 unfoldable pub next : Event → World → World
-next (called c) w = afterCall (handed c (w .desk)) c w
-next (cut c n) w = afterCut (handed c (w .desk)) c n w
+next (called c) w = afterCall (handed c (w .node)) c w
+next (cut c n) w = afterCut (handed c (w .node)) c n w
 
 unfoldable pub run : List Event → World → World
 run [] w = w
