@@ -92,7 +92,7 @@ module _ (s : List ℕ) (standing past : List Committed) (core : Core s standing
   scan-is = scan-finds s (core .size) (record { undamaged = core .undamaged; single = λ d d′ e e′ o o′ n h h′ et. n (core .single d d′ e e′ o o′ h h′ et) })
 
   pub recovered : Inv (idleStation (map entrySeen (slotsSeen s))) s (record { drafts = []; standing = standing; past = past })
-  recovered = idle-inv (map entrySeen (slotsSeen s)) s standing past (entries-length s) (scan-entry s (replicate livePlaces noLive)) core
+  recovered = idle-inv (map entrySeen (slotsSeen s)) s standing past (entries-length s) (scan-entry s) core
 
 -- it needs what lasts alone
 pub scan-keeps : (s : List ℕ) (b : Ledger) → Core s (b .standing) (b .past) → Good s b Scan (scan s)

@@ -218,9 +218,9 @@ module _ (s : List ℕ) (l : length s ≡ storeSize) where
 pub entries-length : (s : List ℕ) → length (map entrySeen (slotsSeen s)) ≡ slots
 entries-length s = length-map (slotsSeen s) entrySeen ∙ seen-length s
 
-pub scan-entry : (s : List ℕ) (ls : List Live) (d : ℕ) → d < slots → entryAt (record { live = ls; entries = map entrySeen (slotsSeen s) }) d ≡ entrySeen (seen s d)
+pub scan-entry : (s : List ℕ) (d : ℕ) → d < slots → entryAt (idleStation (map entrySeen (slotsSeen s))) d ≡ entrySeen (seen s d)
 unfolding entryAt
-scan-entry s ls d o = getD-inside (map entrySeen (slotsSeen s)) d _ (entrySeen free) (omega (arith, entries-length s)) ∙ (List·getD-map entrySeen (slotsSeen s) d free ∙ ap entrySeen (seen-at s d free o))
+scan-entry s d o = getD-inside (map entrySeen (slotsSeen s)) d _ (entrySeen free) (omega (arith, entries-length s)) ∙ (List·getD-map entrySeen (slotsSeen s) d free ∙ ap entrySeen (seen-at s d free o))
 
 -- ── all zeros ──
 from-same : {A : Type 0} (f g : ℕ → A) (n i : ℕ) → ((j : ℕ) → i ≤ j → j < i + n → f j ≡ g j) → from n i f ≡ from n i g
