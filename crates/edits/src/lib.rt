@@ -36,9 +36,9 @@ fn same_write(a: Write, b: Write) -> bool {
     a.value == b.value
 }
 
-fn same_writes(a: [Write; 8], b: [Write; 8]) -> bool {
+fn same_writes(a: [Write; Station::WRITES], b: [Write; Station::WRITES]) -> bool {
     let mut i = 0;
-    while i < 8 {
+    while i < Station::WRITES {
         let x = a[i];
         let y = b[i];
         if !same_write(x, y) {
@@ -58,9 +58,9 @@ fn same_read(a: Read, b: Read) -> bool {
     same_id(x, y)
 }
 
-fn same_reads(a: [Read; 16], b: [Read; 16]) -> bool {
+fn same_reads(a: [Read; Station::READS], b: [Read; Station::READS]) -> bool {
     let mut i = 0;
-    while i < 16 {
+    while i < Station::READS {
         let x = a[i];
         let y = b[i];
         if !same_read(x, y) {
@@ -135,9 +135,9 @@ fn same_live(a: Live, b: Live) -> bool {
     same_sets(a, b)
 }
 
-fn same_lives(a: [Live; 8], b: [Live; 8]) -> bool {
+fn same_lives(a: [Live; Station::LIVE], b: [Live; Station::LIVE]) -> bool {
     let mut i = 0;
-    while i < 8 {
+    while i < Station::LIVE {
         let x = a[i];
         let y = b[i];
         if !same_live(x, y) {
@@ -148,9 +148,9 @@ fn same_lives(a: [Live; 8], b: [Live; 8]) -> bool {
     true
 }
 
-fn same_keys(a: [u8; 8], b: [u8; 8]) -> bool {
+fn same_keys(a: [u8; Station::WRITES], b: [u8; Station::WRITES]) -> bool {
     let mut i = 0;
-    while i < 8 {
+    while i < Station::WRITES {
         if a[i] != b[i] {
             return false;
         }
@@ -173,9 +173,9 @@ fn same_entry(a: Entry, b: Entry) -> bool {
     same_keys(v, w)
 }
 
-fn same_entries(a: [Entry; 64], b: [Entry; 64]) -> bool {
+fn same_entries(a: [Entry; Station::SLOTS], b: [Entry; Station::SLOTS]) -> bool {
     let mut i = 0;
-    while i < 64 {
+    while i < Station::SLOTS {
         let x = a[i];
         let y = b[i];
         if !same_entry(x, y) {
@@ -273,7 +273,7 @@ fn edited_read(r: Read, field: u64, x: u64) -> Read {
 }
 
 fn with_write(l: Live, field: u64, i: usize, x: u64) -> Live {
-    if i >= 8 {
+    if i >= Station::WRITES {
         return l;
     }
     let mut m = l;
@@ -284,7 +284,7 @@ fn with_write(l: Live, field: u64, i: usize, x: u64) -> Live {
 }
 
 fn with_read(l: Live, field: u64, i: usize, x: u64) -> Live {
-    if i >= 16 {
+    if i >= Station::READS {
         return l;
     }
     let mut m = l;
@@ -320,7 +320,7 @@ fn edited_live(l: Live, field: u64, i: usize, x: u64) -> Live {
 }
 
 fn with_key(e: Entry, i: usize, key: u8) -> Entry {
-    if i >= 8 {
+    if i >= Station::WRITES {
         return e;
     }
     let mut f = e;
@@ -356,7 +356,7 @@ fn edited_entry(e: Entry, field: u64, i: usize, x: u64) -> Entry {
 }
 
 fn with_live(station: Station, place: usize, field: u64, i: usize, x: u64) -> Station {
-    if place >= 8 {
+    if place >= Station::LIVE {
         return station;
     }
     let mut s = station;
@@ -367,7 +367,7 @@ fn with_live(station: Station, place: usize, field: u64, i: usize, x: u64) -> St
 }
 
 fn with_entry(station: Station, slot: usize, field: u64, i: usize, x: u64) -> Station {
-    if slot >= 64 {
+    if slot >= Station::SLOTS {
         return station;
     }
     let mut s = station;

@@ -23,7 +23,7 @@ distinct-head x xs h = go (eqb x 0 or not (member x xs)) refl
     go true e = e
     go false e = absurd (false≢true (rw (e, distinct) at h))
 
-distinct-tail : (x : ℕ) (xs : List ℕ) → distinct (x ∷ xs) ≡ true → distinct xs ≡ true
+pub distinct-tail : (x : ℕ) (xs : List ℕ) → distinct (x ∷ xs) ≡ true → distinct xs ≡ true
 unfolding distinct
 distinct-tail x xs h = rw (distinct-head x xs h, distinct) at h
 

@@ -1,11 +1,13 @@
 pub mod Tests
 pub mod ListLaws
+pub mod RestLaws
 pub mod DistinctLaws
 pub mod InsertLaws
 pub mod IdLaws
 pub mod RefusalLaws
 pub mod StoreLaws
 pub mod RecordLaws
+pub mod InsideLaws
 pub mod SlotLaws
 pub mod ScanLaws
 pub mod ReadingLaws

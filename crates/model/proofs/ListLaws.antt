@@ -122,6 +122,13 @@ module _ {A : Type 0} where
   all-replicate p zero a h = refl
   all-replicate p (suc n) a h = all-cons p a (replicate n a) h (all-replicate p n a h)
 
+  pub all-fails : (p : A → Bool) (l : List A) (d : A) (j : ℕ) → j < length l → p (getD l j d) ≡ false → all p l ≡ false
+  all-fails p l d j o h = go (all p l) refl
+    where
+      go : (b : Bool) → all p l ≡ b → all p l ≡ false
+      go true e = absurd (true≢false (sym (all-at p l d e j o) ∙ h))
+      go false e = e
+
   -- ── any ──
   pub any-finds : (p : A → Bool) (l : List A) (d : A) → any p l ≡ true → (j : ℕ) × (j < length l) × (p (getD l j d) ≡ true)
   unfolding any
@@ -193,6 +200,14 @@ module _ {A : Type 0} where
   getD-all zero j x = refl
   getD-all (suc n) zero x = refl
   getD-all (suc n) (suc j) x = getD-all n j x
+
+-- ── what holds of the numbers passed, and of one more ──
+pub below-more : (P : ℕ → Type 0) (i : ℕ) → ((j : ℕ) → j < i → P j) → P i → (j : ℕ) → j < i + 1 → P j
+below-more P i f q j o = go (ℕ-discrete j i)
+  where
+    go : Dec (j ≡ i) → P j
+    go (yes e) = subst P (sym e) q
+    go (no n) = f j (omega arith)
 
 -- ── lists that count up ──
 module _ {A : Type 0} (f : ℕ → A) where

@@ -87,3 +87,8 @@ pub and-first : (x y : Bool) → (x and y) ≡ false → y ≡ true → x ≡ fa
 unfolding _and_
 and-first true y e q = absurd (true≢false (sym q ∙ e))
 and-first false y e q = refl
+
+pub and-assoc : (a b c : Bool) → (a and (b and c)) ≡ (a and b and c)
+unfolding _and_
+and-assoc true b c = refl
+and-assoc false b c = refl

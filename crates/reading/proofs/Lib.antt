@@ -1,5 +1,6 @@
 pub mod Order
 pub mod Loops
+pub mod ColumnLoop
 pub mod Marks
 pub mod Rows
 pub mod Bounds

@@ -1,18 +1,17 @@
 -- Numbers read and written byte by byte, and the parts of a record put together.
 use Prim.Native.Nat.{ℕ, zero, suc, _+_, _*_, _-_, _/_, _%_, _^_, _<_, _≤_}
 use mathlib.Core.Path.{_≡_, refl, sym, ap, _∙_}
-use mathlib.Core.List.{List, [], _∷_, _++_, append-nil, append-assoc}
+use mathlib.Core.List.{List, [], _∷_, _++_, append-nil}
 use lib.ListN.{length, take, drop, getD, set, length-set, drop-of-length-le}
-use lib.Seq.{take-at, drop-at, take-suc-set}
+use lib.Seq.{take-at, drop-at}
 use native.Mathlib.Nat.{suc-ne-zero, pow-succ'}
 use native.Mathlib.Omega.{arith}
 use borrow.Rule.Slice.PartMut.{midOf, putMid, mid-len, same-len-mid}
-use native.Mathlib.Numerals.{add-one}
 use Rattle.model.specs.declared.Id.{Id}
 use Rattle.model.specs.Limits.{writeLimit, recordSize, byteRange}
 use Rattle.model.specs.Bytes.{bytes, number, headBytes}
 use Rattle.model.proofs.RecordLaws.{length-bytes}
-use Rattle.records.proofs.ListSteps.{rest-next}
+use Rattle.model.proofs.RestLaws.{rest-next}
 
 -- ── numbers ──
 -- one byte more, read from the back
@@ -20,19 +19,21 @@ pub number-back : (s : List ℕ) (i : ℕ) → 0 < i → i ≤ length s → numb
 unfolding number
 number-back s i p h =
     let e : i - 1 + 1 ≡ i = omega arith in
-    ap number (rest-next s (i - 1) (omega arith)) ∙ ap (λ (n : ℕ). getD s (i - 1) 0 + byteRange * number (drop n s)) e ∙ omega arith
+    ap number (rest-next s (i - 1) 0 (omega arith)) ∙ ap (λ (n : ℕ). getD s (i - 1) 0 + byteRange * number (drop n s)) e ∙ omega arith
 
 pub grow : (x b n m : ℕ) → x < byteRange ^ n → b < byteRange → m ≡ suc n → x * byteRange + b < byteRange ^ m
 grow x b n m p q e =
     let f : byteRange ^ m ≡ byteRange * byteRange ^ n = ap (λ (k : ℕ). byteRange ^ k) e ∙ pow-succ' byteRange n in
     omega arith
 
--- one byte more, written from the front
-pub bytes-more : (s : List ℕ) (i n x : ℕ) → i < length s → i < n → take (i + 1) (set s i (x % byteRange)) ++ bytes (n - (i + 1)) (x / byteRange) ≡ take i s ++ bytes (n - i) x
+-- the first byte, and those to come
+pub bytes-next : (i n x : ℕ) → i < n → bytes (n - i) x ≡ x % byteRange ∷ bytes (n - (i + 1)) (x / byteRange)
 unfolding bytes
-bytes-more s i n x o p =
-    let e : n - i ≡ suc (n - (i + 1)) = omega arith in
-    rw (e, add-one i, take-suc-set s i (x % byteRange) o, append-assoc)
+bytes-next i n x o = let e : n - i ≡ suc (n - (i + 1)) = omega arith in rw e
+
+pub bytes-end : (i n x : ℕ) → n ≤ i → bytes (n - i) x ≡ []
+unfolding bytes
+bytes-end i n x o = let e : n - i ≡ 0 = omega arith in rw e
 
 -- ── a record ──
 -- its cells, one by one

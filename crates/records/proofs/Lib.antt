@@ -1,3 +1,4 @@
 pub mod ListSteps
+pub mod WriteLoop
 pub mod ByteLaws
 pub mod SlotSteps

@@ -18,10 +18,10 @@ use Rattle.model.specs.Limits.{recordSize}
 use Rattle.model.specs.Entries.{markIn, entryIn, freeMark, committedMark, entryRules, commitRules, noEntry, keysOf}
 use Rattle.model.specs.Records.{carriesVersion, recordPlace, recordAt}
 use Rattle.model.specs.Slots.{versionsCarry, judged, seen}
-use Rattle.model.proofs.Tests.{and-intro}
+use Rattle.model.proofs.Tests.{and-intro, and-none-left, and-none-right}
 use Rattle.records.specs.declared.Mark.the-variants.{Free, Committed, Damaged}
 use Rattle.records.specs.SlotView.{asSlot, slotWith}
-use Rattle.records.proofs.ListSteps.{taken-next, taken-end, and-left-no, and-right-no}
+use Rattle.records.proofs.ListSteps.{taken-next, taken-end}
 
 -- ── the version records ──
 -- record n, as a part of the slot's bytes
@@ -44,7 +44,7 @@ module _ (r : ℕ → List ℕ) (i : Id) (ks : List ℕ) (m n : ℕ) where
   versions-more o l h = versions-next o l ∙ rw h (unfold _and_ in refl)
 
   pub versions-not : n < m → m ≤ length ks → carriesVersion (r (n + 1)) (getD ks n 0) i ≡ false → versionsCarry r i (n + 1) (drop n (take m ks)) ≡ false
-  versions-not o l h = versions-next o l ∙ and-left-no _ _ h
+  versions-not o l h = versions-next o l ∙ and-none-left _ _ h
 
   pub versions-end : m ≤ n → versionsCarry r i (n + 1) (drop n (take m ks)) ≡ true
   unfolding versionsCarry
@@ -81,16 +81,16 @@ module _ (w : List ℕ) where
     -- by its mark and zeros, by its entry's rules, and by its version records
     pub slot-no-commit : head (take recordSize w) ≡ false → asSlot (seen w 0) ≡ slotWith Damaged noEntry
     unfolding recordAt commitRules
-    slot-no-commit h = slot-damaged (and-left-no _ _ (and-left-no _ _ h))
+    slot-no-commit h = slot-damaged (and-none-left _ _ (and-none-left _ _ h))
 
     module _ (e : Entry) (q : e ≡ entryIn (take recordSize w)) where
       pub slot-no-entry : entryRules e ≡ false → asSlot (seen w 0) ≡ slotWith Damaged noEntry
       unfolding recordAt commitRules
-      slot-no-entry h = slot-damaged (and-left-no _ _ (and-right-no _ _ (subst (λ (x : Entry). entryRules x ≡ false) q h)))
+      slot-no-entry h = slot-damaged (and-none-left _ _ (and-none-right _ _ (subst (λ (x : Entry). entryRules x ≡ false) q h)))
 
       pub slot-no-versions : versionsCarry (recordAt w 0) (e .id) 1 (keysOf e) ≡ false → asSlot (seen w 0) ≡ slotWith Damaged noEntry
       unfolding recordAt
-      slot-no-versions h = slot-damaged (and-right-no _ _ (subst (λ (x : Entry). versionsCarry (recordAt w 0) (x .id) 1 (keysOf x) ≡ false) q h))
+      slot-no-versions h = slot-damaged (and-none-right _ _ (subst (λ (x : Entry). versionsCarry (recordAt w 0) (x .id) 1 (keysOf x) ≡ false) q h))
 
       pub slot-committed : head (take recordSize w) ≡ true → entryRules e ≡ true → versionsCarry (recordAt w 0) (e .id) 1 (keysOf e) ≡ true → asSlot (seen w 0) ≡ slotWith Committed e
       unfolding asSlot judged recordAt commitRules

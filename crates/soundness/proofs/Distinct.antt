@@ -14,8 +14,8 @@ use borrow.Author.Tests.{eqb-true, leb-false, le-leb, eq-eqb, ne-eqb}
 use Rattle.model.specs.Lists.{_or_, any, count, member, distinct}
 use Rattle.model.proofs.Tests.{bool-cases}
 use Rattle.model.proofs.ListLaws.{at-set, any-yes, any-no, count-yes, count-no}
-use Rattle.model.proofs.DistinctLaws.{distinct-of}
-use Rattle.soundness.proofs.Loops.{count-more}
+use Rattle.model.proofs.DistinctLaws.{distinct-tail, distinct-of}
+use Rattle.model.proofs.RestLaws.{count-more}
 
 -- ── a number that is counted more than once stands twice ──
 module _ {A : Type 0} (p : A → Bool) where
@@ -47,14 +47,6 @@ module _ {A : Type 0} (p : A → Bool) where
 distinct-old : (x : ℕ) (xs : List ℕ) → x ≢ 0 → member x xs ≡ true → distinct (x ∷ xs) ≡ false
 unfolding distinct _or_
 distinct-old x xs n e = rw (ne-eqb x 0 n, e, distinct)
-
-distinct-tail : (x : ℕ) (xs : List ℕ) → distinct (x ∷ xs) ≡ true → distinct xs ≡ true
-unfolding distinct
-distinct-tail x xs h = go (bool-cases (eqb x 0 or not (member x xs)))
-  where
-    go : ((eqb x 0 or not (member x xs)) ≡ true) ⊎ ((eqb x 0 or not (member x xs)) ≡ false) → distinct xs ≡ true
-    go (inl e) = rw (e, distinct) at h
-    go (inr e) = absurd (true≢false (sym (rw (e, distinct) at h)))
 
 -- where no number but 0 stands twice, each stands once at most
 once-count : (x : ℕ) (xs : List ℕ) → x ≢ 0 → distinct xs ≡ true → count (eqb x) xs ≤ 1

@@ -1,4 +1,6 @@
 pub mod Loops
+pub mod AllLoop
+pub mod SetLoop
 pub mod Distinct
 pub mod PartLaws
 pub mod Whole

@@ -1,4 +1,4 @@
--- Laws of a list that a loop goes through: what a test of the rest comes to, one element further.
+-- Laws of the loops of soundness: a set tested element by element, a column filled, a sum that may not fit.
 use Prim.Native.Nat.{ℕ, suc, _+_, _-_, _<_, _≤_}
 use mathlib.Core.Path.{_≡_, sym, ap, _∙_}
 use mathlib.Core.Logic.{_⊎_, inl, inr}
@@ -10,68 +10,10 @@ use lib.Seq.{take-suc-set, take-all, take-suc, drop-cons}
 use native.Mathlib.Omega.{arith}
 use native.Mathlib.Numerals.{add-one}
 use borrow.Author.Tests.{ltb-true, leb-true, leb-false, le-leb, lt-leb}
-use Rattle.model.specs.Lists.{_and_, all, any, first, count}
+use Rattle.model.specs.Lists.{_and_}
 use Rattle.model.specs.Limits.{keys}
 use Rattle.model.proofs.Tests.{and-right, bool-cases}
-use Rattle.model.proofs.ListLaws.{count-yes, count-no}
 use Rattle.soundness.specs.Parts.{fits, setRight}
-
--- ── all, any, count, first ──
-module _ {A : Type 0} (p : A → Bool) (xs : List A) (i : ℕ) where
-  pub all-more : (d : A) → i < length xs → p (getD xs i d) ≡ true → all p (drop i xs) ≡ all p (drop (i + 1) xs)
-  unfolding all
-  all-more d h e = rw (add-one i, drop-cons xs i d h, e, all)
-
-  pub all-stop : (d : A) → i < length xs → p (getD xs i d) ≡ false → all p (drop i xs) ≡ false
-  unfolding all
-  all-stop d h e = rw (drop-cons xs i d h, e, all)
-
-  pub all-end : length xs ≤ i → all p (drop i xs) ≡ true
-  unfolding all
-  all-end h = rw (drop-of-length-le xs h)
-
-  pub any-more : (d : A) → i < length xs → p (getD xs i d) ≡ false → any p (drop i xs) ≡ any p (drop (i + 1) xs)
-  unfolding any
-  any-more d h e = rw (add-one i, drop-cons xs i d h, e, any)
-
-  pub any-stop : (d : A) → i < length xs → p (getD xs i d) ≡ true → any p (drop i xs) ≡ true
-  unfolding any
-  any-stop d h e = rw (drop-cons xs i d h, e, any)
-
-  pub any-end : length xs ≤ i → any p (drop i xs) ≡ false
-  unfolding any
-  any-end h = rw (drop-of-length-le xs h)
-
-  pub count-more : (d : A) → i < length xs → p (getD xs i d) ≡ true → count p (drop i xs) ≡ suc (count p (drop (i + 1) xs))
-  count-more d h e = rw (add-one i, drop-cons xs i d h) (count-yes p (getD xs i d) (drop (suc i) xs) e)
-
-  pub count-less : (d : A) → i < length xs → p (getD xs i d) ≡ false → count p (drop i xs) ≡ count p (drop (i + 1) xs)
-  count-less d h e = rw (add-one i, drop-cons xs i d h) (count-no p (getD xs i d) (drop (suc i) xs) e)
-
-  pub count-end : length xs ≤ i → count p (drop i xs) ≡ 0
-  unfolding count
-  count-end h = rw (drop-of-length-le xs h)
-
-  pub first-more : (d : A) → i < length xs → p (getD xs i d) ≡ false → first p (drop i xs) ≡ suc (first p (drop (i + 1) xs))
-  unfolding first
-  first-more d h e = rw (add-one i, drop-cons xs i d h, e, first)
-
-  pub first-stop : (d : A) → i < length xs → p (getD xs i d) ≡ true → first p (drop i xs) ≡ 0
-  unfolding first
-  first-stop d h e = rw (drop-cons xs i d h, e, first)
-
-  pub first-end : length xs ≤ i → first p (drop i xs) ≡ 0
-  unfolding first
-  first-end h = rw (drop-of-length-le xs h)
-
-  -- the first element's test, and the rest's
-  pub all-split : (d : A) → i < length xs → all p (drop i xs) ≡ (p (getD xs i d) and all p (drop (i + 1) xs))
-  unfolding _and_
-  all-split d h = go (bool-cases (p (getD xs i d)))
-    where
-      go : (p (getD xs i d) ≡ true) ⊎ (p (getD xs i d) ≡ false) → all p (drop i xs) ≡ (p (getD xs i d) and all p (drop (i + 1) xs))
-      go (inl e) = all-more d h e ∙ ap (λ (b : Bool). b and all p (drop (i + 1) xs)) (sym e)
-      go (inr e) = all-stop d h e ∙ ap (λ (b : Bool). b and all p (drop (i + 1) xs)) (sym e)
 
 -- ── sets: ascending keys, then zeros ──
 module _ {A : Type 0} (key : A → ℕ) (isZero : A → Bool) (lo n : ℕ) (xs : List A) (j : ℕ) (d : A) (h : j < length xs) where
@@ -103,9 +45,6 @@ module _ {A : Type 0} (key : A → ℕ) (isZero : A → Bool) (lo n : ℕ) (xs :
   zero-stop m e = past-is m ∙ ap (λ (b : Bool). b and setRight key isZero lo (n - (j + 1)) (drop (j + 1) xs)) e
 
 module _ {A : Type 0} (key : A → ℕ) (isZero : A → Bool) (lo n : ℕ) (xs : List A) (j : ℕ) where
-  pub set-start : setRight key isZero lo n xs ≡ setRight key isZero lo (n - 0) (drop 0 xs)
-  set-start = ap (λ (k : ℕ). setRight key isZero lo k xs) (omega arith)
-
   pub set-end : length xs ≤ j → setRight key isZero lo (n - j) (drop j xs) ≡ true
   unfolding setRight
   set-end h = rw (drop-of-length-le xs h)

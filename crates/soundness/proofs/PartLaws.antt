@@ -1,27 +1,28 @@
 -- Laws of the parts (specs/Parts), one for each way that a test of the code goes.
-use Prim.Native.Nat.{ℕ, zero, suc, _+_, _<_, _≤_, min}
+use Prim.Native.Nat.{ℕ, zero, suc, _+_, _<_, _≤_}
 use mathlib.Core.Path.{_≡_, refl, sym, ap, ap₂, subst, _∙_}
-use mathlib.Core.Logic.{_≢_, _⊎_, inl, inr}
+use mathlib.Core.Logic.{_≢_}
 use mathlib.Core.Bool.{Bool, true, false}
 use mathlib.Core.List.{List, [], _∷_, _++_, map}
 use lib.Dec.{eqb, ltb, leb}
-use lib.ListN.{length, take, drop, getD, length-append, length-take, length-map, List·getD-map}
-use lib.Seq.{take-all, getD-take}
+use lib.ListN.{length, take, drop, getD, length-append, length-map, List·getD-map}
+use lib.Seq.{take-all}
 use native.Mathlib.Nat.{zero-lt-suc}
 use native.Mathlib.Omega.{arith}
 use borrow.Author.Tests.{lt-ltb, le-ltb, le-leb, lt-leb, eq-eqb, ne-eqb}
-use Rattle.model.specs.declared.Read.{Read}
 use Rattle.model.specs.declared.Live.{Live}
 use Rattle.model.specs.declared.Entry.{Entry}
 use Rattle.model.specs.Lists.{_and_, _or_, all, count, ascending}
 use Rattle.model.specs.Limits.{keys}
-use Rattle.model.specs.Ids.{sameId, noId}
-use Rattle.model.specs.Lives.{readsOf, writeKey, readKey, slotMark, liveBeyond}
-use Rattle.model.specs.Entries.{keysOf, entryRules, isNoEntry, entryBeyond}
+use Rattle.model.specs.Ids.{sameId}
+use Rattle.model.specs.Lives.{noRead, readsOf, writeKey, readKey, slotMark, liveBeyond}
+use Rattle.model.specs.Entries.{entryBeyond}
+use Rattle.model.proofs.Tests.{and-assoc}
+use Rattle.model.proofs.InsideLaws.{read-nth, right-none, right-some}
 use Rattle.model.specs.Sound.{isNoWrite, isNoRead, entryRight}
 use Rattle.soundness.specs.Parts.{fits, setRight, keysRight, writesRight, readsRight, liveColumn, heldColumn, txnColumn, markColumn, slotIn}
 use Rattle.soundness.specs.Parts.{shape, isNamed, namedBy, placeFits, slotFree}
-use Rattle.soundness.proofs.Loops.{all-more, all-stop, all-end, all-split}
+use Rattle.model.proofs.RestLaws.{all-more, all-stop, all-end, all-split}
 
 -- ── sets within their limits ──
 module _ (l : Live) (n : ℕ) where
@@ -55,49 +56,26 @@ module _ (ts : List ℕ) (m : ℕ) where
   unfolding slotFree _or_ _and_
   free-is n h = rw (ne-eqb m 0 n, le-leb m 64 h)
 
--- ── keys and reads of a set are those of its array ──
-module _ (e : Entry) (j : ℕ) where
-  pub key-at : j < e .count → getD (keysOf e) j 0 ≡ getD (e .keys) j 0
-  unfolding keysOf
-  key-at h = getD-take (e .count) (e .keys) j 0 h
-
-  pub keys-longer : length (e .keys) ≡ 8 → j < 8 → j < e .count → j < length (keysOf e)
-  unfolding keysOf
-  keys-longer l h k = omega (arith, length-take (e .count) (e .keys))
-
-  pub keys-shorter : length (e .keys) ≡ 8 → (8 ≤ j) ⊎ (e .count ≤ j) → length (keysOf e) ≤ j
-  unfolding keysOf
-  keys-shorter l (inl h) = omega (arith, length-take (e .count) (e .keys))
-  keys-shorter l (inr h) = omega (arith, length-take (e .count) (e .keys))
-
-pub reads-count : (l : Live) → length (l .reads) ≡ 16 → length (readsOf l) ≡ min (l .«read_count») 16
-unfolding readsOf
-reads-count l h = length-take (l .«read_count») (l .reads) ∙ ap (min (l .«read_count»)) h
-
-pub read-at : (l : Live) (j : ℕ) (d : Read) → j < length (readsOf l) → getD (readsOf l) j d ≡ getD (l .reads) j d
-unfolding readsOf
-read-at l j d h = getD-take (l .«read_count») (l .reads) j d (omega (arith, length-take (l .«read_count») (l .reads)))
-
 -- ── named reads: the rest of a place's reads from place j on, and the places after it ──
 module _ (es : List Entry) (ts : List ℕ) (l : Live) (j : ℕ) (rest whole : Bool) (v : whole ≡ (all (namedBy es ts) (drop j (readsOf l)) and rest)) where
-  module _ (d : ℕ) (e : d ≡ slotIn ts (getD (l .reads) j (record { key = 0; id = noId }) .id .txn)) (o : j < length (readsOf l)) where
-    named-is : d ≤ 63 → namedBy es ts (getD (readsOf l) j (record { key = 0; id = noId })) ≡ isNamed (getD es d entryBeyond) (getD (l .reads) j (record { key = 0; id = noId }))
+  module _ (d : ℕ) (e : d ≡ slotIn ts (getD (l .reads) j noRead .id .txn)) (o : j < length (readsOf l)) where
+    named-is : d ≤ 63 → namedBy es ts (getD (readsOf l) j noRead) ≡ isNamed (getD es d entryBeyond) (getD (l .reads) j noRead)
     unfolding namedBy _and_
-    named-is h = rw (read-at l j (record { key = 0; id = noId }) o, ← e, lt-ltb d 64 (omega arith))
+    named-is h = rw (read-nth l j noRead o, ← e, lt-ltb d 64 (omega arith))
 
     pub unnamed : 63 < d → whole ≡ false
     unfolding namedBy _and_
     unnamed h =
-        let q : namedBy es ts (getD (readsOf l) j (record { key = 0; id = noId })) ≡ false = rw (read-at l j (record { key = 0; id = noId }) o, ← e, le-ltb d 64 (omega arith)) in
-        v ∙ rw (all-stop (namedBy es ts) (readsOf l) j (record { key = 0; id = noId }) o q)
+        let q : namedBy es ts (getD (readsOf l) j noRead) ≡ false = rw (read-nth l j noRead o, ← e, le-ltb d 64 (omega arith)) in
+        v ∙ rw (all-stop (namedBy es ts) (readsOf l) j noRead o q)
 
-    pub named-stop : d ≤ 63 → isNamed (getD es d entryBeyond) (getD (l .reads) j (record { key = 0; id = noId })) ≡ false → whole ≡ false
+    pub named-stop : d ≤ 63 → isNamed (getD es d entryBeyond) (getD (l .reads) j noRead) ≡ false → whole ≡ false
     unfolding _and_
-    named-stop h n = v ∙ rw (all-stop (namedBy es ts) (readsOf l) j (record { key = 0; id = noId }) o (named-is h ∙ n))
+    named-stop h n = v ∙ rw (all-stop (namedBy es ts) (readsOf l) j noRead o (named-is h ∙ n))
 
-    pub named-more : d ≤ 63 → isNamed (getD es d entryBeyond) (getD (l .reads) j (record { key = 0; id = noId })) ≡ true
+    pub named-more : d ≤ 63 → isNamed (getD es d entryBeyond) (getD (l .reads) j noRead) ≡ true
         → whole ≡ (all (namedBy es ts) (drop (j + 1) (readsOf l)) and rest)
-    named-more h n = v ∙ rw (all-more (namedBy es ts) (readsOf l) j (record { key = 0; id = noId }) o (named-is h ∙ n))
+    named-more h n = v ∙ rw (all-more (namedBy es ts) (readsOf l) j noRead o (named-is h ∙ n))
 
   pub named-end : length (readsOf l) ≤ j → whole ≡ rest
   unfolding _and_
@@ -141,11 +119,6 @@ txn-column-end xs ys ls es i d hx hl he hi hd el ei e =
     ∙ ap₂ (λ (a b : List ℕ). a ++ b) (subst (λ (k : ℕ). take k ys ≡ take k (liveColumn ls)) ei el ∙ take-all 8 (liveColumn ls) (omega (arith, length-map ls (λ (l : Live). l .txn)))) (take-all d (heldColumn es) (omega (arith, length-map es (λ (x : Entry). x .id .txn))))
 
 -- ── a set is right: model's two tests of it ──
-and-assoc : (a b c : Bool) → (a and (b and c)) ≡ (a and b and c)
-unfolding _and_
-and-assoc true b c = refl
-and-assoc false b c = refl
-
 module _ {A : Type 0} (key : A → ℕ) (isZero : A → Bool) where
   all-cons-is : (x : A) (xs : List A) → all isZero (x ∷ xs) ≡ (isZero x and all isZero xs)
   all-cons-is x xs = all-split isZero (x ∷ xs) 0 x (zero-lt-suc _)
@@ -173,37 +146,13 @@ map-same : (ks : List ℕ) → map (λ (k : ℕ). k) ks ≡ ks
 map-same [] = refl
 map-same (k ∷ ks) = ap (λ (r : List ℕ). k ∷ r) (map-same ks)
 
-none-left : (x k : Bool) → ((x and true and k) or false) ≡ (x and k)
-unfolding _and_ _or_
-none-left true true = refl
-none-left true false = refl
-none-left false k = refl
-
-none-right : (x k r : Bool) → ((x and false and k) or r) ≡ r
-unfolding _and_ _or_
-none-right true k r = refl
-none-right false k r = refl
-
 module _ (e : Entry) where
   pub entry-none : e .count ≡ 0 → entryRight e ≡ (eqb (e .id .clock) 0 and eqb (e .id .txn) 0 and all (eqb 0) (e .keys))
-  unfolding entryRight isNoEntry sameId entryRules _and_
-  entry-none h =
-      let r : entryRules e ≡ false = rw (lt-leb 1 (e .count) (omega arith)) in
-      ap₂ (λ (y z : Bool). (sameId (e .id) noId and y and all (eqb 0) (e .keys)) or z) (eq-eqb (e .count) 0 h) r ∙ none-left (sameId (e .id) noId) (all (eqb 0) (e .keys))
-
-  rules-is : leb 1 (e .count) ≡ true → entryRules e ≡ (leb (e .count) 8 and leb 1 (e .id .txn) and leb 1 (e .id .clock) and keysRight (e .count) (e .keys))
-  unfolding entryRules keysOf _and_
-  rules-is q =
-      let zeros : Bool = all (eqb 0) (drop (e .count) (e .keys)) in
-      let front : Bool = leb (e .count) 8 and leb 1 (e .id .txn) and leb 1 (e .id .clock) in
-      let asc : Bool = ascending 0 keys (take (e .count) (e .keys)) in
-      ap (λ (y : Bool). y and leb (e .count) 8 and leb 1 (e .id .txn) and leb 1 (e .id .clock) and asc and zeros) q
-      ∙ sym (and-assoc front asc zeros)
-      ∙ ap (λ (b : Bool). front and b) (sym (set-is (λ (k : ℕ). k) (eqb 0) 0 (e .count) (e .keys) ∙ ap (λ (ks : List ℕ). ascending 0 keys ks and zeros) (map-same (take (e .count) (e .keys)))))
+  unfolding sameId
+  entry-none h = right-none e h
 
   pub entry-some : e .count ≢ 0 → entryRight e ≡ (leb (e .count) 8 and leb 1 (e .id .txn) and leb 1 (e .id .clock) and keysRight (e .count) (e .keys))
-  unfolding entryRight isNoEntry
   entry-some h =
-      ap (λ (y : Bool). (sameId (e .id) noId and y and all (eqb 0) (e .keys)) or entryRules e) (ne-eqb (e .count) 0 h)
-      ∙ none-right (sameId (e .id) noId) (all (eqb 0) (e .keys)) (entryRules e)
-      ∙ rules-is (le-leb 1 (e .count) (omega (arith, h)))
+      right-some e h
+      ∙ ap (λ (b : Bool). leb (e .count) 8 and leb 1 (e .id .txn) and leb 1 (e .id .clock) and b)
+      (sym (set-is (λ (k : ℕ). k) (eqb 0) 0 (e .count) (e .keys) ∙ ap (λ (ks : List ℕ). ascending 0 keys ks and all (eqb 0) (drop (e .count) (e .keys))) (map-same (take (e .count) (e .keys)))))

@@ -439,7 +439,8 @@ fn named(e: Entry, read: Read) -> bool
 }
 
 fn read_count(l: Live) -> usize
-    ensures { λ r. ⌜ (r ≡ length (readsOf l)) × (r ≤ readLimit) ⌝ }
+    ensures { λ r. ⌜ r ≤ readLimit ⌝ }
+    ensures { λ r. ⌜ r ≡ length (readsOf l) ⌝ }
 {
     let n = l.read_count;
     if n < Station::READS_U8 {

@@ -6,7 +6,7 @@ use native.Mathlib.Omega.{arith}
 use borrow.Author.Needs.{needs}
 use Rattle.model.specs.Limits.{writeLimit}
 use Rattle.model.specs.Lists.{same}
-use Rattle.records.proofs.ListSteps.{same-next, same-not, same-end}
+use Rattle.model.proofs.RestLaws.{same-next, same-not, same-end}
 use Rattle.records.proofs.same_keys.Statement.{statement}
 use Rattle.records.proofs.same_keys.Tie as tie
 

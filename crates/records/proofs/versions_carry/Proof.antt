@@ -1,7 +1,6 @@
 -- `records::versions_carry` meets its contract.
 use Prim.Native.Nat.{ℕ, _+_, _*_, _-_, _≤_}
 use mathlib.Core.Path.{_≡_, refl, sym, ap, _∙_}
-use mathlib.Core.Bool.{true, false}
 use mathlib.Core.List.{List}
 use lib.ListN.{length, take, drop, getD}
 use native.Mathlib.Omega.{arith}
@@ -51,17 +50,30 @@ array-read-carries-version c = search needs
 carries-version-requires : tie.Need-carries-version-requires Inv-loop μ-loop
 carries-version-requires c κs = part-length (c .before .before .before .before .before .before .before .args .w .now) (recordSize * (c .before .before .loop .n + 1)) recordSize (omega arith)
 
+-- ── the version record at hand ──
+abbrev start : tie.At-loop Inv-loop μ-loop → tie.Start Inv-loop μ-loop
+start l = l .before .before .before .before .before
+
+abbrev loop-of : tie.After-carries-version Inv-loop μ-loop → tie.At-loop Inv-loop μ-loop
+loop-of a = a .before .before .before
+
+long : (s : tie.Start Inv-loop μ-loop) → length (s .args .e .keys) ≡ 8
+long s = search needs
+
+carried :
+    (a : tie.After-carries-version Inv-loop μ-loop)
+    → carriesVersion (recordAt (start (loop-of a) .args .w .now) 0 (loop-of a .loop .n + 1)) (getD (start (loop-of a) .args .e .keys) (loop-of a .loop .n) 0) (start (loop-of a) .args .e .id) ≡ a .carries-version .result
+carried a =
+    let s = start (loop-of a) .args in
+    let n = loop-of a .loop .n in
+    ap (λ (r : List ℕ). carriesVersion r (getD (s .e .keys) n 0) (s .e .id)) (sym (part-record (s .w .now) n)) ∙ sym (a .carries-version .ensures)
+
 returns : tie.Need-returns Inv-loop μ-loop
 unfolding keysOf
 returns c =
-    let l = c .before .before .before .before in
-    let w = c .before .before .before .before .before .before .before .before .before .args .w .now in
-    let e = c .before .before .before .before .before .before .before .before .before .args .e in
-    let n = l .loop .n in
-    let h : length (e .keys) ≡ 8 = search needs in
-    let r = c .before .carries-version in
-    let x : carriesVersion (recordAt w 0 (n + 1)) (getD (e .keys) n 0) (e .id) ≡ false = ap (λ (s : List ℕ). carriesVersion s (getD (e .keys) n 0) (e .id)) (sym (part-record w n)) ∙ sym (r .ensures) ∙ not-true (r .result) (c .if1 .taken) in
-    sym (l .loop .inv .1 ∙ versions-not (recordAt w 0) (e .id) (e .keys) (e .count) n (omega arith) (omega arith) x)
+    let l = loop-of (c .before) in
+    let s = start l in
+    sym (l .loop .inv .1 ∙ versions-not (recordAt (s .args .w .now) 0) (s .args .e .id) (s .args .e .keys) (s .args .e .count) (l .loop .n) (omega arith) (omega (arith, long s)) (carried (c .before) ∙ not-true _ (c .if1 .taken)))
 
 add-n : tie.Need-add-n Inv-loop μ-loop
 add-n c = search needs
@@ -71,24 +83,16 @@ loop-less c = search needs
 
 loop-again : tie.Need-loop-again Inv-loop μ-loop
 loop-again c =
-    let l = c .before .before .before .before in
-    let w = c .before .before .before .before .before .before .before .before .before .args .w .now in
-    let e = c .before .before .before .before .before .before .before .before .before .args .e in
-    let n = l .loop .n in
-    let h : length (e .keys) ≡ 8 = search needs in
-    let r = c .before .carries-version in
-    let x : carriesVersion (recordAt w 0 (n + 1)) (getD (e .keys) n 0) (e .id) ≡ true = ap (λ (s : List ℕ). carriesVersion s (getD (e .keys) n 0) (e .id)) (sym (part-record w n)) ∙ sym (r .ensures) ∙ not-false (r .result) (c .if1 .left) in
-    (omega arith, l .loop .inv .1 ∙ versions-more (recordAt w 0) (e .id) (e .keys) (e .count) n (omega arith) (omega arith) x)
+    let l = loop-of (c .before) in
+    let s = start l in
+    (omega arith, l .loop .inv .1 ∙ versions-more (recordAt (s .args .w .now) 0) (s .args .e .id) (s .args .e .keys) (s .args .e .count) (l .loop .n) (omega arith) (omega (arith, long s)) (carried (c .before) ∙ not-false _ (c .if1 .left)))
 
 returns-2 : tie.Need-returns-2 Inv-loop μ-loop
 unfolding keysOf
 returns-2 c =
     let l = c .before in
-    let w = c .before .before .before .before .before .before .args .w .now in
-    let e = c .before .before .before .before .before .before .args .e in
-    let n = l .loop .n in
-    let h : length (e .keys) ≡ 8 = search needs in
-    sym (l .loop .inv .1 ∙ versions-end (recordAt w 0) (e .id) (e .keys) (e .count) n (omega arith))
+    let s = start l in
+    sym (l .loop .inv .1 ∙ versions-end (recordAt (s .args .w .now) 0) (s .args .e .id) (s .args .e .keys) (s .args .e .count) (l .loop .n) (omega arith))
 
 pub versions-carry-spec : {M : Type 1} → statement M
 versions-carry-spec =

@@ -1,18 +1,17 @@
 -- `records::write_keys` meets its contract.
-use Prim.Native.Nat.{ℕ, _-_, _≤_}
-use mathlib.Core.Path.{_≡_, refl, sym, ap, _∙_}
-use mathlib.Core.List.{List, _++_, append-nil}
-use lib.ListN.{length, take, drop, length-set, drop-of-length-le}
-use lib.Seq.{take-all}
+use Prim.Native.Nat.{_-_, _≤_}
+use mathlib.Core.Path.{_≡_, refl}
+use lib.ListN.{length, drop, drop-of-length-le}
 use native.Mathlib.Omega.{arith}
 use borrow.Author.Needs.{needs}
 use Rattle.model.specs.Limits.{writeLimit}
-use Rattle.records.proofs.ListSteps.{copied-more}
+use Rattle.model.proofs.RestLaws.{rest-next}
+use Rattle.records.proofs.WriteLoop.{Written, written-more, written-all}
 use Rattle.records.proofs.write_keys.Statement.{statement}
 use Rattle.records.proofs.write_keys.Tie as tie
 
 abbrev Inv-loop : tie.InvT-loop
-Inv-loop part₀ ks i₀ part i = (i ≤ writeLimit) × (length part ≡ length part₀) × (take i part ++ drop i ks ≡ ks)
+Inv-loop part₀ ks i₀ part i = Written writeLimit part₀ ks i part (drop i ks)
 
 abbrev μ-loop : tie.MeasureT-loop
 μ-loop part₀ ks i₀ part i = writeLimit - i
@@ -35,13 +34,9 @@ loop-less c = search needs
 loop-again : tie.Need-loop-again Inv-loop μ-loop
 loop-again c =
     let l = c .before in
-    let i = l .loop .i in
-    let ks = c .before .before .args .t2 in
-    let h : length ks ≡ 8 = search needs in (
-      omega arith,
-      length-set (l .loop .part) i _ ∙ l .loop .inv .1,
-      copied-more (l .loop .part) ks i (omega arith) (omega arith) ∙ l .loop .inv .2,
-    )
+    let ks = l .before .args .t2 in
+    let h : length ks ≡ 8 = search needs in
+    written-more writeLimit (l .before .args .part .now) ks (l .loop .i) (l .loop .part) _ (l .loop .inv) _ _ (omega arith) (omega arith) (rest-next ks (l .loop .i) 0 (omega arith))
 
 same-length : tie.Need-same-length Inv-loop μ-loop
 same-length c = omega arith
@@ -49,10 +44,10 @@ same-length c = omega arith
 returns : tie.Need-returns Inv-loop μ-loop
 returns c =
     let l = c .before in
-    let ks = c .before .before .args .t2 in
+    let ks = l .before .args .t2 in
     let h : length ks ≡ 8 = search needs in
     let z : length ks ≤ l .loop .i = omega arith in
-    sym (take-all (l .loop .i) (l .loop .part) (omega arith)) ∙ sym (append-nil _) ∙ ap (λ (r : List ℕ). take (l .loop .i) (l .loop .part) ++ r) (sym (drop-of-length-le ks z)) ∙ l .loop .inv .2
+    written-all writeLimit (l .before .args .part .now) ks (l .loop .i) (l .loop .part) _ (l .loop .inv) (omega arith) (drop-of-length-le ks z)
 
 pub write-keys-spec : {M : Type 1} → statement M
 write-keys-spec =

@@ -1,17 +1,16 @@
 -- `records::write_number` meets its contract.
-use Prim.Native.Nat.{ℕ, _-_, _≤_}
-use mathlib.Core.Path.{_≡_, refl, sym, ap, _∙_}
-use mathlib.Core.List.{_++_, append-nil}
-use lib.ListN.{length, take, length-set}
-use lib.Seq.{take-all}
+use Prim.Native.Nat.{ℕ, _-_}
+use mathlib.Core.Path.{_≡_, refl, ap}
+use lib.ListN.{length}
 use native.Mathlib.Omega.{arith}
 use Rattle.model.specs.Bytes.{bytes}
-use Rattle.records.proofs.ByteLaws.{bytes-more}
+use Rattle.records.proofs.ByteLaws.{bytes-next, bytes-end}
+use Rattle.records.proofs.WriteLoop.{Written, written-more, written-all}
 use Rattle.records.proofs.write_number.Statement.{statement}
 use Rattle.records.proofs.write_number.Tie as tie
 
 abbrev Inv-loop : tie.InvT-loop
-Inv-loop part₀ x rest₀ i₀ part rest i = (i ≤ length part₀) × (length part ≡ length part₀) × (take i part ++ bytes (length part₀ - i) rest ≡ bytes (length part₀) x)
+Inv-loop part₀ x rest₀ i₀ part rest i = Written (length part₀) part₀ (bytes (length part₀) x) i part (bytes (length part₀ - i) rest)
 
 abbrev μ-loop : tie.MeasureT-loop
 μ-loop part₀ x rest₀ i₀ part rest i = length part₀ - i
@@ -37,22 +36,17 @@ loop-less c = omega arith
 loop-again : tie.Need-loop-again Inv-loop μ-loop
 loop-again c =
     let l = c .before in
-    let i = l .loop .i in (
-      omega arith,
-      length-set (l .loop .part) i _ ∙ l .loop .inv .1,
-      bytes-more (l .loop .part) i (length (c .before .before .args .part .now)) (l .loop .rest) (omega arith) (omega arith) ∙ l .loop .inv .2,
-    )
+    let n = length (l .before .args .part .now) in
+    written-more n (l .before .args .part .now) (bytes n (l .before .args .x)) (l .loop .i) (l .loop .part) _ (l .loop .inv) _ _ (omega arith) (omega arith) (bytes-next (l .loop .i) n (l .loop .rest) (omega arith))
 
 same-length : tie.Need-same-length Inv-loop μ-loop
 same-length c = omega arith
 
 returns : tie.Need-returns Inv-loop μ-loop
-unfolding bytes
 returns c =
     let l = c .before in
-    let n = length (c .before .before .args .part .now) in
-    let z : n - l .loop .i ≡ 0 = omega arith in
-    sym (take-all (l .loop .i) (l .loop .part) (omega arith)) ∙ sym (append-nil _) ∙ ap (λ (k : ℕ). take (l .loop .i) (l .loop .part) ++ bytes k (l .loop .rest)) (sym z) ∙ l .loop .inv .2
+    let n = length (l .before .args .part .now) in
+    written-all n (l .before .args .part .now) (bytes n (l .before .args .x)) (l .loop .i) (l .loop .part) _ (l .loop .inv) (omega arith) (bytes-end (l .loop .i) n (l .loop .rest) (omega arith))
 
 pub write-number-spec : {M : Type 1} → statement M
 write-number-spec =

@@ -1,19 +1,18 @@
 -- `records::write_zero` meets its contract.
-use Prim.Native.Nat.{ℕ, _-_, _≤_}
-use mathlib.Core.Path.{_≡_, refl, sym, ap, _∙_}
-use mathlib.Core.List.{_++_, append-nil}
-use lib.ListN.{length, take, replicate, length-set}
-use lib.Seq.{take-all}
+use Prim.Native.Nat.{ℕ, _-_}
+use mathlib.Core.Path.{_≡_, refl, ap}
+use lib.ListN.{replicate}
 use native.Mathlib.Omega.{arith}
 use borrow.Author.Needs.{needs}
 use Rattle.model.specs.Limits.{recordSize}
 use Rattle.model.specs.Records.{zeroRecord}
-use Rattle.records.proofs.ListSteps.{cleared-more}
+use Rattle.records.proofs.ListSteps.{zeros-left}
+use Rattle.records.proofs.WriteLoop.{Written, written-more, written-all}
 use Rattle.records.proofs.write_zero.Statement.{statement}
 use Rattle.records.proofs.write_zero.Tie as tie
 
 abbrev Inv-loop : tie.InvT-loop
-Inv-loop part₀ i₀ part i = (i ≤ recordSize) × (length part ≡ length part₀) × (take i part ++ replicate (recordSize - i) 0 ≡ zeroRecord)
+Inv-loop part₀ i₀ part i = Written recordSize part₀ zeroRecord i part (replicate (recordSize - i) 0)
 
 abbrev μ-loop : tie.MeasureT-loop
 μ-loop part₀ i₀ part i = recordSize - i
@@ -34,11 +33,7 @@ loop-less c = search needs
 loop-again : tie.Need-loop-again Inv-loop μ-loop
 loop-again c =
     let l = c .before in
-    let i = l .loop .i in (
-      omega arith,
-      length-set (l .loop .part) i _ ∙ l .loop .inv .1,
-      cleared-more (l .loop .part) i recordSize (omega arith) (omega arith) ∙ l .loop .inv .2,
-    )
+    written-more recordSize (l .before .args .part .now) zeroRecord (l .loop .i) (l .loop .part) _ (l .loop .inv) 0 _ (omega arith) (omega arith) (zeros-left (l .loop .i) recordSize (omega arith))
 
 same-length : tie.Need-same-length Inv-loop μ-loop
 same-length c = omega arith
@@ -47,7 +42,7 @@ returns : tie.Need-returns Inv-loop μ-loop
 returns c =
     let l = c .before in
     let z : recordSize - l .loop .i ≡ 0 = omega arith in
-    sym (take-all (l .loop .i) (l .loop .part) (omega arith)) ∙ sym (append-nil _) ∙ ap (λ (k : ℕ). take (l .loop .i) (l .loop .part) ++ replicate k 0) (sym z) ∙ l .loop .inv .2
+    written-all recordSize (l .before .args .part .now) zeroRecord (l .loop .i) (l .loop .part) _ (l .loop .inv) (omega arith) (ap (λ (k : ℕ). replicate k 0) z)
 
 pub write-zero-spec : {M : Type 1} → statement M
 write-zero-spec =

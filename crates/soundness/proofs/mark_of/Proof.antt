@@ -1,6 +1,6 @@
-use native.Mathlib.Numerals.{add-one}
+use mathlib.Core.Path.{refl}
 use borrow.Author.Needs.{needs}
-use Rattle.model.specs.Lives.{slotMark}
+use Rattle.model.proofs.InsideLaws.{mark-unused, mark-open, mark-closing}
 use Rattle.soundness.proofs.mark_of.Statement.{statement}
 use Rattle.soundness.proofs.mark_of.Tie as tie
 
@@ -20,16 +20,13 @@ add-result : tie.Need-add-result
 add-result c = search needs
 
 returns : tie.Need-returns
-unfolding slotMark
-returns c = rw (c .enum-told .given .1)
+returns c = mark-unused _ (c .enum-told .given .1)
 
 returns-2 : tie.Need-returns-2
-unfolding slotMark
-returns-2 c = rw (c .enum-told2 .given .1)
+returns-2 c = mark-open _ (c .enum-told2 .given .1)
 
 returns-3 : tie.Need-returns-3
-unfolding slotMark
-returns-3 c = rw (c .before .p .given .1) (add-one _)
+returns-3 c = mark-closing _ _ _ _ _ (c .before .p .given .1) refl
 
 pub mark-of-spec : {M : Type 1} → statement M
 mark-of-spec =

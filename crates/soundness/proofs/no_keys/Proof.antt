@@ -1,23 +1,25 @@
-use Prim.Native.Nat.{_-_, _≤_}
-use mathlib.Core.Path.{_≡_, refl, sym, _∙_}
+use Prim.Native.Nat.{_-_}
+use mathlib.Core.Path.{_≡_, sym}
 use native.Mathlib.Omega.{arith}
 use lib.Dec.{eqb}
-use lib.ListN.{length, drop, getD}
+use lib.ListN.{length, getD}
 use borrow.Author.Needs.{needs}
 use borrow.Author.Tests.{eq-eqb, ne-eqb}
-use Rattle.model.specs.Lists.{all}
-use Rattle.soundness.proofs.Loops.{all-more, all-stop, all-end}
+use Rattle.soundness.proofs.AllLoop.{AllPassed, all-start, all-wrong, all-next, all-done}
 use Rattle.soundness.proofs.no_keys.Statement.{statement}
 use Rattle.soundness.proofs.no_keys.Tie as tie
 
 abbrev Inv-loop : tie.InvT-loop
-Inv-loop keys j₀ j = (j ≤ 8) × (all (eqb 0) keys ≡ all (eqb 0) (drop j keys))
+Inv-loop keys j₀ j = AllPassed (eqb 0) keys 8 j
 
 abbrev μ-loop : tie.MeasureT-loop
 μ-loop keys j₀ j = 8 - j
 
+long : (s : tie.Start Inv-loop μ-loop) → length (s .args .t1) ≡ 8
+long s = search needs
+
 loop-holds : tie.Need-loop-holds Inv-loop μ-loop
-loop-holds c = (omega arith, refl)
+loop-holds c = all-start (eqb 0) (c .args .t1) 8
 
 array-read-if1 : tie.Need-array-read-if1 Inv-loop μ-loop
 array-read-if1 c = search needs
@@ -25,9 +27,7 @@ array-read-if1 c = search needs
 returns : tie.Need-returns Inv-loop μ-loop
 returns c =
     let l = c .before .before in
-    let ks = l .before .args .t1 in
-    let h : length ks ≡ 8 = search needs in
-    sym (l .loop .inv .1 ∙ all-stop (eqb 0) ks (l .loop .j) 0 (omega arith) (ne-eqb 0 (getD ks (l .loop .j) 0) (λ e. c .if1 .taken (sym e))))
+    sym (all-wrong (eqb 0) (l .before .args .t1) 8 (long (l .before)) (l .loop .j) (l .loop .inv) 0 (omega arith) (ne-eqb 0 (getD (l .before .args .t1) (l .loop .j) 0) (λ e. c .if1 .taken (sym e))))
 
 add-j : tie.Need-add-j Inv-loop μ-loop
 add-j c = search needs
@@ -38,16 +38,10 @@ loop-less c = search needs
 loop-again : tie.Need-loop-again Inv-loop μ-loop
 loop-again c =
     let l = c .before .before in
-    let ks = l .before .args .t1 in
-    let h : length ks ≡ 8 = search needs in
-    (omega arith, l .loop .inv .1 ∙ all-more (eqb 0) ks (l .loop .j) 0 (omega arith) (eq-eqb 0 (getD ks (l .loop .j) 0) (sym (c .if1 .left))))
+    all-next (eqb 0) (l .before .args .t1) 8 (long (l .before)) (l .loop .j) (l .loop .inv) 0 (omega arith) (eq-eqb 0 (getD (l .before .args .t1) (l .loop .j) 0) (sym (c .if1 .left)))
 
 returns-2 : tie.Need-returns-2 Inv-loop μ-loop
-returns-2 c =
-    let l = c .before in
-    let ks = l .before .args .t1 in
-    let h : length ks ≡ 8 = search needs in
-    sym (l .loop .inv .1 ∙ all-end (eqb 0) ks (l .loop .j) (omega arith))
+returns-2 c = let l = c .before in sym (all-done (eqb 0) (l .before .args .t1) 8 (long (l .before)) (l .loop .j) (l .loop .inv) (omega arith))
 
 pub no-keys-spec : {M : Type 1} → statement M
 no-keys-spec =

@@ -7,7 +7,7 @@ use borrow.Author.Needs.{needs}
 use borrow.Author.Tests.{eq-eqb, ne-eqb}
 use Rattle.model.specs.Lists.{first}
 use Rattle.soundness.specs.Parts.{slotIn}
-use Rattle.soundness.proofs.Loops.{first-more, first-stop, first-end}
+use Rattle.model.proofs.RestLaws.{first-more, first-stop, first-end}
 use Rattle.soundness.proofs.slot_of.Statement.{statement}
 use Rattle.soundness.proofs.slot_of.Tie as tie
 

@@ -7,7 +7,7 @@ use lib.ListN.{length, drop, getD}
 use borrow.Author.Needs.{needs}
 use borrow.Author.Tests.{eq-eqb, ne-eqb}
 use Rattle.model.specs.Lists.{count}
-use Rattle.soundness.proofs.Loops.{count-more, count-less, count-end}
+use Rattle.model.proofs.RestLaws.{count-more, count-less, count-end}
 use Rattle.soundness.proofs.times.Statement.{statement}
 use Rattle.soundness.proofs.times.Tie as tie
 

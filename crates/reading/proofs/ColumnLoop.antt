@@ -1,0 +1,23 @@
+-- The loop that fills a column of the entries, whatever it has of each.
+use Prim.Native.Nat.{ℕ, _+_, _<_, _≤_}
+use mathlib.Core.Path.{_≡_, refl}
+use mathlib.Core.List.{List}
+use lib.ListN.{replicate, set}
+use Rattle.model.specs.declared.Entry.{Entry}
+use Rattle.model.specs.Limits.{slots}
+use Rattle.reading.specs.Columns.{nthEntry, Column}
+use Rattle.reading.proofs.Loops.{Filled, filled-start, filled-more, filled-all}
+
+module _ {A : Type 0} (f : Entry → A) (z : A) (es : List Entry) where
+  -- the first d rows have f of their entries
+  abbrev pub Rows : ℕ → List A → Type 0
+  Rows d xs = Filled (λ j. f (nthEntry es j)) z slots d xs
+
+  pub rows-start : Rows 0 (replicate slots z)
+  rows-start = filled-start (λ j. f (nthEntry es j)) z slots (replicate slots z) refl
+
+  pub rows-more : (d : ℕ) (x : A) (xs : List A) → Rows d xs → d < slots → x ≡ f (nthEntry es d) → Rows (d + 1) (set xs d x)
+  rows-more d x xs h o q = filled-more (λ j. f (nthEntry es j)) z x slots d xs h o q
+
+  pub rows-all : (d : ℕ) (xs : List A) → Rows d xs → slots ≤ d → Column f z es xs
+  rows-all d xs h o = filled-all (λ j. f (nthEntry es j)) z slots d xs h o
