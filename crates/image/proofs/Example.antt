@@ -10,8 +10,8 @@ use Rattle.model.specs.Lists.{_and_, same}
 use Rattle.model.specs.Bytes.{bytes, number, idIn}
 use Rattle.model.specs.Lives.{noWrite, noRead, closingSlot, closingClock, recordsStored}
 use Rattle.model.specs.Stations.{emptyStation}
-use Rattle.image.specs.Layout.{flat, parts, writeBytes, writeIn, startBytes, readBytes, readIn, entryBytes, entryIn, phaseMark, phaseOf, placeHead, phaseIn, placeSize, placesSize, imageSize}
-use Rattle.image.specs.Images.{placeBytes, placeIn, stationBytes, stationIn, isImage}
+use Rattle.image.specs.Layout.{flat, parts, fieldBytes, row, writeBytes, writeFrom, readBytes, readFrom, entryBytes, entryFrom, phaseNumber, phaseOf, phaseFrom, placeHead, placeSize, placesSize, imageSize}
+use Rattle.image.specs.Images.{placeBytes, placeFrom, stationBytes, stationIn, isImage}
 
 -- a transaction that is closing: slot 5, clock 3, one record stored; a write of value 300 and a read
 abbrev pub place : Live
@@ -31,16 +31,16 @@ bytes-of-place =
     ++ ((9 ∷ 0 ∷ 0 ∷ 0 ∷ 2 ∷ 0 ∷ 0 ∷ 0 ∷ 4 ∷ replicate 7 0) ++ replicate 240 0)
 
 pub place-written : placeBytes place ≡ bytes-of-place
-unfolding placeBytes placeHead startBytes phaseMark closingSlot closingClock recordsStored flat writeBytes readBytes bytes
+unfolding placeBytes placeHead row fieldBytes phaseNumber closingSlot closingClock recordsStored flat writeBytes readBytes bytes
 place-written = refl
 
-pub place-read : placeIn bytes-of-place ≡ place
-unfolding placeIn phaseIn phaseOf idIn number parts writeIn readIn
+pub place-read : placeFrom bytes-of-place ≡ place
+unfolding placeFrom phaseFrom phaseOf idIn number parts writeFrom readFrom
 place-read = refl
 
 -- an entry of two keys
 pub entry-written : entryBytes (record { id = record { clock = 256; txn = 9 }; count = 2; keys = 4 ∷ 63 ∷ replicate 6 0 }) ≡ 2 ∷ 0 ∷ 0 ∷ 0 ∷ 9 ∷ 0 ∷ 0 ∷ 0 ∷ 0 ∷ 1 ∷ replicate 6 0 ++ (4 ∷ 63 ∷ replicate 6 0)
-unfolding entryBytes startBytes bytes
+unfolding entryBytes row flat fieldBytes bytes
 entry-written = refl
 
 pub sizes : (placeSize ≡ 408) × (placesSize ≡ 3264) × (imageSize ≡ 4800)
@@ -48,12 +48,12 @@ sizes = (refl, refl, refl)
 
 -- the empty station's image is all zero
 pub empty-written : same (stationBytes emptyStation) (replicate imageSize 0) ≡ true
-unfolding stationBytes emptyStation placeBytes placeHead startBytes phaseMark closingSlot closingClock recordsStored flat writeBytes readBytes entryBytes bytes same
+unfolding stationBytes emptyStation placeBytes placeHead row fieldBytes phaseNumber closingSlot closingClock recordsStored flat writeBytes readBytes entryBytes bytes same
 empty-written = refl
 
 -- a first byte that is no phase; bytes that are one too few
 pub phase-three : isImage (3 ∷ replicate 4799 0) ≡ false
-unfolding isImage _and_ stationBytes stationIn placeBytes placeIn placeHead startBytes phaseMark phaseIn phaseOf closingSlot closingClock recordsStored flat parts writeBytes writeIn readBytes readIn entryBytes entryIn idIn number bytes same
+unfolding isImage _and_ stationBytes stationIn placeBytes placeFrom placeHead row fieldBytes phaseNumber phaseFrom phaseOf closingSlot closingClock recordsStored flat parts writeBytes writeFrom readBytes readFrom entryBytes entryFrom idIn number bytes same
 phase-three = refl
 
 pub one-short : isImage (replicate 4799 0) ≡ false

@@ -1,7 +1,7 @@
+pub mod Names
 pub mod PartLaws
-pub mod LayoutLaws
-pub mod ImageLaws
-pub mod WriteLaws
+pub mod RowLaws
+pub mod PlaceLaws
 pub mod Round
 pub mod Handed
 pub mod Example

@@ -1,18 +1,5 @@
--- Laws of parts that lie one after the other (specs/Layout): a loop that tests them, one that reads them, one that writes them.
-use Prim.Native.Nat.{ℕ, zero, suc, _+_, _*_, _-_, _<_, _≤_}
-use mathlib.Core.Path.{_≡_, refl, sym, ap, _∙_}
-use mathlib.Core.Bool.{Bool, true, false}
-use mathlib.Core.List.{List, [], _∷_, _++_, map, append-nil, append-assoc}
-use lib.Dec.{eqb}
-use lib.ListN.{length, take, drop, getD, replicate, set, length-drop, take-append-drop, drop-of-length-le}
-use lib.Seq.{take-all, take-suc-set, take-at, take-append-add, drop-cons, drop-drop, length-take-le}
-use native.Mathlib.Nat.{mul-zero, mul-suc, mul-one, suc-ne-zero}
-use native.Mathlib.Omega.{arith}
-use native.Mathlib.Numerals.{add-one}
-use borrow.Rule.Slice.PartMut.{putMid}
-use Rattle.model.specs.Lists.{_and_, all, same}
-use Rattle.model.proofs.RecordLaws.{same-refl}
-use Rattle.image.specs.Layout.{flat, parts}
+-- Parts of one size that lie one after the other (specs/Layout): a loop that tests them, one that reads them, one that writes them.
+use Rattle.image.proofs.Names.{ℕ, zero, suc, _+_, _*_, _-_, _<_, _≤_, _≡_, refl, sym, ap, _∙_, Bool, true, false, List, _∷_, _++_, map, [], append-nil, append-assoc, length, take, drop, getD, replicate, set, length-set, length-drop, length-replicate, drop-of-length-le, take-all, take-suc-set, take-at, drop-at, take-add, take-append-add, drop-cons, drop-drop, length-take-le, mul-zero, mul-suc, mul-one, mul-le-mul-left, add-comm, arith, add-one, midOf, putMid, mid-len, same-len-mid, all, bytes, flat, parts}
 
 -- ── where a part lies ──
 pub next-place : (k i : ℕ) → k * (i + 1) ≡ k * i + k
@@ -23,126 +10,158 @@ part-is b a k =
     let e : a + k - a ≡ k = omega arith in
     ap (λ (m : ℕ). take m (drop a b)) e
 
-pub parts-length : (k n : ℕ) (b : List ℕ) → length (parts k n b) ≡ n
-unfolding parts
-parts-length k zero b = refl
-parts-length k (suc n) b = ap suc (parts-length k n (drop k b))
-
 pub parts-next : (k n i : ℕ) (b : List ℕ) → i < n → parts k (n - i) (drop (k * i) b) ≡ take k (drop (k * i) b) ∷ parts k (n - (i + 1)) (drop (k * (i + 1)) b)
 unfolding parts
 parts-next k n i b o =
     let e : n - i ≡ suc (n - (i + 1)) = omega arith in
     rw (e, next-place k i) (ap (λ (x : List ℕ). take k (drop (k * i) b) ∷ parts k (n - (i + 1)) x) (drop-drop k (k * i) b))
 
+pub part-in : (k n i m : ℕ) → i < n → m ≡ k * n → k * i + k ≤ m
+part-in k n i m o e =
+    let h : i + 1 ≤ n = omega arith in
+    omega (arith, mul-le-mul-left k h, next-place k i)
+
+pub part-long : (b : List ℕ) (k n i : ℕ) → i < n → length b ≡ k * n → length (take (k * i + k - k * i) (drop (k * i) b)) ≡ k
+part-long b k n i o e = mid-len (k * i) (k * i + k) b (part-in k n i (length b) o e) ∙ omega arith
+
+-- the parts of what is just so long
+pub parts-take : (k n : ℕ) (b : List ℕ) → k * n ≤ length b → parts k n (take (k * n) b) ≡ parts k n b
+unfolding parts
+parts-take k zero b h = refl
+parts-take k (suc n) b h =
+    let t : length (take k b) ≡ k = length-take-le k b (omega (arith, mul-suc k n)) in
+    let e : take (k * suc n) b ≡ take k b ++ take (k * n) (drop k b) = ap (λ (m : ℕ). take m b) (mul-suc k n ∙ add-comm (k * n) k) ∙ take-add k (k * n) b in
+    rw (e, take-at (take k b) (take (k * n) (drop k b)) k t, drop-at (take k b) (take (k * n) (drop k b)) k t, parts-take k n (drop k b) (omega (arith, mul-suc k n, length-drop k b)))
+
+pub parts-length : (k n : ℕ) (b : List ℕ) → length (parts k n b) ≡ n
+unfolding parts
+parts-length k zero b = refl
+parts-length k (suc n) b = ap suc (parts-length k n (drop k b))
+
 -- ── tested one by one ──
-module _ (p : List ℕ → Bool) (k n i : ℕ) (b : List ℕ) where
-  pub test-next : i < n → p (take (k * i + k - k * i) (drop (k * i) b)) ≡ true → all p (parts k (n - i) (drop (k * i) b)) ≡ all p (parts k (n - (i + 1)) (drop (k * (i + 1)) b))
-  unfolding all
-  test-next o h = ap (all p) (parts-next k n i b o) ∙ (rw (sym (ap p (part-is b (k * i) k)) ∙ h, all))
+pub record Tested (p : List ℕ → Bool) (k n : ℕ) (b : List ℕ) (i : ℕ) : Type 0 where
+  pub within : i ≤ n
+  pub left : all p (parts k n b) ≡ all p (parts k (n - i) (drop (k * i) b))
 
-  pub test-stop : i < n → p (take (k * i + k - k * i) (drop (k * i) b)) ≡ false → all p (parts k (n - i) (drop (k * i) b)) ≡ false
-  unfolding all
-  test-stop o h = ap (all p) (parts-next k n i b o) ∙ (rw (sym (ap p (part-is b (k * i) k)) ∙ h, all))
+pub test-start : (p : List ℕ → Bool) (k n : ℕ) (b : List ℕ) → Tested p k n b 0
+test-start p k n b =
+    let e : n - 0 ≡ n = omega arith in
+    record { within = omega arith; left = rw (mul-zero k, e) }
 
-  pub test-end : n ≤ i → all p (parts k (n - i) (drop (k * i) b)) ≡ true
+module _ {p : List ℕ → Bool} {k n : ℕ} {b : List ℕ} {i : ℕ} (t : Tested p k n b i) where
+  pub test-next : i < n → p (take (k * i + k - k * i) (drop (k * i) b)) ≡ true → Tested p k n b (i + 1)
+  unfolding all
+  test-next o h = record { within = omega arith; left = t .left ∙ ap (all p) (parts-next k n i b o) ∙ (rw (sym (ap p (part-is b (k * i) k)) ∙ h, all)) }
+
+  pub test-stop : i < n → p (take (k * i + k - k * i) (drop (k * i) b)) ≡ false → all p (parts k n b) ≡ false
+  unfolding all
+  test-stop o h = t .left ∙ ap (all p) (parts-next k n i b o) ∙ (rw (sym (ap p (part-is b (k * i) k)) ∙ h, all))
+
+  pub test-end : n ≤ i → all p (parts k n b) ≡ true
   unfolding all parts
   test-end h =
       let e : n - i ≡ 0 = omega arith in
-      rw e
+      t .left ∙ (rw e)
 
--- ── read one by one ──
-module _ {A : Type 0} (f : List ℕ → A) (k n : ℕ) (b : List ℕ) where
-  -- the elements of which the first i are read, and the parts that are left
-  abbrev pub Reads : List A → ℕ → Type 0
-  Reads xs i = (i ≤ n) × (length xs ≡ n) × (take i xs ++ map f (parts k (n - i) (drop (k * i) b)) ≡ map f (parts k n b))
+module _ {A : Type 0} where
+  -- ── read one by one ──
+  pub record Taken (g : List ℕ → A) (k n : ℕ) (b : List ℕ) (xs : List A) (i : ℕ) : Type 0 where
+    pub within : i ≤ n
+    pub long : length xs ≡ n
+    pub read : take i xs ++ map g (parts k (n - i) (drop (k * i) b)) ≡ map g (parts k n b)
 
-  pub reads-more : (xs : List A) (i : ℕ) (x : A) → i < n → length xs ≡ n → x ≡ f (take (k * i + k - k * i) (drop (k * i) b))
-      → take (i + 1) (set xs i x) ++ map f (parts k (n - (i + 1)) (drop (k * (i + 1)) b)) ≡ take i xs ++ map f (parts k (n - i) (drop (k * i) b))
-  reads-more xs i x o l h =
-      rw (parts-next k n i b o, sym (part-is b (k * i) k), sym h, add-one i, take-suc-set xs i x (omega arith), append-assoc)
-
-  pub reads-end : (xs : List A) (i : ℕ) → n ≤ i → length xs ≡ n → take i xs ++ map f (parts k (n - i) (drop (k * i) b)) ≡ map f (parts k n b) → xs ≡ map f (parts k n b)
+  -- all of them the first, as the loops begin
+  pub read-start : (g : List ℕ → A) (k n : ℕ) (b : List ℕ) (x : A) → x ≡ g (take k b) → Taken g k (suc n) b (replicate (suc n) x) 1
   unfolding parts
-  reads-end xs i o l h =
-      let e : n - i ≡ 0 = omega arith in
-      sym (take-all i xs (omega arith)) ∙ sym (append-nil _) ∙ ap (λ (m : ℕ). take i xs ++ map f (parts k m (drop (k * i) b))) (sym e) ∙ h
+  read-start g k n b x h =
+      let e : suc n - 1 ≡ n = omega arith in
+      record { within = omega arith; long = length-replicate (suc n) x; read = rw (h, mul-one k, e) }
 
--- all of them the first, as the loops begin
-pub reads-start : {A : Type 0} (f : List ℕ → A) (k n : ℕ) (b : List ℕ) (x : A) → x ≡ f (take k b) → take 1 (replicate (suc n) x) ++ map f (parts k n (drop (k * 1) b)) ≡ map f (parts k (suc n) b)
-unfolding parts
-reads-start f k n b x h = rw (h, mul-one k)
+  module _ {g : List ℕ → A} {k n : ℕ} {b : List ℕ} {xs : List A} {i : ℕ} (t : Taken g k n b xs i) where
+    pub read-next : (x : A) → i < n → x ≡ g (take (k * i + k - k * i) (drop (k * i) b)) → Taken g k n b (set xs i x) (i + 1)
+    read-next x o h = record {
+      within = omega arith;
+      long = length-set xs i x ∙ t .long;
+      read = (rw (sym (t .read), parts-next k n i b o, sym (part-is b (k * i) k), sym h, add-one i, take-suc-set xs i x (omega (arith, t .long)), append-assoc));
+    }
 
--- ── written one by one ──
+    pub read-end : n ≤ i → xs ≡ map g (parts k n b)
+    unfolding parts
+    read-end o =
+        let e : n - i ≡ 0 = omega arith in
+        sym (take-all i xs (omega (arith, t .long))) ∙ sym (append-nil _) ∙ ap (λ (m : ℕ). take i xs ++ map g (parts k m (drop (k * i) b))) (sym e) ∙ t .read
+
+-- ── written over a part ──
+pub put-at : (w y : List ℕ) (a k : ℕ) → a + k ≤ length w → length y ≡ k → take (a + k) (putMid a k w y) ≡ take a w ++ y
+put-at w y a k h l =
+    let t : length (take a w) ≡ a = length-take-le a w (omega arith) in
+    ap (λ (m : ℕ). take m (putMid a k w y)) (sym (ap (λ (m : ℕ). m + k) t))
+    ∙ take-append-add (take a w) (y ++ drop k (drop a w)) k
+    ∙ ap (λ (x : List ℕ). take a w ++ x) (take-at y (drop k (drop a w)) k l)
+
 pub put-front : (w y : List ℕ) (a k : ℕ) → a + k ≤ length w → length y ≡ k → take (a + k) (putMid a (a + k - a) w y) ≡ take a w ++ y
 put-front w y a k h l =
-    let t : length (take a w) ≡ a = length-take-le a w (omega arith) in
-    ap (λ (m : ℕ). take m (putMid a (a + k - a) w y)) (sym (ap (λ (m : ℕ). m + k) t))
-    ∙ take-append-add (take a w) (y ++ drop (a + k - a) (drop a w)) k
-    ∙ ap (λ (x : List ℕ). take a w ++ x) (take-at y (drop (a + k - a) (drop a w)) k l)
+    let e : a + k - a ≡ k = omega arith in
+    ap (λ (m : ℕ). take (a + k) (putMid a m w y)) e ∙ put-at w y a k h l
 
-module _ {A : Type 0} (f : A → List ℕ) (k : ℕ) (xs : List A) (w : List ℕ) (i : ℕ) where
-  pub writes-more : (y : List ℕ) (d : A) → i < length xs → k * i + k ≤ length w → length y ≡ k → y ≡ f (getD xs i d)
-      → take (k * (i + 1)) (putMid (k * i) (k * i + k - k * i) w y) ++ flat f (drop (i + 1) xs) ≡ take (k * i) w ++ flat f (drop i xs)
-  unfolding flat
-  writes-more y d o h l e =
-      rw (next-place k i, put-front w y (k * i) k h l, add-one i, drop-cons xs i d o, append-assoc, e)
+mid-long : (s : List ℕ) (a k : ℕ) → a + k ≤ length s → length (midOf a k s) ≡ k
+mid-long s a k h =
+    let e : a + k - a ≡ k = omega arith in
+    ap (λ (m : ℕ). length (midOf a m s)) (sym e) ∙ mid-len a (a + k) s h ∙ e
 
-  pub writes-end : length xs ≤ i → length w ≤ k * i → take (k * i) w ++ flat f (drop i xs) ≡ flat f xs → w ≡ flat f xs
-  unfolding flat
-  writes-end o l h = sym (take-all (k * i) w l) ∙ sym (append-nil _) ∙ ap (λ (x : List A). take (k * i) w ++ flat f x) (sym (drop-of-length-le xs o)) ∙ h
+-- a number over a part of k bytes
+pub number-written : (s y : List ℕ) (a k x : ℕ) → a + k ≤ length s → y ≡ bytes (length (midOf a k s)) x → y ≡ bytes k x
+number-written s y a k x h e = e ∙ ap (λ (n : ℕ). bytes n x) (mid-long s a k h)
 
--- ── the same bytes, part by part ──
-all-and : {A : Type 0} (p : A → Bool) (x : A) (xs : List A) → all p (x ∷ xs) ≡ (p x and all p xs)
-unfolding all _and_
-all-and p x xs = go (p x) refl
-  where
-    go : (t : Bool) → p x ≡ t → all p (x ∷ xs) ≡ (p x and all p xs)
-    go true e = rw (e, all)
-    go false e = rw (e, all)
+-- parts of any lengths, one after the other: a of n bytes are written, and the rest is still to be
+pub record Left (w : List ℕ) (a n : ℕ) (rest whole : List ℕ) : Type 0 where
+  pub long : length w ≡ n
+  pub left : take a w ++ rest ≡ whole
 
-pub same-append : (x y xs ys : List ℕ) → length x ≡ length y → same (x ++ xs) (y ++ ys) ≡ (same x y and same xs ys)
-unfolding same _and_
-same-append [] [] xs ys l = refl
-same-append [] (b ∷ y) xs ys l = absurd (suc-ne-zero _ (sym l))
-same-append (a ∷ x) [] xs ys l = absurd (suc-ne-zero _ l)
-same-append (a ∷ x) (b ∷ y) xs ys l = go (eqb a b) refl (same-append x y xs ys (omega arith))
-  where
-    go : (t : Bool) → eqb a b ≡ t → same (x ++ xs) (y ++ ys) ≡ (same x y and same xs ys) → same (a ∷ (x ++ xs)) (b ∷ (y ++ ys)) ≡ (same (a ∷ x) (b ∷ y) and same xs ys)
-    go true e ih = rw (e, same) ih
-    go false e ih = rw (e, same)
+pub put-none : {n : ℕ} {whole : List ℕ} (w : List ℕ) → length w ≡ n → Left w 0 n whole whole
+put-none w l = record { long = l; left = refl }
 
--- bytes that differ at most in a gap of zeros
-gap : (z q : List ℕ) → same (replicate (length z) 0 ++ q) (z ++ q) ≡ all (eqb 0) z
-unfolding same all
-gap [] q = same-refl q
-gap (x ∷ z) q = go (eqb 0 x) refl (gap z q)
-  where
-    go : (t : Bool) → eqb 0 x ≡ t → same (replicate (length z) 0 ++ q) (z ++ q) ≡ all (eqb 0) z → same (0 ∷ (replicate (length z) 0 ++ q)) (x ∷ (z ++ q)) ≡ all (eqb 0) (x ∷ z)
-    go true e ih = rw (e, same, all) ih
-    go false e ih = rw (e, same, all)
+module _ {w : List ℕ} {a n : ℕ} {rest whole : List ℕ} (y : List ℕ) (k : ℕ) (t : Left w a n (y ++ rest) whole) (h : a + k ≤ n) (l : length y ≡ length (midOf a k w)) where
+  pub put-next : Left (putMid a k w y) (a + k) n rest whole
+  put-next = record {
+    long = same-len-mid a k w y l ∙ t .long;
+    left = ap (λ (x : List ℕ). x ++ rest) (put-at w y a k (omega (arith, t .long)) (l ∙ mid-long w a k (omega (arith, t .long)))) ∙ append-assoc (take a w) y rest ∙ t .left;
+  }
 
-pub same-gap : (p z q : List ℕ) (n : ℕ) → length z ≡ n → same (p ++ (replicate n 0 ++ q)) (p ++ (z ++ q)) ≡ all (eqb 0) z
-unfolding _and_
-same-gap p z q n l =
-    same-append p p (replicate n 0 ++ q) (z ++ q) refl
-    ∙ (rw (same-refl p) (ap (λ (m : ℕ). same (replicate m 0 ++ q) (z ++ q)) (sym l) ∙ gap z q))
+pub put-last : {w : List ℕ} {a n : ℕ} {whole : List ℕ} (y : List ℕ) (k : ℕ) → Left w a n y whole → a + k ≡ n → length y ≡ length (midOf a k w) → putMid a k w y ≡ whole
+put-last {w} {a} {n} {whole} y k t h l =
+    let u : Left (putMid a k w y) (a + k) n [] whole = put-next y k (record { long = t .long; left = ap (λ (x : List ℕ). take a w ++ x) (append-nil y) ∙ t .left }) (omega arith) l in
+    sym (take-all (a + k) (putMid a k w y) (omega (arith, u .long))) ∙ sym (append-nil (take (a + k) (putMid a k w y))) ∙ u .left
 
-pub same-flat : {A : Type 0} (f : A → List ℕ) (g : List ℕ → A) (k n : ℕ) (b : List ℕ) → length b ≡ k * n → ((x : List ℕ) → length x ≡ k → length (f (g x)) ≡ k)
-    → same (flat f (map g (parts k n b))) b ≡ all (λ (x : List ℕ). same (f (g x)) x) (parts k n b)
-unfolding flat parts all same
-same-flat f g k zero [] l h = refl
-same-flat f g k zero (x ∷ b) l h = absurd (suc-ne-zero _ (l ∙ mul-zero k))
-same-flat {A} f g k (suc n) b l h =
-    ap (same (f (g (take k b)) ++ flat f (map g (parts k n (drop k b))))) (sym (take-append-drop k b))
-    ∙ same-append (f (g (take k b))) (take k b) (flat f (map g (parts k n (drop k b)))) (drop k b) (h (take k b) t ∙ sym t)
-    ∙ ap (λ (x : Bool). same (f (g (take k b))) (take k b) and x) (same-flat f g k n (drop k b) d h)
-    ∙ sym (all-and (λ (x : List ℕ). same (f (g x)) x) (take k b) (parts k n (drop k b)))
-  where
-    whole : length b ≡ k * n + k
-    whole = l ∙ mul-suc k n
+module _ {A : Type 0} where
+  -- ── written one by one ──
+  pub record Put (f : A → List ℕ) (k n : ℕ) (xs : List A) (w : List ℕ) (i : ℕ) : Type 0 where
+    pub within : i ≤ n
+    pub many : length xs ≡ n
+    pub long : length w ≡ k * n
+    pub written : take (k * i) w ++ flat f (drop i xs) ≡ flat f xs
 
-    t : length (take k b) ≡ k
-    t = length-take-le k b (omega (arith, whole))
+  pub write-start : (f : A → List ℕ) (k n : ℕ) (xs : List A) (w : List ℕ) → length xs ≡ n → length w ≡ k * n → Put f k n xs w 0
+  write-start f k n xs w m l = record { within = omega arith; many = m; long = l; written = rw (mul-zero k) }
 
-    d : length (drop k b) ≡ k * n
-    d = length-drop k b ∙ omega (arith, whole)
+  module _ {f : A → List ℕ} {k n : ℕ} {xs : List A} {w : List ℕ} {i : ℕ} (t : Put f k n xs w i) where
+    pub write-next : (y : List ℕ) (d : A) → i < n → length y ≡ length (midOf (k * i) (k * i + k - k * i) w) → y ≡ f (getD xs i d) → Put f k n xs (putMid (k * i) (k * i + k - k * i) w y) (i + 1)
+    unfolding flat
+    write-next y d o l e =
+        let h : k * i + k ≤ length w = part-in k n i (length w) o (t .long) in
+        let q : length y ≡ k = l ∙ part-long w k n i o (t .long) in
+        record {
+          within = omega arith;
+          many = t .many;
+          long = same-len-mid (k * i) (k * i + k - k * i) w y l ∙ t .long;
+          written = (rw (sym (t .written), next-place k i, put-front w y (k * i) k h q, add-one i, drop-cons xs i d (omega (arith, t .many)), append-assoc, e));
+        }
+
+    pub write-end : n ≤ i → w ≡ flat f xs
+    unfolding flat
+    write-end o =
+        let h : length xs ≤ i = omega (arith, t .many) in
+        sym (take-all (k * i) w (omega (arith, t .long, mul-le-mul-left k o)))
+        ∙ sym (append-nil _)
+        ∙ ap (λ (x : List A). take (k * i) w ++ flat f x) (sym (drop-of-length-le xs h))
+        ∙ t .written

@@ -1,5 +1,5 @@
 -- The image of a station, and which bytes are one.
-use Prim.Native.Nat.{ℕ, _+_}
+use Prim.Native.Nat.{ℕ, _+_, _-_}
 use mathlib.Core.Bool.{Bool}
 use mathlib.Core.List.{List, _++_, map}
 use lib.Dec.{eqb}
@@ -8,21 +8,21 @@ use Rattle.model.specs.declared.Live.{Live}
 use Rattle.model.specs.declared.Station.{Station}
 use Rattle.model.specs.Lists.{_and_, same}
 use Rattle.model.specs.Limits.{livePlaces, slots, writeLimit, readLimit, recordSize}
-use Rattle.model.specs.Bytes.{idIn}
-use Rattle.image.specs.Layout.{headSize, itemSize, writesSize, readsSize, placeSize, placesSize, entriesSize, imageSize, flat, parts, writeBytes, writeIn, readBytes, readIn, entryBytes, entryIn, placeHead, phaseIn}
+use Rattle.model.specs.Bytes.{number, idIn}
+use Rattle.image.specs.Layout.{headSize, itemSize, writesSize, placeSize, placesSize, imageSize, flat, parts, writeBytes, writeFrom, readBytes, readFrom, entryBytes, entryFrom, placeHead, phaseFrom}
 
 -- ── "then 8 writes of 16 bytes ..; then 16 reads of 16 bytes" ──
 unfoldable pub placeBytes : Live → List ℕ
 placeBytes l = placeHead (l .phase) (l .txn) (l .«write_count») (l .«read_count») ++ (flat writeBytes (l .writes) ++ flat readBytes (l .reads))
 
-unfoldable pub placeIn : List ℕ → Live
-placeIn b = record {
-  txn = idIn (take headSize b) .txn;
-  phase = phaseIn (take headSize b);
-  «write_count» = getD (take headSize b) 3 0;
-  writes = map writeIn (parts itemSize writeLimit (take writesSize (drop headSize b)));
-  «read_count» = getD (take headSize b) 16 0;
-  reads = map readIn (parts itemSize readLimit (take readsSize (drop (headSize + writesSize) b)));
+unfoldable pub placeFrom : List ℕ → Live
+placeFrom b = record {
+  txn = idIn b .txn;
+  phase = phaseFrom b;
+  «write_count» = getD b 3 0;
+  writes = map writeFrom (parts itemSize writeLimit (drop headSize b));
+  «read_count» = getD b 16 0;
+  reads = map readFrom (parts itemSize readLimit (drop (headSize + writesSize) b));
 }
 
 -- ── "live place .. eight of them", "entry .. 64 of them after the places" ──
@@ -31,25 +31,20 @@ stationBytes st = flat placeBytes (st .live) ++ flat entryBytes (st .entries)
 
 unfoldable pub stationIn : List ℕ → Station
 stationIn b = record {
-  live = map placeIn (parts placeSize livePlaces (take placesSize b));
-  entries = map entryIn (parts recordSize slots (take entriesSize (drop placesSize b)));
+  live = map placeFrom (parts placeSize livePlaces b);
+  entries = map entryFrom (parts recordSize slots (drop placesSize b));
 }
 
--- ── bytes are a part's, or an image, where they are the bytes of what is read off them: every zero and every phase is as it must be ──
-unfoldable pub isWrite : List ℕ → Bool
-isWrite b = same (writeBytes (writeIn b)) b
-
-unfoldable pub isRead : List ℕ → Bool
-isRead b = same (readBytes (readIn b)) b
-
-unfoldable pub isEntry : List ℕ → Bool
-isEntry b = same (entryBytes (entryIn b)) b
-
+-- ── bytes are an image, or a part's, where they are the bytes of what is read off them: every zero and every phase is as it must be ──
 unfoldable pub isHead : List ℕ → Bool
-isHead h = same (placeHead (phaseIn h) (idIn h .txn) (getD h 3 0) (getD h 16 0)) h
+isHead b = same (placeHead (phaseFrom b) (idIn b .txn) (getD b 3 0) (getD b 16 0)) (take headSize b)
 
 unfoldable pub isPlace : List ℕ → Bool
-isPlace b = same (placeBytes (placeIn b)) b
+isPlace b = same (placeBytes (placeFrom b)) b
 
 unfoldable pub isImage : List ℕ → Bool
 isImage b = eqb (length b) imageSize and same (stationBytes (stationIn b)) b
+
+-- the first of n bytes stands alone in them, as in the writes, the reads and the entries of an image: the others are zero
+unfoldable pub isAlone : ℕ → List ℕ → Bool
+isAlone n b = eqb (number (take (n - 1) (drop 1 b))) 0

@@ -55,46 +55,77 @@ unfoldable pub parts : ℕ → ℕ → List ℕ → List (List ℕ)
 parts k zero b = []
 parts k (suc n) b = take k b ∷ parts k n (drop k b)
 
--- ── a write: "key, seven zeros, value 8" ──
+-- ── a field: a number of so many bytes, or so many bytes as they are ──
+pub data Field : Type 0 where
+  num : ℕ → ℕ → Field
+  raw : ℕ → List ℕ → Field
+
+abbrev pub byte : ℕ → Field
+byte x = raw 1 (x ∷ [])
+
+abbrev pub zeros : ℕ → Field
+zeros n = raw n (replicate n 0)
+
+unfoldable pub fieldBytes : Field → List ℕ
+fieldBytes (num n x) = bytes n x
+fieldBytes (raw n xs) = xs
+
+-- a row: the bytes of its fields
+unfoldable pub row : List Field → List ℕ
+row fs = flat fieldBytes fs
+
+-- ── "writes of 16 bytes (key, seven zeros, value 8)" ──
+abbrev pub writeRow : Write → List Field
+writeRow w = byte (w .key) ∷ zeros 7 ∷ num 8 (w .value) ∷ []
+
 unfoldable pub writeBytes : Write → List ℕ
-writeBytes w = (w .key ∷ replicate 7 0) ++ bytes 8 (w .value)
+writeBytes w = row (writeRow w)
 
-unfoldable pub writeIn : List ℕ → Write
-writeIn b = record { key = getD b 0 0; value = number (take 8 (drop 8 b)) }
+unfoldable pub writeFrom : List ℕ → Write
+writeFrom b = record { key = getD b 0 0; value = number (take 8 (drop 8 b)) }
 
--- ── what begins a place, a read and an entry: four bytes, then "transaction 4, clock 8" ──
+-- ── what begins a read, an entry and a place: four bytes, then "transaction 4, clock 8" ──
 unfoldable pub startBytes : ℕ → ℕ → ℕ → ℕ → Id → List ℕ
-startBytes a b c d i = a ∷ b ∷ c ∷ d ∷ bytes 4 (i .txn) ++ bytes 8 (i .clock)
+startBytes a b c d i = row (byte a ∷ byte b ∷ byte c ∷ byte d ∷ num 4 (i .txn) ∷ num 8 (i .clock) ∷ [])
 
--- ── a read: "key, three zeros, transaction 4, clock 8" ──
+-- ── "reads of 16 bytes (key, three zeros, transaction 4, clock 8)" ──
+abbrev pub readRow : Read → List Field
+readRow r = byte (r .key) ∷ zeros 3 ∷ num 4 (r .id .txn) ∷ num 8 (r .id .clock) ∷ []
+
 unfoldable pub readBytes : Read → List ℕ
-readBytes r = startBytes (r .key) 0 0 0 (r .id)
+readBytes r = row (readRow r)
 
-unfoldable pub readIn : List ℕ → Read
-readIn b = record { key = getD b 0 0; id = idIn b }
+unfoldable pub readFrom : List ℕ → Read
+readFrom b = record { key = getD b 0 0; id = idIn b }
 
--- ── an entry: "count, three zeros, transaction 4, clock 8, keys 8" ──
+-- ── "Entry, 24 bytes ..: count, three zeros, transaction 4, clock 8, keys 8" ──
+abbrev pub entryRow : Entry → List Field
+entryRow e = byte (e .count) ∷ zeros 3 ∷ num 4 (e .id .txn) ∷ num 8 (e .id .clock) ∷ raw writeLimit (e .keys) ∷ []
+
 unfoldable pub entryBytes : Entry → List ℕ
-entryBytes e = startBytes (e .count) 0 0 0 (e .id) ++ e .keys
+entryBytes e = row (entryRow e)
 
-unfoldable pub entryIn : List ℕ → Entry
-entryIn b = record { id = idIn b; count = getD b 0 0; keys = take writeLimit (drop 16 b) }
+unfoldable pub entryFrom : List ℕ → Entry
+entryFrom b = record { id = idIn b; count = getD b 0 0; keys = take writeLimit (drop 16 b) }
 
 -- ── a phase: "0 unused, 1 open, 2 closing"; any other number is taken as closing, and is then not among the bytes written ──
-unfoldable pub phaseMark : Phase → ℕ
-phaseMark Unused = 0
-phaseMark Open = 1
-phaseMark (Closing d c n) = 2
+unfoldable pub phaseNumber : Phase → ℕ
+phaseNumber Unused = 0
+phaseNumber Open = 1
+phaseNumber (Closing d c n) = 2
 
 unfoldable pub phaseOf : ℕ → ℕ → ℕ → ℕ → Phase
 phaseOf zero d c n = Unused
 phaseOf (suc zero) d c n = Open
 phaseOf (suc (suc m)) d c n = Closing d c n
 
+unfoldable pub phaseFrom : List ℕ → Phase
+phaseFrom b = phaseOf (getD b 0 0) (getD b 1 0) (idIn b .clock) (getD b 2 0)
+
 -- ── what stands before a place's sets: "byte 0 phase .., bytes 17 to 23 zero" ──
 -- of a phase, a transaction, and the counts of its writes and reads
-unfoldable pub placeHead : Phase → ℕ → ℕ → ℕ → List ℕ
-placeHead p t w r = startBytes (phaseMark p) (closingSlot p) (recordsStored p) w (record { clock = closingClock p; txn = t }) ++ (r ∷ replicate 7 0)
+abbrev pub headRow : Phase → ℕ → ℕ → ℕ → List Field
+headRow p t w r = byte (phaseNumber p) ∷ byte (closingSlot p) ∷ byte (recordsStored p) ∷ byte w ∷ num 4 t ∷ num 8 (closingClock p) ∷ byte r ∷ zeros 7 ∷ []
 
-unfoldable pub phaseIn : List ℕ → Phase
-phaseIn h = phaseOf (getD h 0 0) (getD h 1 0) (idIn h .clock) (getD h 2 0)
+unfoldable pub placeHead : Phase → ℕ → ℕ → ℕ → List ℕ
+placeHead p t w r = row (headRow p t w r)

@@ -11,17 +11,17 @@ use records::number_in;
 use records::write_keys;
 use records::write_number;
 ghost use mathlib.Core.Path.{_≡_};
+ghost use Prim.Native.Nat.{_*_, _≤_};
 ghost use mathlib.Core.Bool.{true, cond};
 ghost use mathlib.Core.List.{map};
-ghost use lib.Dec.{eqb};
 ghost use lib.ListN.{length};
 ghost use Rattle.model.specs.Lists.{all};
 ghost use Rattle.model.specs.Limits.{livePlaces, slots, writeLimit, readLimit, recordSize};
-ghost use Rattle.model.specs.Bytes.{bytes, idIn};
+ghost use Rattle.model.specs.Bytes.{idIn};
 ghost use Rattle.model.specs.Lives.{closingSlot, closingClock, recordsStored};
 ghost use Rattle.model.specs.Stations.{emptyStation};
-ghost use Rattle.image.specs.Layout.{headSize, itemSize, writesSize, readsSize, placeSize, placesSize, entriesSize, imageSize, flat, parts, writeBytes, writeIn, startBytes, readBytes, readIn, entryBytes, entryIn, phaseMark, placeHead, phaseIn};
-ghost use Rattle.image.specs.Images.{placeBytes, placeIn, stationBytes, stationIn, isWrite, isRead, isEntry, isHead, isPlace, isImage};
+ghost use Rattle.image.specs.Layout.{headSize, itemSize, writesSize, readsSize, placeSize, placesSize, entriesSize, imageSize, flat, parts, writeBytes, writeFrom, startBytes, readBytes, readFrom, entryBytes, entryFrom, phaseNumber, placeHead, phaseFrom};
+ghost use Rattle.image.specs.Images.{placeBytes, placeFrom, stationBytes, stationIn, isAlone, isHead, isPlace, isImage};
 
 // The bytes of a write or a read, of what stands before a place's sets, and where its reads begin.
 const ITEM: usize = 16;
@@ -60,71 +60,24 @@ struct Marked {
     clock: u64,
 }
 
-// All bytes are zero.
-fn is_zero(part: &[u8]) -> bool
-    ensures { λ r. ⌜ r ≡ all (eqb 0) (now (part .entry)) ⌝ }
-{
-    let mut i = 0;
-    while i < part.len() {
-        if part[i] != 0 {
-            return false;
-        }
-        i += 1;
-    }
-    true
-}
-
 // ---- whether bytes are those of a part
-fn is_write(b: &[u8]) -> bool
-    requires { ⌜ length (now b) ≡ itemSize ⌝ }
-    ensures { λ r. ⌜ r ≡ isWrite (now (b .entry)) ⌝ }
+// A row's first byte stands alone in a field of so many bytes.
+fn is_alone(row: &[u8], width: usize) -> bool
+    requires { ⌜ (width ≤ length (now row)) × (1 ≤ width) × (width ≤ 8) ⌝ }
+    ensures { λ r. ⌜ r ≡ isAlone width (now (row .entry)) ⌝ }
 {
-    is_zero(&b[1..8])
+    number_in(&row[1..width]) == 0
 }
 
-fn is_read(b: &[u8]) -> bool
-    requires { ⌜ length (now b) ≡ itemSize ⌝ }
-    ensures { λ r. ⌜ r ≡ isRead (now (b .entry)) ⌝ }
-{
-    is_zero(&b[1..4])
-}
-
-fn is_entry(b: &[u8]) -> bool
-    requires { ⌜ length (now b) ≡ recordSize ⌝ }
-    ensures { λ r. ⌜ r ≡ isEntry (now (b .entry)) ⌝ }
-{
-    is_zero(&b[1..4])
-}
-
-// A place's first 24 bytes: slot, records stored and clock are zero unless it is closing.
-fn is_head(h: &[u8]) -> bool
-    requires { ⌜ length (now h) ≡ headSize ⌝ }
-    ensures { λ r. ⌜ r ≡ isHead (now (h .entry)) ⌝ }
-{
-    if !is_zero(&h[17..24]) {
-        return false;
-    }
-    let mark = h[0];
-    if mark == CLOSING {
-        return true;
-    }
-    if mark > CLOSING {
-        return false;
-    }
-    if !is_zero(&h[1..3]) {
-        return false;
-    }
-    is_zero(&h[8..16])
-}
-
-fn are_writes(b: &[u8]) -> bool
-    requires { ⌜ length (now b) ≡ writesSize ⌝ }
-    ensures { λ r. ⌜ r ≡ all isWrite (parts itemSize writeLimit (now (b .entry))) ⌝ }
+// So it is in each of n rows, of writes, of reads or of entries.
+fn are_alone(b: &[u8], size: usize, n: usize, width: usize) -> bool
+    requires { ⌜ (length (now b) ≡ size * n) × (width ≤ size) × (1 ≤ width) × (width ≤ 8) ⌝ }
+    ensures { λ r. ⌜ r ≡ all (isAlone width) (parts size n (now (b .entry))) ⌝ }
 {
     let mut i = 0;
-    while i < Station::WRITES {
-        let at = ITEM * i;
-        if !is_write(&b[at..at + ITEM]) {
+    while i < n {
+        let at = size * i;
+        if !is_alone(&b[at..at + size], width) {
             return false;
         }
         i += 1;
@@ -132,32 +85,40 @@ fn are_writes(b: &[u8]) -> bool
     true
 }
 
-fn are_reads(b: &[u8]) -> bool
-    requires { ⌜ length (now b) ≡ readsSize ⌝ }
-    ensures { λ r. ⌜ r ≡ all isRead (parts itemSize readLimit (now (b .entry))) ⌝ }
+// What stands before a place's sets: the phase that is read, written again, is the same, and the last bytes are zero.
+fn is_head(b: &[u8]) -> bool
+    requires { ⌜ headSize ≤ length (now b) ⌝ }
+    ensures { λ r. ⌜ r ≡ isHead (now (b .entry)) ⌝ }
 {
-    let mut i = 0;
-    while i < Station::READS {
-        let at = ITEM * i;
-        if !is_read(&b[at..at + ITEM]) {
-            return false;
-        }
-        i += 1;
+    let id = id_in(b);
+    let phase = phase_in(b, id.clock);
+    let m = phase_marks(phase);
+    if m.mark != b[0] {
+        return false;
     }
-    true
+    if m.slot != b[1] {
+        return false;
+    }
+    if m.stored != b[2] {
+        return false;
+    }
+    if m.clock != id.clock {
+        return false;
+    }
+    number_in(&b[17..24]) == 0
 }
 
 fn is_place(b: &[u8]) -> bool
     requires { ⌜ length (now b) ≡ placeSize ⌝ }
     ensures { λ r. ⌜ r ≡ isPlace (now (b .entry)) ⌝ }
 {
-    if !is_head(&b[0..HEAD]) {
+    if !is_head(b) {
         return false;
     }
-    if !are_writes(&b[HEAD..READS_AT]) {
+    if !are_alone(&b[HEAD..READS_AT], ITEM, Station::WRITES, 8) {
         return false;
     }
-    are_reads(&b[READS_AT..PLACE])
+    are_alone(&b[READS_AT..PLACE], ITEM, Station::READS, 4)
 }
 
 fn are_places(b: &[u8]) -> bool
@@ -175,21 +136,6 @@ fn are_places(b: &[u8]) -> bool
     true
 }
 
-fn are_entries(b: &[u8]) -> bool
-    requires { ⌜ length (now b) ≡ entriesSize ⌝ }
-    ensures { λ r. ⌜ r ≡ all isEntry (parts recordSize slots (now (b .entry))) ⌝ }
-{
-    let mut i = 0;
-    while i < Station::SLOTS {
-        let at = ENTRY * i;
-        if !is_entry(&b[at..at + ENTRY]) {
-            return false;
-        }
-        i += 1;
-    }
-    true
-}
-
 // Bytes of any length are an image.
 pub fn is_image(bytes: &[u8]) -> bool
     ensures { λ r. ⌜ r ≡ isImage (now (bytes .entry)) ⌝ }
@@ -200,13 +146,13 @@ pub fn is_image(bytes: &[u8]) -> bool
     if !are_places(&bytes[0..ENTRIES_AT]) {
         return false;
     }
-    are_entries(&bytes[ENTRIES_AT..IMAGE])
+    are_alone(&bytes[ENTRIES_AT..IMAGE], ENTRY, Station::SLOTS, 4)
 }
 
 // ---- parts read off
 fn write_in(b: &[u8]) -> Write
     requires { ⌜ length (now b) ≡ itemSize ⌝ }
-    ensures { λ r. ⌜ r ≡ writeIn (now (b .entry)) ⌝ }
+    ensures { λ r. ⌜ r ≡ writeFrom (now (b .entry)) ⌝ }
 {
     let value = number_in(&b[8..16]);
     Write { key: b[0], value }
@@ -214,7 +160,7 @@ fn write_in(b: &[u8]) -> Write
 
 fn read_in(b: &[u8]) -> Read
     requires { ⌜ length (now b) ≡ itemSize ⌝ }
-    ensures { λ r. ⌜ r ≡ readIn (now (b .entry)) ⌝ }
+    ensures { λ r. ⌜ r ≡ readFrom (now (b .entry)) ⌝ }
 {
     let id = id_in(b);
     Read { key: b[0], id }
@@ -222,7 +168,7 @@ fn read_in(b: &[u8]) -> Read
 
 fn entry_in(b: &[u8]) -> Entry
     requires { ⌜ length (now b) ≡ recordSize ⌝ }
-    ensures { λ r. ⌜ r ≡ entryIn (now (b .entry)) ⌝ }
+    ensures { λ r. ⌜ r ≡ entryFrom (now (b .entry)) ⌝ }
 {
     let id = id_in(b);
     Entry {
@@ -232,25 +178,25 @@ fn entry_in(b: &[u8]) -> Entry
     }
 }
 
-// The phase of a place, by its first 24 bytes and the clock among them.
-fn phase_in(h: &[u8], clock: u64) -> Phase
-    requires { ⌜ length (now h) ≡ headSize ⌝ }
-    requires { ⌜ clock ≡ idIn (now h) .clock ⌝ }
-    ensures { λ r. ⌜ r ≡ phaseIn (now (h .entry)) ⌝ }
+// The phase of a place, by its first bytes and the clock among them.
+fn phase_in(b: &[u8], clock: u64) -> Phase
+    requires { ⌜ headSize ≤ length (now b) ⌝ }
+    requires { ⌜ clock ≡ idIn (now b) .clock ⌝ }
+    ensures { λ r. ⌜ r ≡ phaseFrom (now (b .entry)) ⌝ }
 {
-    let mark = h[0];
+    let mark = b[0];
     if mark == UNUSED {
         return Phase::Unused;
     }
     if mark == OPEN {
         return Phase::Open;
     }
-    Phase::Closing(h[1], clock, h[2])
+    Phase::Closing(b[1], clock, b[2])
 }
 
 fn writes_in(b: &[u8]) -> [Write; Station::WRITES]
     requires { ⌜ length (now b) ≡ writesSize ⌝ }
-    ensures { λ r. ⌜ r ≡ map writeIn (parts itemSize writeLimit (now (b .entry))) ⌝ }
+    ensures { λ r. ⌜ r ≡ map writeFrom (parts itemSize writeLimit (now (b .entry))) ⌝ }
 {
     let first = write_in(&b[0..ITEM]);
     let mut writes = [first; Station::WRITES];
@@ -266,7 +212,7 @@ fn writes_in(b: &[u8]) -> [Write; Station::WRITES]
 
 fn reads_in(b: &[u8]) -> [Read; Station::READS]
     requires { ⌜ length (now b) ≡ readsSize ⌝ }
-    ensures { λ r. ⌜ r ≡ map readIn (parts itemSize readLimit (now (b .entry))) ⌝ }
+    ensures { λ r. ⌜ r ≡ map readFrom (parts itemSize readLimit (now (b .entry))) ⌝ }
 {
     let first = read_in(&b[0..ITEM]);
     let mut reads = [first; Station::READS];
@@ -282,10 +228,10 @@ fn reads_in(b: &[u8]) -> [Read; Station::READS]
 
 fn place_in(b: &[u8]) -> Live
     requires { ⌜ length (now b) ≡ placeSize ⌝ }
-    ensures { λ r. ⌜ r ≡ placeIn (now (b .entry)) ⌝ }
+    ensures { λ r. ⌜ r ≡ placeFrom (now (b .entry)) ⌝ }
 {
-    let id = id_in(&b[0..HEAD]);
-    let phase = phase_in(&b[0..HEAD], id.clock);
+    let id = id_in(b);
+    let phase = phase_in(b, id.clock);
     let writes = writes_in(&b[HEAD..READS_AT]);
     let reads = reads_in(&b[READS_AT..PLACE]);
     Live {
@@ -300,7 +246,7 @@ fn place_in(b: &[u8]) -> Live
 
 fn places_in(b: &[u8]) -> [Live; Station::LIVE]
     requires { ⌜ length (now b) ≡ placesSize ⌝ }
-    ensures { λ r. ⌜ r ≡ map placeIn (parts placeSize livePlaces (now (b .entry))) ⌝ }
+    ensures { λ r. ⌜ r ≡ map placeFrom (parts placeSize livePlaces (now (b .entry))) ⌝ }
 {
     let first = place_in(&b[0..PLACE]);
     let mut live = [first; Station::LIVE];
@@ -316,7 +262,7 @@ fn places_in(b: &[u8]) -> [Live; Station::LIVE]
 
 fn entries_in(b: &[u8]) -> [Entry; Station::SLOTS]
     requires { ⌜ length (now b) ≡ entriesSize ⌝ }
-    ensures { λ r. ⌜ r ≡ map entryIn (parts recordSize slots (now (b .entry))) ⌝ }
+    ensures { λ r. ⌜ r ≡ map entryFrom (parts recordSize slots (now (b .entry))) ⌝ }
 {
     let first = entry_in(&b[0..ENTRY]);
     let mut entries = [first; Station::SLOTS];
@@ -363,12 +309,12 @@ fn write_start(part: &mut [u8], a: u8, b: u8, c: u8, d: u8, id: Id)
     requires { ⌜ length (now part) ≡ itemSize ⌝ }
     ensures { λ _. ⌜ now (part .exit) ≡ startBytes a b c d id ⌝ }
 {
+    write_number(&mut part[4..8], id.txn as u64);
+    write_number(&mut part[8..16], id.clock);
     part[0] = a;
     part[1] = b;
     part[2] = c;
     part[3] = d;
-    write_number(&mut part[4..8], id.txn as u64);
-    write_number(&mut part[8..16], id.clock);
 }
 
 fn write_read(part: &mut [u8], r: Read)
@@ -390,7 +336,7 @@ fn write_entry(part: &mut [u8], e: Entry)
 }
 
 fn phase_marks(p: Phase) -> Marked
-    ensures { λ r. ⌜ (r .mark ≡ phaseMark p) × (r .slot ≡ closingSlot p) × (r .stored ≡ recordsStored p) × (r .clock ≡ closingClock p) ⌝ }
+    ensures { λ r. ⌜ (r .mark ≡ phaseNumber p) × (r .slot ≡ closingSlot p) × (r .stored ≡ recordsStored p) × (r .clock ≡ closingClock p) ⌝ }
 {
     match p {
         Phase::Unused => Marked {

@@ -15,8 +15,8 @@ use Rattle.model.specs.Lists.{_and_, _or_}
 use Rattle.model.specs.Bytes.{bytes, idIn}
 use Rattle.sheet.specs.Words.{Verb}
 use Rattle.sheet.specs.Lines.{ofFields}
-use Rattle.image.proofs.LayoutLaws.{spread-all}
-use Rattle.image.proofs.WriteLaws.{number-written}
+use Rattle.image.proofs.RowLaws.{spread-all}
+use Rattle.image.proofs.PartLaws.{number-written}
 use Rattle.interface.specs.Exchange.{answerSize, verbNumbered, requestCall}
 
 -- ── a request ──

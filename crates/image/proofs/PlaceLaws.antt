@@ -1,0 +1,216 @@
+-- The rows of an image and a place (specs/Layout, specs/Images), by their fields: as long as they say, read back, and tested.
+use Rattle.image.proofs.Names.{ℕ, zero, suc, _+_, _/_, _%_, _<_, _≤_, _≡_, refl, sym, ap, ap₂, _∙_, _≢_, Bool, true, List, [], _∷_, _++_, map, append-nil, eqb, length, take, drop, getD, set, replicate, length-append, length-drop, take-at, drop-at, drop-drop, length-take-le, arith, putMid, Id, Write, Live, Entry, Phase, Unused, Open, Closing, writeLimit, readLimit, recordSize, numberRange, byteRange, _and_, all, same, bytes, number, idIn, closingSlot, closingClock, recordsStored, and-intro, Bytes, bytes-take, bytes-drop, length-bytes, number-bytes, same-refl, headSize, itemSize, writesSize, readsSize, placeSize, Field, num, raw, fieldBytes, row, flat, parts, writeRow, writeBytes, writeFrom, startBytes, readRow, readBytes, readFrom, entryRow, entryBytes, entryFrom, phaseNumber, phaseOf, phaseFrom, headRow, placeHead, isAlone, placeBytes, placeFrom, isHead, isPlace, Every, IsByte, IdFits, WriteFits, ReadFits, PhaseFits, LiveFits, EntryFits}
+use Rattle.image.proofs.PartLaws.{parts-take}
+use Rattle.image.proofs.RowLaws.{spread-all, begins-part, begins-then, begins-at, begins-all, begins-only, and-end, rowAt, row-begins, row-is, own-byte, byte-is, own-number, number-is, zeros-are, alone-row, number-fits, bytes-every, bytes-are, zeros-bytes, append-bytes, row-bytes, Coded, array-bytes, array-long, array-back, array-last, array-many, array-fits, array-begins}
+
+-- ── a write ──
+write-test : (b : List ℕ) → length b ≡ itemSize → Bytes b → same (writeBytes (writeFrom b)) b ≡ isAlone 8 b
+unfolding writeBytes writeFrom fieldBytes
+write-test b l y =
+    row-is (writeRow (writeFrom b)) b (refl, (refl, (length-bytes 8 _, tt))) l
+    ∙ alone-row 7 (num 8 (writeFrom b .value) ∷ []) b (omega arith) y (and-intro _ _ (own-number b 8 8 (omega arith) y) refl)
+
+pub write-coded : Coded writeBytes writeFrom itemSize WriteFits (isAlone 8)
+unfolding writeBytes writeFrom row flat fieldBytes bytes
+write-coded = record {
+  long = λ w f. refl;
+  back = λ w f z. record { key = w .key; value = number-bytes 8 (w .value) (f .value64) z };
+  fits = λ b l y. record { key8 = y 0 (omega arith); value64 = number-fits b 8 8 (omega arith) y };
+  test = write-test;
+  are = λ w f. row-bytes (writeRow w) ((f .key8, tt), (zeros-bytes 7, (bytes-are 8 (w .value), tt)));
+}
+
+-- ── an id, in a read and an entry ──
+id-own : (b : List ℕ) (fs : List Field) → 16 ≤ length b → Bytes b → rowAt fs 16 b ≡ true → rowAt (num 4 (idIn b .txn) ∷ num 8 (idIn b .clock) ∷ fs) 4 b ≡ true
+unfolding idIn fieldBytes
+id-own b fs h y r = and-intro _ _ (own-number b 4 4 (omega arith) y) (and-intro _ _ (own-number b 8 8 (omega arith) y) r)
+
+id-fits : (b : List ℕ) → 16 ≤ length b → Bytes b → IdFits (idIn b)
+unfolding idIn
+id-fits b h y = record { clock64 = number-fits b 8 8 (omega arith) y; txn32 = number-fits b 4 4 (omega arith) y }
+
+-- ── a read ──
+read-test : (b : List ℕ) → length b ≡ itemSize → Bytes b → same (readBytes (readFrom b)) b ≡ isAlone 4 b
+unfolding readBytes readFrom fieldBytes
+read-test b l y =
+    row-is (readRow (readFrom b)) b (refl, (refl, (length-bytes 4 _, (length-bytes 8 _, tt)))) l
+    ∙ alone-row 3 (num 4 (idIn b .txn) ∷ num 8 (idIn b .clock) ∷ []) b (omega arith) y (id-own b [] (omega arith) y refl)
+
+pub read-coded : Coded readBytes readFrom itemSize ReadFits (isAlone 4)
+unfolding readBytes readFrom idIn row flat fieldBytes bytes
+read-coded = record {
+  long = λ r f. refl;
+  back = λ r f z. record { key = r .key; id = record { clock = number-bytes 8 (r .id .clock) (f .id .clock64) z; txn = number-bytes 4 (r .id .txn) (f .id .txn32) z } };
+  fits = λ b l y. record { key8 = y 0 (omega arith); id = id-fits b (omega arith) y };
+  test = read-test;
+  are = λ r f. row-bytes (readRow r) ((f .key8, tt), (zeros-bytes 3, (bytes-are 4 (r .id .txn), (bytes-are 8 (r .id .clock), tt))));
+}
+
+-- ── an entry ──
+keys-long : (b : List ℕ) → length b ≡ recordSize → length (take writeLimit (drop 16 b)) ≡ writeLimit
+keys-long b l = length-take-le writeLimit (drop 16 b) (omega (arith, length-drop 16 b))
+
+entry-test : (b : List ℕ) → length b ≡ recordSize → Bytes b → same (entryBytes (entryFrom b)) b ≡ isAlone 4 b
+unfolding entryBytes entryFrom fieldBytes
+entry-test b l y =
+    row-is (entryRow (entryFrom b)) b (refl, (refl, (length-bytes 4 _, (length-bytes 8 _, (keys-long b l, tt))))) l
+    ∙ alone-row 3 (num 4 (idIn b .txn) ∷ num 8 (idIn b .clock) ∷ raw writeLimit (take writeLimit (drop 16 b)) ∷ []) b (omega arith) y
+    (id-own b (raw writeLimit (take writeLimit (drop 16 b)) ∷ []) (omega arith) y (and-intro _ _ (same-refl (take writeLimit (drop 16 b))) refl))
+
+pub entry-coded : Coded entryBytes entryFrom recordSize EntryFits (isAlone 4)
+unfolding entryBytes entryFrom idIn row flat fieldBytes bytes
+entry-coded = record {
+  long = λ e f. simp (append-nil, f .key-places);
+  back = λ e f z. record {
+    id = record { clock = number-bytes 8 (e .id .clock) (f .id .clock64) z; txn = number-bytes 4 (e .id .txn) (f .id .txn32) z };
+    count = e .count;
+    keys = take-at (e .keys) [] 8 (f .key-places) z;
+  };
+  fits = λ b l y. record { id = id-fits b (omega arith) y; count8 = y 0 (omega arith); key-places = keys-long b l; keys = bytes-every (take writeLimit (drop 16 b)) (bytes-take writeLimit (drop 16 b) (bytes-drop 16 b y)) };
+  test = entry-test;
+  are = λ e f. row-bytes (entryRow e) ((f .count8, tt), (zeros-bytes 3, (bytes-are 4 (e .id .txn), (bytes-are 8 (e .id .clock), (f .keys, tt)))));
+}
+
+-- ── a phase ──
+phase-back : (p : Phase) → phaseOf (phaseNumber p) (closingSlot p) (closingClock p) (recordsStored p) ≡ p
+unfolding phaseOf phaseNumber closingSlot closingClock recordsStored
+phase-back Unused = refl
+phase-back Open = refl
+phase-back (Closing d c n) = refl
+
+phase-byte : (p : Phase) → IsByte (phaseNumber p)
+unfolding phaseNumber
+phase-byte Unused = omega arith
+phase-byte Open = omega arith
+phase-byte (Closing d c n) = omega arith
+
+phase-of : (m d c n : ℕ) → IsByte d → c < numberRange → IsByte n → PhaseFits (phaseOf m d c n)
+unfolding phaseOf closingSlot closingClock recordsStored
+phase-of zero d c n hd hc hn = record { slot8 = omega arith; clock64 = omega arith; stored8 = omega arith }
+phase-of (suc zero) d c n hd hc hn = record { slot8 = omega arith; clock64 = omega arith; stored8 = omega arith }
+phase-of (suc (suc m)) d c n hd hc hn = record { slot8 = hd; clock64 = hc; stored8 = hn }
+
+pub phase-at : (b : List ℕ) (m : ℕ) → getD b 0 0 ≡ m → phaseFrom b ≡ phaseOf m (getD b 1 0) (idIn b .clock) (getD b 2 0)
+unfolding phaseFrom
+phase-at b m e = ap (λ (k : ℕ). phaseOf k (getD b 1 0) (idIn b .clock) (getD b 2 0)) e
+
+pub phase-closing : (b : List ℕ) (c : ℕ) → getD b 0 0 ≢ 0 → getD b 0 0 ≢ 1 → c ≡ idIn b .clock → Closing (getD b 1 0) c (getD b 2 0) ≡ phaseFrom b
+phase-closing b c n m e = ap (λ (k : ℕ). Closing (getD b 1 0) k (getD b 2 0)) e ∙ sym (phase-at b (getD b 0 0) refl ∙ go (getD b 0 0) n m)
+  where
+    go : (k : ℕ) → k ≢ 0 → k ≢ 1 → phaseOf k (getD b 1 0) (idIn b .clock) (getD b 2 0) ≡ Closing (getD b 1 0) (idIn b .clock) (getD b 2 0)
+    go zero n m = absurd (n refl)
+    go (suc zero) n m = absurd (m refl)
+    go (suc (suc k)) n m = unfold phaseOf in refl
+
+-- ── what stands before a place's sets ──
+head-long : (p : Phase) (t w r : ℕ) → length (placeHead p t w r) ≡ headSize
+unfolding placeHead row flat fieldBytes bytes
+head-long p t w r = refl
+
+head-bytes : (l : Live) → LiveFits l → Every IsByte (placeHead (l .phase) (l .txn) (l .«write_count») (l .«read_count»))
+unfolding placeHead fieldBytes
+head-bytes l f =
+    let p = l .phase in
+    row-bytes (headRow p (l .txn) (l .«write_count») (l .«read_count»)) ((phase-byte p, tt), ((f .phase .slot8, tt), ((f .phase .stored8, tt), ((f .writes8, tt), (bytes-are 4 (l .txn), (bytes-are 8 (closingClock p), ((f .reads8, tt), (zeros-bytes 7, tt))))))))
+
+-- a phase, written, has the numbers that are read, its clock k, and the last bytes are zero
+abbrev pub headTest : List ℕ → ℕ → ℕ → ℕ → ℕ → ℕ → Bool
+headTest b m s n c k = eqb m (getD b 0 0) and (eqb s (getD b 1 0) and (eqb n (getD b 2 0) and (eqb c k and eqb (number (take 7 (drop 17 b))) 0)))
+
+module _ (b : List ℕ) (l : headSize ≤ length b) (y : Bytes b) where
+  phase-fits : PhaseFits (phaseFrom b)
+  unfolding phaseFrom
+  phase-fits = phase-of (getD b 0 0) (getD b 1 0) (idIn b .clock) (getD b 2 0) (y 1 (omega arith)) (id-fits b (omega arith) y .clock64) (y 2 (omega arith))
+
+  abbrev read-head : List Field
+  read-head = headRow (phaseFrom b) (idIn b .txn) (getD b 3 0) (getD b 16 0)
+
+  pub head-is : (m s n c k : ℕ) → m ≡ phaseNumber (phaseFrom b) → s ≡ closingSlot (phaseFrom b) → n ≡ recordsStored (phaseFrom b) → c ≡ closingClock (phaseFrom b) → k ≡ idIn b .clock → isHead b ≡ headTest b m s n c k
+  unfolding isHead placeHead fieldBytes _and_ idIn
+  head-is m s n c k em es en ec ek =
+      begins-only (begins-part (row read-head) b headSize (head-long (phaseFrom b) (idIn b .txn) (getD b 3 0) (getD b 16 0)) l) (row-begins read-head 0 b (refl, (refl, (refl, (refl, (length-bytes 4 _, (length-bytes 8 _, (refl, (refl, tt)))))))) (omega arith))
+      ∙ (rw (em, es, en, ec, ek, byte-is b 0 (phaseNumber (phaseFrom b)) (omega arith), byte-is b 1 (closingSlot (phaseFrom b)) (omega arith), byte-is b 2 (recordsStored (phaseFrom b)) (omega arith), own-byte b 3 (omega arith), own-number b 4 4 (omega arith) y, number-is b 8 8 (omega arith) y (closingClock (phaseFrom b)) (phase-fits .clock64), own-byte b 16 (omega arith), zeros-are b 17 7 (omega arith) y, and-end))
+
+-- ── a place ──
+abbrev pub placeTest : List ℕ → Bool
+placeTest b =
+    isHead b and (all (isAlone 8) (parts itemSize writeLimit (take writesSize (drop headSize b))) and all (isAlone 4) (parts itemSize readLimit (take readsSize (drop (headSize + writesSize) b))))
+
+module _ (b : List ℕ) (l : length b ≡ placeSize) (y : Bytes b) where
+  abbrev writesPart : List ℕ
+  writesPart = drop headSize b
+
+  abbrev readsPart : List ℕ
+  readsPart = drop (headSize + writesSize) b
+
+  writes-in : writesSize ≤ length writesPart
+  writes-in = omega (arith, length-drop headSize b)
+
+  reads-in : readsSize ≤ length readsPart
+  reads-in = omega (arith, length-drop (headSize + writesSize) b)
+
+  place-tested : isPlace b ≡ (isHead b and (all (isAlone 8) (parts itemSize writeLimit writesPart) and all (isAlone 4) (parts itemSize readLimit readsPart)))
+  unfolding isPlace placeBytes placeFrom isHead
+  place-tested =
+      let h = begins-part (placeHead (phaseFrom b) (idIn b .txn) (getD b 3 0) (getD b 16 0)) b headSize (head-long (phaseFrom b) (idIn b .txn) (getD b 3 0) (getD b 16 0)) (omega arith) in
+      let w = array-begins write-coded writeLimit writesPart writes-in (bytes-drop headSize b y) in
+      let r = array-begins read-coded readLimit readsPart reads-in (bytes-drop (headSize + writesSize) b y) in
+      let e : length b ≤ headSize + (writesSize + readsSize) = omega arith in
+      begins-all (begins-then h (begins-then w (begins-at (drop-drop writesSize headSize b) r))) e
+
+  pub place-is : isPlace b ≡ placeTest b
+  place-is =
+      place-tested
+      ∙ ap₂ (λ (w r : List (List ℕ)). isHead b and (all (isAlone 8) w and all (isAlone 4) r)) (sym (parts-take itemSize writeLimit writesPart writes-in)) (sym (parts-take itemSize readLimit readsPart reads-in))
+
+pub place-coded : Coded placeBytes placeFrom placeSize LiveFits isPlace
+unfolding placeBytes placeFrom phaseFrom placeHead isPlace row flat fieldBytes bytes idIn
+place-coded = record {
+  long = λ l f. simp length-append (omega (arith, array-long write-coded (l .writes) writeLimit (f .write-places) (f .writes), array-long read-coded (l .reads) readLimit (f .read-places) (f .reads)));
+  back = λ l f z. record {
+    txn = number-bytes 4 (l .txn) (f .txn32) z;
+    phase = (ap (λ (c : ℕ). phaseOf (phaseNumber (l .phase)) (closingSlot (l .phase)) c (recordsStored (l .phase))) (number-bytes 8 (closingClock (l .phase)) (f .phase .clock64)) ∙ phase-back (l .phase)) z;
+    «write_count» = l .«write_count»;
+    writes = array-back write-coded (l .writes) writeLimit (f .write-places) (f .writes) (flat readBytes (l .reads)) z;
+    «read_count» = l .«read_count»;
+    reads = (ap (λ (b : List ℕ). map readFrom (parts itemSize readLimit b)) (drop-at (flat writeBytes (l .writes)) (flat readBytes (l .reads)) writesSize (array-long write-coded (l .writes) writeLimit (f .write-places) (f .writes))) ∙ array-last read-coded (l .reads) readLimit (f .read-places) (f .reads)) z;
+  };
+  fits = λ b l y. record {
+    txn32 = id-fits b (omega arith) y .txn32;
+    phase = phase-fits b (omega arith) y;
+    writes8 = y 3 (omega arith);
+    write-places = array-many write-coded writeLimit (drop headSize b);
+    writes = array-fits write-coded writeLimit (drop headSize b) (omega (arith, length-drop headSize b)) (bytes-drop headSize b y);
+    reads8 = y 16 (omega arith);
+    read-places = array-many read-coded readLimit (drop (headSize + writesSize) b);
+    reads = array-fits read-coded readLimit (drop (headSize + writesSize) b) (omega (arith, length-drop (headSize + writesSize) b)) (bytes-drop (headSize + writesSize) b y);
+  };
+  test = λ b l y. refl;
+  are = λ l f. append-bytes (placeHead (l .phase) (l .txn) (l .«write_count») (l .«read_count»)) (flat writeBytes (l .writes) ++ flat readBytes (l .reads)) (head-bytes l f) (append-bytes (flat writeBytes (l .writes)) (flat readBytes (l .reads)) (array-bytes write-coded (l .writes) (f .writes)) (array-bytes read-coded (l .reads) (f .reads)));
+}
+
+-- ── what is written over the parts of a row ──
+byte-bytes : (x : ℕ) → IsByte x → bytes 8 x ≡ x ∷ replicate 7 0
+unfolding bytes
+byte-bytes x h =
+    let e : x / byteRange ≡ 0 = omega arith in
+    let f : x % byteRange ≡ x = omega arith in
+    ap₂ (λ (a b : ℕ). a ∷ bytes 7 b) f e
+
+pub write-written : (w : Write) (x y : List ℕ) → IsByte (w .key) → x ≡ bytes 8 (w .key) → y ≡ bytes 8 (w .value) → x ++ y ≡ writeBytes w
+unfolding writeBytes row flat fieldBytes bytes
+write-written w x y h e f = ap₂ (λ (p q : List ℕ). p ++ q) (e ∙ byte-bytes (w .key) h) f
+
+pub start-written : (s x y : List ℕ) (a b c d : ℕ) (i : Id) → length s ≡ itemSize → x ≡ bytes 4 (i .txn) → y ≡ bytes 8 (i .clock)
+    → set (set (set (set (putMid 8 8 (putMid 4 4 s x) y) 0 a) 1 b) 2 c) 3 d ≡ startBytes a b c d i
+unfolding startBytes row flat fieldBytes bytes
+start-written s x y a b c d i l e f = rw (e, f, spread-all itemSize s l)
+
+pub entry-written : (e : Entry) → startBytes (e .count) 0 0 0 (e .id) ++ e .keys ≡ entryBytes e
+unfolding startBytes entryBytes row flat fieldBytes bytes
+entry-written e = rw (append-nil (e .keys))
+
+pub head-written : (p : Phase) (t w r m s n c : ℕ) → IsByte r → m ≡ phaseNumber p → s ≡ closingSlot p → n ≡ recordsStored p → c ≡ closingClock p → (x y : List ℕ)
+    → x ≡ startBytes m s n w (record { clock = c; txn = t }) → y ≡ bytes 8 r → x ++ y ≡ placeHead p t w r
+unfolding startBytes placeHead row flat fieldBytes bytes
+head-written p t w r m s n c h em es en ec x y ex ey = rw (ex, ey ∙ byte-bytes r h, em, es, en, ec)
