@@ -14,13 +14,13 @@ use borrow.Author.Tests.{eqb-true, eq-eqb, ne-eqb}
 use Rattle.model.specs.declared.Id.{Id}
 use Rattle.model.specs.declared.Entry.{Entry}
 use Rattle.model.specs.Lists.{from, same}
-use Rattle.model.specs.Limits.{slots, writeLimit, width}
-use Rattle.model.specs.Entries.{wrote, recordOf}
+use Rattle.model.specs.Limits.{slots, width}
+use Rattle.model.specs.Entries.{wrote, recordOf, entryRules}
 use Rattle.model.specs.Records.{valueIn, recordAt}
 use Rattle.model.specs.Slots.{Seen, free, committed, damaged, seen}
 use Rattle.model.specs.Scan.{slotsSeen, entrySeen}
 use Rattle.model.specs.Answers.{values}
-use Rattle.model.proofs.SlotLaws.{rules-count, rules-txn, record-of-low, committed-injective, seen-frame, committed-rules}
+use Rattle.model.proofs.SlotLaws.{rules-txn, rules-record, committed-injective, seen-frame, committed-rules}
 use Rattle.history.specs.Ledger.{Committed, at, strike}
 use Rattle.history.specs.CutRule.{committedIn, committedHere, committedFound, Wrote}
 use Rattle.history.proofs.Invariant.{inStore}
@@ -113,12 +113,12 @@ pub cond-frame : {A : Type 0} (b : Bool) (x y z : A) → (b ≡ true → x ≡ y
 cond-frame true x y z f = f refl
 cond-frame false x y z f = refl
 
-committed-frame : (s s′ : List ℕ) (d : ℕ) (e : Entry) → e .count ≤ writeLimit → ((n : ℕ) → n < width → recordAt s′ d n ≡ recordAt s d n) → committedIn s′ d e ≡ committedIn s d e
+committed-frame : (s s′ : List ℕ) (d : ℕ) (e : Entry) → entryRules e ≡ true → ((n : ℕ) → n < width → recordAt s′ d n ≡ recordAt s d n) → committedIn s′ d e ≡ committedIn s d e
 unfolding committedIn
 committed-frame s s′ d e o f = λ z. record { id = e .id; values = fun-ext values z }
   where
     values : (k : ℕ) → _≡_ {A = Option ℕ} (cond (wrote e k) (some (valueIn (recordAt s′ d (recordOf e k)))) none) (cond (wrote e k) (some (valueIn (recordAt s d (recordOf e k)))) none)
-    values k = cond-frame (wrote e k) _ _ none (λ h. ap (λ (x : List ℕ). some (valueIn x)) (f (recordOf e k) (omega (arith, record-of-low e k h))))
+    values k = cond-frame (wrote e k) _ _ none (λ h. ap (λ (x : List ℕ). some (valueIn x)) (f (recordOf e k) (rules-record e o k h)))
 
 pub holds-frame : (s s′ : List ℕ) (d : ℕ) → ((n : ℕ) → n < width → recordAt s′ d n ≡ recordAt s d n) → slotHolds s′ d ≡ slotHolds s d
 holds-frame s s′ d f = go (seen s d) refl
@@ -129,7 +129,7 @@ holds-frame s s′ d f = go (seen s d) refl
     go : (x : Seen) → seen s d ≡ x → slotHolds s′ d ≡ slotHolds s d
     go free h = holds-free s′ d (same ∙ h) ∙ sym (holds-free s d h)
     go damaged h = holds-damaged s′ d (same ∙ h) ∙ sym (holds-damaged s d h)
-    go (committed e) h = holds-committed s′ d e (same ∙ h) ∙ (ap (λ (j : Committed). j ∷ []) (committed-frame s s′ d e (rules-count e (committed-rules s d e h)) f) ∙ sym (holds-committed s d e h))
+    go (committed e) h = holds-committed s′ d e (same ∙ h) ∙ (ap (λ (j : Committed). j ∷ []) (committed-frame s s′ d e (committed-rules s d e h) f) ∙ sym (holds-committed s d e h))
 
 -- ── n slots from i on ──
 unfoldable pub slotsHold : List ℕ → ℕ → ℕ → List Committed

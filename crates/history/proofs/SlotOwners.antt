@@ -3,24 +3,24 @@ use Prim.Native.Nat.{ℕ, suc, _<_, _≤_}
 use mathlib.Core.Path.{_≡_, refl, sym, ap, _∙_}
 use mathlib.Core.Logic.{_≢_}
 use mathlib.Core.Bool.{Bool, true, false, true≢false}
-use mathlib.Core.List.{List, map}
+use mathlib.Core.List.{List}
 use lib.Dec.{eqb}
 use native.Mathlib.Decide.{ℕ-discrete, decLt}
 use native.Mathlib.Omega.{arith}
 use Rattle.model.specs.declared.Live.{Live}
 use Rattle.model.specs.declared.Entry.{Entry}
 use Rattle.model.specs.declared.Station.{Station}
-use Rattle.model.specs.declared.Phase.{Phase}
 use Rattle.model.specs.declared.Phase.the-variants.{Closing}
 use Rattle.model.specs.Lists.{first, member}
 use Rattle.model.specs.Limits.{slots, writeLimit, width}
-use Rattle.model.specs.Lives.{writeKey, closingClock, recordsStored, withPhase}
+use Rattle.model.specs.Lives.{closingClock, recordsStored}
 use Rattle.model.specs.Entries.{entryFor}
 use Rattle.model.specs.Stations.{liveAt, entryAt, closingSlots}
 use Rattle.model.specs.Records.{recordAt}
 use Rattle.model.specs.Slots.{Seen, free, committed, seen}
 use Rattle.model.specs.Sound.{sound}
 use Rattle.model.proofs.ListLaws.{member-finds}
+use Rattle.model.proofs.InsideLaws.{entryFor-txn}
 use Rattle.model.proofs.SlotLaws.{committed-injective, committed≢free, seen-frame}
 use Rattle.model.proofs.StationLaws.{mark-at, closing-same, marked, slot-marked}
 use Rattle.model.proofs.SoundFacts.{one-place, live-not-held, closing-facts}
@@ -73,19 +73,6 @@ owner st s sl d e o h = go (kind st s sl d o)
         full (yes y) = by-live i c n q y (committed-injective e _ (sym h ∙ sl .closing i d c n q .marked y))
         full (no y) = not-free (seen s d) e h (sl .closing i d c n q .unmarked (omega arith))
     go (nobodys f) = not-free (seen s d) e h f
-
--- ── the entry of a closing transaction ──
-pub entryFor-txn : (l : Live) → entryFor l .id .txn ≡ l .txn
-unfolding entryFor
-entryFor-txn l = refl
-
-pub entryFor-id : (l : Live) (d c n : ℕ) → l .phase ≡ Closing d c n → entryFor l .id ≡ record { clock = c; txn = l .txn }
-unfolding entryFor closingClock
-entryFor-id l d c n q = ap (λ (p : Phase). record { clock = closingClock p; txn = l .txn }) q
-
-pub entryFor-phase : (l : Live) (d c n m : ℕ) → l .phase ≡ Closing d c n → entryFor (withPhase (Closing d c m) l) ≡ entryFor l
-unfolding entryFor withPhase closingClock
-entryFor-phase l d c n m q = ap (λ (p : Phase). record { id = record { clock = closingClock p; txn = l .txn }; count = l .«write_count»; keys = map writeKey (l .writes) }) (sym q)
 
 -- a closing transaction's number stands in no slot but its own
 pub unseen : (st : Station) (s : List ℕ) → Slots st s → sound st ≡ true → (i d c n d′ : ℕ) (e : Entry) → liveAt st i .phase ≡ Closing d c n → d′ ≢ d → d′ < slots

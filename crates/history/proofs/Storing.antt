@@ -36,6 +36,7 @@ use Rattle.model.specs.Answers.{values}
 use Rattle.model.proofs.ListLaws.{first-yes, first-no, getD-mem, member-yes, member-no, member-finds, take-map}
 use Rattle.model.proofs.IdLaws.{same-id}
 use Rattle.model.proofs.RecordLaws.{Fits, length-commit, length-version, entry-round, commit-rules, version-value, version-round, with-length, record-same, record-other, record-elsewhere}
+use Rattle.model.proofs.InsideLaws.{entryFor-txn, entryFor-id, entryFor-phase}
 use Rattle.model.proofs.SlotLaws.{committed-injective, committed≢damaged, free≢damaged, seen-frame, seen-free, seen-free-mark, seen-committed}
 use Rattle.model.proofs.ReadingLaws.{wrote-as, as-wrote}
 use Rattle.model.proofs.StationLaws.{place-hit, entry-get, setLive-at, liveAt-same, liveAt-other, setLive-entry, setEntry-at, entryAt-same, entryAt-other, setEntry-live, setEntry-length, not-closing, closing-same}
@@ -51,7 +52,7 @@ use Rattle.history.proofs.LiveLaws.{reads-set, ranges-set, noLive-open,
 use Rattle.history.proofs.Committing.{phase-ranges, phase-reads, phase-of, txn-of}
 use Rattle.history.proofs.Reading.{read-named}
 use Rattle.history.proofs.CommittedLaws.{slotHolds, holds-free, holds-committed, cond-frame, holds-frame, in-store, hold-same, hold-one-more}
-use Rattle.history.proofs.SlotOwners.{prepared-frame, not-free, entryFor-txn, entryFor-id, entryFor-phase, unseen}
+use Rattle.history.proofs.SlotOwners.{prepared-frame, not-free, unseen}
 
 -- ── a closing transaction writes to its slot ──
 module _ (st : Station) (s s′ : List ℕ) (b : Ledger) (inv : Inv st s b) (h : sound st ≡ true) (t d c n m : ℕ) (nz : t ≢ 0) (z : isLive t st ≡ true)

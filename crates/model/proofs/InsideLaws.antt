@@ -4,7 +4,7 @@ use Prim.Native.Nat.{ℕ, _+_, _<_, _≤_, min}
 use mathlib.Core.Path.{_≡_, refl, sym, ap, _∙_}
 use mathlib.Core.Logic.{_≢_, ⊎-elim}
 use mathlib.Core.Bool.{Bool, true, false}
-use mathlib.Core.List.{List}
+use mathlib.Core.List.{List, map}
 use lib.Dec.{eqb, leb}
 use lib.ListN.{length, take, drop, getD, length-take}
 use lib.Seq.{getD-take}
@@ -21,8 +21,8 @@ use Rattle.model.specs.declared.Phase.the-variants.{Unused, Open, Closin
 use Rattle.model.specs.Lists.{_and_, _or_, all, any, member, ascending}
 use Rattle.model.specs.Limits.{keys, writeLimit, readLimit}
 use Rattle.model.specs.Ids.{sameId, noId}
-use Rattle.model.specs.Lives.{readsOf, slotMark}
-use Rattle.model.specs.Entries.{keysOf, wrote, entryBeyond, entryRules, isNoEntry}
+use Rattle.model.specs.Lives.{writeKey, readsOf, closingClock, slotMark, withPhase}
+use Rattle.model.specs.Entries.{keysOf, wrote, entryBeyond, entryRules, isNoEntry, entryFor}
 use Rattle.model.specs.Sound.{entryRight}
 use Rattle.model.proofs.Tests.{and-left, and-right, and-assoc, or-cases}
 use Rattle.model.proofs.ListLaws.{any-at, any-none-of, member-finds, below-more}
@@ -140,3 +140,16 @@ module _ (p : Phase) where
   pub mark-closing : (d c n x : ℕ) → p ≡ Closing d c n → x ≡ d → x + 1 ≡ slotMark p
   unfolding slotMark
   mark-closing d c n x e q = rw (e, q) (add-one d)
+
+-- ── the entry of a closing transaction ──
+pub entryFor-txn : (l : Live) → entryFor l .id .txn ≡ l .txn
+unfolding entryFor
+entryFor-txn l = refl
+
+pub entryFor-id : (l : Live) (d c n : ℕ) → l .phase ≡ Closing d c n → entryFor l .id ≡ record { clock = c; txn = l .txn }
+unfolding entryFor closingClock
+entryFor-id l d c n q = ap (λ (p : Phase). record { clock = closingClock p; txn = l .txn }) q
+
+pub entryFor-phase : (l : Live) (d c n m : ℕ) → l .phase ≡ Closing d c n → entryFor (withPhase (Closing d c m) l) ≡ entryFor l
+unfolding entryFor withPhase closingClock
+entryFor-phase l d c n m q = ap (λ (p : Phase). record { id = record { clock = closingClock p; txn = l .txn }; count = l .«write_count»; keys = map writeKey (l .writes) }) (sym q)

@@ -59,6 +59,10 @@ record-of e k h = let r = member-finds k (keysOf e) h in (first (eqb k) (keysOf 
 pub record-of-low : (e : Entry) (k : ℕ) → wrote e k ≡ true → recordOf e k ≤ e .count
 record-of-low e k h = let r = record-of e k h in omega (arith, r .1, r .2, keys-le e)
 
+-- it is one of a slot's records
+pub rules-record : (e : Entry) → entryRules e ≡ true → (k : ℕ) → wrote e k ≡ true → recordOf e k < width
+rules-record e h k w = omega (arith, record-of-low e k w, rules-count e h)
+
 -- ── the three things that may be seen ──
 pub committed-injective : (e e′ : Entry) → committed e ≡ committed e′ → e ≡ e′
 committed-injective e e′ h = cc
