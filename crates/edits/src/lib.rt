@@ -7,6 +7,7 @@ use model::Phase;
 use model::Read;
 use model::Station;
 use model::Write;
+use model::same_id;
 
 fn wide(x: u8) -> u64 {
     x as u64
@@ -19,14 +20,6 @@ pub fn low8(x: u64) -> u8 {
 
 pub fn low32(x: u64) -> u32 {
     (x % 4294967296) as u32
-}
-
-// ---- stations compared
-fn same_id(a: Id, b: Id) -> bool {
-    if a.clock != b.clock {
-        return false;
-    }
-    a.txn == b.txn
 }
 
 fn same_write(a: Write, b: Write) -> bool {

@@ -1,6 +1,12 @@
 // The types of the store: a station's live transactions and its commit set, and what a call answers.
 // What each call does to them is defined in specs/.
 ghost use mathlib.Core.Path.{_≡_};
+ghost use Prim.Native.Nat.{_≤_};
+ghost use lib.ListN.{length};
+ghost use Rattle.model.specs.Limits.{writeLimit, readLimit};
+ghost use Rattle.model.specs.Ids.{sameId};
+ghost use Rattle.model.specs.Lives.{readsOf};
+ghost use Rattle.model.specs.Entries.{keysOf, wrote};
 ghost use Rattle.model.specs.Stations.{emptyStation};
 
 // 01's id: the pair (clock, ticket) of a committed transaction.
@@ -133,4 +139,63 @@ impl Station {
             entries: [entry; Station::SLOTS],
         }
     }
+}
+
+// ---- one value
+pub fn wide(x: u8) -> usize
+    ensures { λ r. ⌜ r ≡ x ⌝ }
+{
+    x as usize
+}
+
+// The same clock and transaction.
+pub fn same_id(a: Id, b: Id) -> bool
+    ensures { λ r. ⌜ r ≡ sameId a b ⌝ }
+{
+    if a.clock != b.clock {
+        return false;
+    }
+    a.txn == b.txn
+}
+
+// How many keys the entry wrote.
+pub fn key_count(e: Entry) -> usize
+    ensures { λ r. ⌜ r ≤ writeLimit ⌝ }
+    ensures { λ r. ⌜ r ≡ length (keysOf e) ⌝ }
+{
+    let n = e.count;
+    if n < Station::WRITES_U8 {
+        wide(n)
+    } else {
+        Station::WRITES
+    }
+}
+
+// How many reads the transaction has.
+pub fn read_count(l: Live) -> usize
+    ensures { λ r. ⌜ r ≤ readLimit ⌝ }
+    ensures { λ r. ⌜ r ≡ length (readsOf l) ⌝ }
+{
+    let n = l.read_count;
+    if n < Station::READS_U8 {
+        wide(n)
+    } else {
+        Station::READS
+    }
+}
+
+// Whether the entry wrote the key.
+pub fn wrote_key(e: Entry, key: u8) -> bool
+    ensures { λ r. ⌜ r ≡ wrote e key ⌝ }
+{
+    let n = key_count(e);
+    let mut j = 0;
+    while j < n {
+        let k = e.keys[j];
+        if k == key {
+            return true;
+        }
+        j += 1;
+    }
+    false
 }

@@ -4,27 +4,19 @@ use mathlib.Core.Path.{_≡_, refl, sym, ap, _∙_}
 use mathlib.Core.Logic.{_≢_}
 use mathlib.Core.Bool.{Bool, true, false}
 use mathlib.Core.List.{List}
-use lib.Dec.{eqb, ltb}
+use lib.Dec.{ltb}
 use lib.ListN.{getD}
 use native.Mathlib.Omega.{arith}
 use borrow.Author.Tests.{lt-ltb, le-ltb, eq-eqb, ne-eqb}
 use Rattle.model.specs.declared.Id.{Id}
 use Rattle.model.specs.Lists.{_and_, _or_}
-use Rattle.model.specs.Ids.{older, sameId}
+use Rattle.model.specs.Ids.{older}
 use Rattle.model.proofs.Tests.{not-of-true, and-none-left, and-none-right}
 use Rattle.reading.specs.Columns.{idAt, readOlder}
 
 pub older-by-txn : (i j : Id) → i .clock ≡ j .clock → ltb (i .txn) (j .txn) ≡ older i j
 unfolding older _or_ _and_
 older-by-txn i j e = rw (le-ltb (i .clock) (j .clock) (omega arith), eq-eqb (i .clock) (j .clock) e)
-
-pub same-by-txn : (i j : Id) → i .clock ≡ j .clock → eqb (i .txn) (j .txn) ≡ sameId i j
-unfolding sameId _and_
-same-by-txn i j e = rw (eq-eqb (i .clock) (j .clock) e)
-
-pub not-same : (i j : Id) → i .clock ≢ j .clock → sameId i j ≡ false
-unfolding sameId
-not-same i j n = and-none-left _ _ (ne-eqb (i .clock) (j .clock) n)
 
 -- a test alone decides, where the other holds
 pub and-when : (a b : Bool) → b ≡ true → a ≡ (a and b)

@@ -2,6 +2,7 @@
 use model::Entry;
 use model::Id;
 use model::Station;
+use model::same_id;
 ghost use mathlib.Core.Path.{_≡_};
 ghost use Prim.Native.Nat.{_≤_, _<_, _^_};
 ghost use mathlib.Core.List.{_++_};
@@ -9,7 +10,6 @@ ghost use lib.Dec.{eqb};
 ghost use lib.ListN.{length, take, drop, getD};
 ghost use Rattle.model.specs.Lists.{_and_, all, ascending, same};
 ghost use Rattle.model.specs.Limits.{keys, writeLimit, recordSize, slotSize, byteRange};
-ghost use Rattle.model.specs.Ids.{sameId};
 ghost use Rattle.model.specs.Bytes.{bytes, number, idIn, headBytes};
 ghost use Rattle.model.specs.Entries.{markIn, entryIn, committedMark, commitRecord, entryRules, carriesEntry, noEntry, keysOf};
 ghost use Rattle.model.specs.Records.{valueIn, versionRecord, zeroRecord, carriesVersion, recordAt};
@@ -63,15 +63,6 @@ pub fn id_in(r: &[u8]) -> Id
     let txn = number_in(&r[4..8]) as u32;
     let clock = number_in(&r[8..16]);
     Id { clock, txn }
-}
-
-fn same_id(a: Id, b: Id) -> bool
-    ensures { λ r. ⌜ r ≡ sameId a b ⌝ }
-{
-    if a.clock != b.clock {
-        return false;
-    }
-    a.txn == b.txn
 }
 
 // Key bytes are those of an entry.

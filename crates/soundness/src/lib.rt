@@ -5,22 +5,18 @@ use model::Phase;
 use model::Read;
 use model::Station;
 use model::Write;
+use model::read_count;
+use model::wide;
+use model::wrote_key;
 ghost use mathlib.Core.Path.{_≡_};
 ghost use Prim.Native.Nat.{_+_, _≤_};
 ghost use lib.Dec.{eqb};
 ghost use lib.ListN.{length};
-ghost use Rattle.model.specs.Limits.{livePlaces, slots, readLimit};
+ghost use Rattle.model.specs.Limits.{livePlaces, slots};
 ghost use Rattle.model.specs.Lists.{all, count, distinct};
-ghost use Rattle.model.specs.Lives.{readsOf, slotMark};
-ghost use Rattle.model.specs.Entries.{wrote};
+ghost use Rattle.model.specs.Lives.{slotMark};
 ghost use Rattle.model.specs.Sound.{isNoWrite, isNoRead, isNoLive, entryRight, sound};
 ghost use Rattle.soundness.specs.Parts.{fits, keysRight, writesRight, readsRight, noWrites, noReads, listsRight, countsRight, shape, txnColumn, markColumn, slotIn, isNamed, placeFits, slotFree};
-
-fn wide(x: u8) -> usize
-    ensures { λ r. ⌜ r ≡ x ⌝ }
-{
-    x as usize
-}
 
 // Transactions, live and held, at most.
 const TXNS: usize = Station::LIVE + Station::SLOTS;
@@ -406,24 +402,6 @@ fn slot_of(txns: &[u32], txn: u32) -> usize
     j - Station::LIVE
 }
 
-fn wrote_key(e: Entry, key: u8) -> bool
-    ensures { λ r. ⌜ r ≡ wrote e key ⌝ }
-{
-    let n = wide(e.count);
-    let mut j = 0;
-    while j < Station::WRITES {
-        if n <= j {
-            return false;
-        }
-        let k = e.keys[j];
-        if k == key {
-            return true;
-        }
-        j += 1;
-    }
-    false
-}
-
 fn named(e: Entry, read: Read) -> bool
     ensures { λ r. ⌜ r ≡ isNamed e read ⌝ }
 {
@@ -436,18 +414,6 @@ fn named(e: Entry, read: Read) -> bool
         return false;
     }
     wrote_key(e, read.key)
-}
-
-fn read_count(l: Live) -> usize
-    ensures { λ r. ⌜ r ≤ readLimit ⌝ }
-    ensures { λ r. ⌜ r ≡ length (readsOf l) ⌝ }
-{
-    let n = l.read_count;
-    if n < Station::READS_U8 {
-        wide(n)
-    } else {
-        Station::READS
-    }
 }
 
 // Every live place is right by itself, and each of its reads names the entry that its transaction has. A place is read anew for each

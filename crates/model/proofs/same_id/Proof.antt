@@ -1,9 +1,9 @@
--- `records::same_id` meets its contract.
+-- `model::same_id` meets its contract.
 use borrow.Author.Tests.{eq-eqb, ne-eqb}
 use Rattle.model.specs.Ids.{sameId}
 use Rattle.model.specs.Lists.{_and_}
-use Rattle.records.proofs.same_id.Statement.{statement}
-use Rattle.records.proofs.same_id.Tie as tie
+use Rattle.model.proofs.same_id.Statement.{statement}
+use Rattle.model.proofs.same_id.Tie as tie
 
 returns : tie.Need-returns
 unfolding sameId _and_
