@@ -19,6 +19,7 @@ use calls::put;
 use calls::scan;
 use calls::start;
 use calls::step;
+use decimal::field_end;
 use edits::low8;
 use edits::low32;
 use edits::same_station;
@@ -92,14 +93,7 @@ fn find(text: &[u8], from: usize, b: u8) -> usize
     requires { ⌜ from ≤ length (now text) ⌝ }
     ensures { λ r. ⌜ (from ≤ r) × (r ≤ length (now (text .entry))) ⌝ }
 {
-    let mut i = from;
-    while i < text.len() {
-        if text[i] == b {
-            return i;
-        }
-        i += 1;
-    }
-    i
+    from + field_end(&text[from..], b)
 }
 
 // ---- bytes

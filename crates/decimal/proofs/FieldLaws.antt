@@ -6,7 +6,7 @@ use mathlib.Core.Bool.{Bool, true, false}
 use mathlib.Core.List.{List, [], _∷_}
 use mathlib.Core.Option.{some, none}
 use lib.Dec.{eqb}
-use lib.ListN.{length, take, drop, getD, length-drop, drop-of-length-le}
+use lib.ListN.{length, take, drop, getD, length-drop, drop-of-length-le, length-take}
 use lib.Seq.{take-all, drop-cons}
 use native.Mathlib.Nat.{le-of-suc-le-suc, not-suc-le-zero}
 use native.Mathlib.Omega.{arith}
@@ -59,6 +59,9 @@ module _ (end : ℕ) where
       go : (t : Bool) → eqb b end ≡ t → take (length (field end bs)) bs ≡ field end bs → take (length (field end (b ∷ bs))) (b ∷ bs) ≡ field end (b ∷ bs)
       go true e ih = rw (field-yes b bs e)
       go false e ih = rw (field-no b bs e) (ap (λ (l : List ℕ). b ∷ l) ih)
+
+  pub field-short : (s : List ℕ) → length (field end s) ≤ length s
+  field-short s = omega (arith, length-take (length (field end s)) s, ap length (field-taken s))
 
   -- where there is none, the list is one field
   pub field-whole : (s : List ℕ) → length s ≤ length (field end s) → field end s ≡ s

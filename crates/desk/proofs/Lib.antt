@@ -1,2 +1,1 @@
 pub mod ActLaws
-pub mod Mach

@@ -1,12 +1,12 @@
 -- What a request comes to: its call's effect, or row 19.
 use Prim.Native.Nat.{ℕ}
-use mathlib.Core.Bool.{Bool, true, false}
+use mathlib.Core.Bool.{Bool, false}
 use mathlib.Core.List.{List}
 use mathlib.Core.Option.{Option, some, none}
 use Rattle.model.specs.declared.Station.{Station}
 use Rattle.model.specs.declared.Outcome.{Outcome}
 use Rattle.model.specs.Effects.{Effect, stored, outcomeOf}
-use Rattle.model.specs.Calls.{Call, Start, Put, Get, Commit, Step, Abort, Collect, Scan}
+use Rattle.model.specs.Calls.{Call, Start, Put, Get, Commit, Step, Abort, Collect, Scan, isScan}
 use Rattle.sheet.specs.declared.Command.{Command}
 use Rattle.sheet.specs.declared.Command.the-variants as C
 use Rattle.sheet.specs.Sheets.{lineEffect}
@@ -24,17 +24,10 @@ callOf (C.Collect d) = some (Collect d)
 callOf C.Cut = some Scan
 callOf C.Malformed = none
 
--- a cut, which is carried out by a scan
-unfoldable pub isCut : Command → Bool
-isCut (C.Start t) = false
-isCut (C.Put t k v) = false
-isCut (C.Get t k) = false
-isCut (C.Commit t c) = false
-isCut (C.Step t) = false
-isCut (C.Abort t) = false
-isCut (C.Collect d) = false
-isCut C.Cut = true
-isCut C.Malformed = false
+-- whether a scan is asked, which a sheet calls a cut
+unfoldable pub asksScan : Option Call → Bool
+asksScan none = false
+asksScan (some c) = isScan c
 
 unfoldable pub effectOf : Station → List ℕ → Request → Effect
 effectOf st s q = lineEffect (callOf (q .command)) st s

@@ -2,8 +2,8 @@
 -- but a scan is refused.
 use Prim.Native.Nat.{ℕ}
 use mathlib.Core.Path.{_≡_, refl, sym, ap, subst, _∙_}
-use mathlib.Core.Logic.{_≢_, _⊎_, inl, inr, ⊎-elim}
-use mathlib.Core.Bool.{Bool, true, false, not, true≢false}
+use mathlib.Core.Logic.{_≢_, _⊎_, ⊎-elim}
+use mathlib.Core.Bool.{Bool, true, false, true≢false}
 use mathlib.Core.List.{List, [], _∷_}
 use mathlib.Core.Option.{Option, some, none}
 use lib.ListN.{length}
@@ -14,22 +14,16 @@ use Rattle.model.specs.Ids.{sameId}
 use Rattle.model.specs.Entries.{entryRules, isNoEntry}
 use Rattle.model.specs.Stations.{emptyStation, setEntry}
 use Rattle.model.specs.Sound.{entryRight, sound}
-use Rattle.model.specs.Effects.{RecordWrite, Effect, Row, says, stored, _when_, refusals, unsound}
-use Rattle.model.specs.Start.{start}
-use Rattle.model.specs.Put.{put}
-use Rattle.model.specs.Get.{get}
-use Rattle.model.specs.Commit.{commit}
-use Rattle.model.specs.Step.{step}
-use Rattle.model.specs.Abort.{abort}
-use Rattle.model.specs.Collect.{collect}
-use Rattle.model.specs.Calls.{Call, Start, Put, Get, Commit, Step, Abort, Collect, Scan, does}
+use Rattle.model.specs.Effects.{RecordWrite, Effect, says, stored}
+use Rattle.model.specs.Calls.{Call, does}
 use Rattle.model.specs.Answers.{refusedWith}
 use Rattle.model.proofs.Tests.{or-left, or-right, or-intro-left}
-use Rattle.model.proofs.RefusalLaws.{guard, hit}
+use Rattle.desk.specs.Acts.{asksScan}
+use Rattle.desk.proofs.ActLaws.{Barred, call-barred}
 use Rattle.image.specs.Images.{isImage}
 use Rattle.image.proofs.Round.{image-only}
 use Rattle.sheet.specs.Sheets.{lineEffect}
-use Rattle.interface.specs.Exchange.{requestSize, requestCall, isScan, Held, unsoundStation, heldIn, requestEffect, afterRequest, afterRequests, imageAfter, afterRun}
+use Rattle.interface.specs.Exchange.{requestSize, requestCall, Held, unsoundStation, heldIn, requestEffect, afterRequest, afterRequests, imageAfter, afterRun}
 use Rattle.interface.proofs.RefusedLaws.{Unaltered, refused-unaltered}
 use Rattle.interface.proofs.ByteLaws.{or-false}
 use Rattle.interface.proofs.LengthLaws.{one-part}
@@ -44,7 +38,7 @@ image-held image s = go (isImage image) refl
     go false e = rw e
 
 -- ── a refused request ──
-module _ (image s q : List ℕ) (n : isScan (requestCall q) ≡ false) (r : refusedWith (requestEffect q (heldIn image s) .answer) ≢ 0) where
+module _ (image s q : List ℕ) (n : asksScan (requestCall q) ≡ false) (r : refusedWith (requestEffect q (heldIn image s) .answer) ≢ 0) where
   unaltered : Unaltered (heldIn image s .station) (requestEffect q (heldIn image s))
   unfolding requestEffect
   unaltered = refused-unaltered (requestCall q) (heldIn image s .station) (heldIn image s .store) n r
@@ -76,34 +70,13 @@ pub unsound-station : sound unsoundStation ≡ false
 unfolding sound unsoundStation setEntry emptyStation all entryRight isNoEntry entryRules sameId _and_ _or_
 unsound-station = refl
 
-record Barred (e : Effect) : Type 0 where
-  barred : (refusedWith (e .answer) ≡ 1) ⊎ (refusedWith (e .answer) ≡ 2)
-
--- so that every call but a scan is refused, with 1 or 2
-module _ (st : Station) (h : sound st ≡ false) where
-  second : (rs : List Row) (e : Effect) → Barred (refusals (2 when unsound st ∷ rs) st e)
-  unfolding unsound
-  second rs e = subst Barred (sym (hit 2 (unsound st) rs st e (ap not h))) (unfold says in unfold refusedWith in record { barred = inr refl })
-
-  first : (b : Bool) (rs : List Row) (e : Effect) → Barred (refusals (1 when b ∷ 2 when unsound st ∷ rs) st e)
-  unfolding says refusedWith
-  first b rs e = guard Barred 1 b _ st e (record { barred = inl refl }) (λ _. second rs e)
-
-  call-barred : (c : Call) (s : List ℕ) → isScan (some c) ≡ false → Barred (does c st s)
-  unfolding isScan does start put get commit step abort collect
-  call-barred (Start t) s n = second _ _
-  call-barred (Put t k v) s n = second _ _
-  call-barred (Get t k) s n = first _ _ _
-  call-barred (Commit t c) s n = second _ _
-  call-barred (Step t) s n = first _ _ _
-  call-barred (Abort t) s n = second _ _
-  call-barred (Collect d) s n = first _ _ _
-  call-barred Scan s n = absurd (true≢false n)
-
-pub no-station : (image s q : List ℕ) (c : Call) → isImage image ≡ false → requestCall q ≡ some c → isScan (some c) ≡ false
+pub no-station : (image s q : List ℕ) (c : Call) → isImage image ≡ false → requestCall q ≡ some c → asksScan (some c) ≡ false
     → (refusedWith (requestEffect q (heldIn image s) .answer) ≡ 1) ⊎ (refusedWith (requestEffect q (heldIn image s) .answer) ≡ 2)
-unfolding requestEffect heldIn lineEffect
-no-station image s q c e f n = rw (f, e) (call-barred unsoundStation unsound-station c s n .barred)
+unfolding requestEffect heldIn lineEffect asksScan
+no-station image s q c e f n = rw (f, e) (barred (does c unsoundStation s) (call-barred unsoundStation unsound-station c s n))
+  where
+    barred : (x : Effect) → Barred unsoundStation x → (refusedWith (x .answer) ≡ 1) ⊎ (refusedWith (x .answer) ≡ 2)
+    barred x b = subst (λ (y : Effect). (refusedWith (y .answer) ≡ 1) ⊎ (refusedWith (y .answer) ≡ 2)) (sym (b .refused-so)) (unfold says in unfold refusedWith in b .one-or-two)
 
 one-two : _≡_ {A = ℕ} 1 0 → ⊥
 one-two z = absurd (omega arith)
@@ -113,10 +86,10 @@ two-one z = absurd (omega arith)
 
 -- ── an image that is no station's, and the store, stay as they were until a scan ──
 module _ (image s q : List ℕ) (e : isImage image ≡ false) where
-  always-refused : isScan (requestCall q) ≡ false → refusedWith (requestEffect q (heldIn image s) .answer) ≢ 0
+  always-refused : asksScan (requestCall q) ≡ false → refusedWith (requestEffect q (heldIn image s) .answer) ≢ 0
   always-refused n = go (requestCall q) refl n
     where
-      go : (c : Option Call) → requestCall q ≡ c → isScan c ≡ false → refusedWith (requestEffect q (heldIn image s) .answer) ≢ 0
+      go : (c : Option Call) → requestCall q ≡ c → asksScan c ≡ false → refusedWith (requestEffect q (heldIn image s) .answer) ≢ 0
       go none f m = unfold requestEffect in unfold lineEffect in unfold says in unfold refusedWith in rw f (λ (z : _≡_ {A = ℕ} 19 0). absurd (omega arith))
       go (some c) f m = λ z. ⊎-elim (λ x. one-two (sym x ∙ z)) (λ x. two-one (sym x ∙ z)) (no-station image s q c e f m)
 
@@ -136,10 +109,10 @@ untouched image s (q ∷ qs) e = go (afterRequest q (heldIn image s) .whole) ref
     go true f ih = absurd (true≢false (sym (whole-stays qs (afterRequest q (heldIn image s)) f) ∙ e))
     go false f ih = ap (afterRequests qs) k ∙ ih (sym (ap (λ (h : Held). afterRequests qs h .whole) k) ∙ e)
       where
-        either : (heldIn image s .whole or isScan (requestCall q)) ≡ false
+        either : (heldIn image s .whole or asksScan (requestCall q)) ≡ false
         either = unfold afterRequest in f
 
-        n : isScan (requestCall q) ≡ false
+        n : asksScan (requestCall q) ≡ false
         n = or-right _ _ either
 
         none-there : isImage image ≡ false

@@ -3,7 +3,6 @@ use Prim.Native.Nat.{ℕ, _+_, _*_, _-_, _<_, _≤_}
 use mathlib.Core.Path.{_≡_, refl, sym, ap, ap₂, _∙_}
 use mathlib.Core.Bool.{Bool, true, false, cond}
 use mathlib.Core.List.{List, _++_, append-nil, append-assoc}
-use mathlib.Core.Option.{Option, some, none}
 use lib.ListN.{length, take, drop}
 use lib.Seq.{take-all}
 use native.Mathlib.Omega.{arith}
@@ -11,9 +10,8 @@ use borrow.Rule.Slice.PartMut.{putMid}
 use Rattle.model.specs.declared.Outcome.{Outcome}
 use Rattle.model.specs.Lists.{_or_}
 use Rattle.model.specs.Sound.{sound}
-use Rattle.model.specs.Effects.{stored, outcomeOf}
+use Rattle.model.specs.Effects.{outcomeOf}
 use Rattle.model.specs.Scan.{scan}
-use Rattle.model.specs.Calls.{Call, Start, Put, Get, Commit, Step, Abort, Collect, Scan}
 use Rattle.model.proofs.Tests.{or-intro-right}
 use Rattle.stations.specs.declared.Change.{Change}
 use Rattle.stations.specs.Changes.{changedBy, IsChange}
@@ -21,75 +19,57 @@ use Rattle.stations.proofs.Changes.{comes-to}
 use Rattle.sheet.specs.Commands.{commandOf}
 use Rattle.sheet.specs.Sheets.{lineEffect}
 use Rattle.desk.specs.declared.Request.{Request}
-use Rattle.desk.specs.Acts.{callOf, isCut, acted, kept}
-use Rattle.desk.specs.Acts as D
-use Rattle.desk.proofs.ActLaws.{call-of-command, scan-acts, acted-tested}
+use Rattle.desk.specs.Acts.{callOf, asksScan, effectOf, acted, kept}
+use Rattle.desk.proofs.ActLaws.{call-is, acted-is, kept-is, scan-acts, acted-tested}
 use Rattle.image.specs.Layout.{parts}
 use Rattle.image.specs.Images.{stationBytes, stationIn, isImage}
 use Rattle.image.proofs.PartLaws.{next-place, part-is, parts-next, put-front}
 use Rattle.interface.specs.declared.Current.{Current}
-use Rattle.interface.specs.Exchange.{requestSize, answerSize, requestCall, isScan, answerBytes, Held, unsoundStation, heldIn, requestEffect, afterRequest, afterRequests, answersTo, imageAfter, requestsIn, afterRun, answersIn}
+use Rattle.interface.specs.Exchange.{requestSize, answerSize, requestCall, answerBytes, Held, unsoundStation, heldIn, requestEffect, afterRequest, afterRequests, answersTo, imageAfter, requestsIn, afterRun, answersIn}
 use Rattle.interface.specs.Parts.{heldOf}
 use Rattle.interface.proofs.ByteLaws.{or-false}
 use Rattle.interface.proofs.LengthLaws.{one-part}
 
--- a command is a cut exactly where its call is a scan
-cut-of-command : (c : Option Call) → isCut (commandOf c) ≡ isScan c
-unfolding isCut commandOf isScan
-cut-of-command none = refl
-cut-of-command (some (Start t)) = refl
-cut-of-command (some (Put t k v)) = refl
-cut-of-command (some (Get t k)) = refl
-cut-of-command (some (Commit t c)) = refl
-cut-of-command (some (Step t)) = refl
-cut-of-command (some (Abort t)) = refl
-cut-of-command (some (Collect d)) = refl
-cut-of-command (some Scan) = refl
-
 -- ── one request ──
 module _ (q : List ℕ) (h : Current) (s : List ℕ) (r : Request) (e : r .command ≡ commandOf (requestCall q)) where
-  call-is : callOf (r .command) ≡ requestCall q
-  call-is = ap callOf e ∙ call-of-command (requestCall q)
-
-  cut-is : isCut (r .command) ≡ isScan (requestCall q)
-  cut-is = ap isCut e ∙ cut-of-command (requestCall q)
+  scan-of : asksScan (callOf (r .command)) ≡ asksScan (requestCall q)
+  scan-of = ap asksScan (call-is r (requestCall q) e)
 
   module _ (o : Outcome) (p : o ≡ acted (h .station) s r) where
-    request-run : (l : Current) → l .whole ≡ (h .whole or isScan (requestCall q)) → l .station ≡ o .station → (s′ : List ℕ) → s′ ≡ kept (h .station) s r
+    outcome-is : o ≡ outcomeOf (lineEffect (requestCall q) (h .station) s)
+    outcome-is = p ∙ acted-is r (requestCall q) e (h .station) s
+
+    request-run : (l : Current) → l .whole ≡ (h .whole or asksScan (requestCall q)) → l .station ≡ o .station → (s′ : List ℕ) → s′ ≡ kept (h .station) s r
         → heldOf l s′ ≡ afterRequest q (heldOf h s)
-    unfolding heldOf afterRequest requestEffect acted kept D.effectOf outcomeOf
-    request-run l w g s′ k = λ i. record {
-      whole = w i;
-      station = (g ∙ ap (λ (x : Outcome). x .station) p ∙ ap (λ (x : Option Call). lineEffect x (h .station) s .station) call-is) i;
-      store = (k ∙ ap (λ (x : Option Call). stored (lineEffect x (h .station) s .stores) s) call-is) i;
-    }
+    unfolding heldOf afterRequest requestEffect outcomeOf
+    request-run l w g s′ k = λ i. record { whole = w i; station = (g ∙ ap (λ (x : Outcome). x .station) outcome-is) i; store = (k ∙ kept-is r (requestCall q) e (h .station) s) i }
 
     request-answered : answerBytes (o .answer) ≡ answerBytes (requestEffect q (heldOf h s) .answer)
-    unfolding heldOf requestEffect acted D.effectOf outcomeOf
-    request-answered = ap (λ (x : Outcome). answerBytes (x .answer)) p ∙ ap (λ (x : Option Call). answerBytes (lineEffect x (h .station) s .answer)) call-is
+    unfolding heldOf requestEffect outcomeOf
+    request-answered = ap (λ (x : Outcome). answerBytes (x .answer)) outcome-is
 
-  -- a cut: the scan's station
-  module _ (n : isCut (r .command) ≡ true) where
+  -- a scan, and its station
+  module _ (n : asksScan (callOf (r .command)) ≡ true) where
     scan-is : outcomeOf (scan s) ≡ acted (h .station) s r
     scan-is = scan-acts (h .station) s r n _ refl .0
 
     pub scan-run : (l : Current) → l .whole ≡ true → l .station ≡ scan s .station → heldOf l s ≡ afterRequest q (heldOf h s)
     unfolding outcomeOf
-    scan-run l w g = request-run _ scan-is l (w ∙ sym (or-intro-right (h .whole) _ (sym cut-is ∙ n))) g s (scan-acts (h .station) s r n _ refl .1)
+    scan-run l w g = request-run _ scan-is l (w ∙ sym (or-intro-right (h .whole) _ (sym scan-of ∙ n))) g s (scan-acts (h .station) s r n _ refl .1)
 
     pub scan-answered : answerBytes (scan s .answer) ≡ answerBytes (requestEffect q (heldOf h s) .answer)
     unfolding outcomeOf
     scan-answered = request-answered _ scan-is
 
   -- any other request: a change
-  module _ (n : isCut (r .command) ≡ false) (c : Change) (d : IsChange (h .station) (D.effectOf (h .station) s r) c) where
+  module _ (n : asksScan (callOf (r .command)) ≡ false) (c : Change) (d : IsChange (h .station) (effectOf (h .station) s r) c) where
     change-is : changedBy (h .station) c ≡ acted (h .station) s r
     unfolding acted
     change-is = comes-to _ _ _ d
 
     pub change-run : (t : Bool) (s′ : List ℕ) → s′ ≡ kept (h .station) s r
         → heldOf (record { whole = h .whole; tested = t; station = changedBy (h .station) c .station }) s′ ≡ afterRequest q (heldOf h s)
-    change-run t s′ k = request-run _ change-is _ (sym (ap (λ (b : Bool). h .whole or b) (sym cut-is ∙ n) ∙ or-false (h .whole))) refl s′ k
+    change-run t s′ k = request-run _ change-is _ (sym (ap (λ (b : Bool). h .whole or b) (sym scan-of ∙ n) ∙ or-false (h .whole))) refl s′ k
 
     pub change-answered : answerBytes (c .answer) ≡ answerBytes (requestEffect q (heldOf h s) .answer)
     unfolding changedBy
@@ -97,7 +77,8 @@ module _ (q : List ℕ) (h : Current) (s : List ℕ) (r : Request) (e : r .comma
 
     -- the soundness test says of the station what it did
     pub change-tested : h .tested ≡ sound (h .station) → h .tested ≡ sound (changedBy (h .station) c .station)
-    change-tested t = t ∙ sym (acted-tested (h .station) s r n) ∙ ap (λ (x : Outcome). sound (x .station)) (sym change-is)
+    unfolding _or_
+    change-tested t = t ∙ sym (acted-tested (h .station) s r ∙ ap (λ (b : Bool). b or sound (h .station)) n) ∙ ap (λ (x : Outcome). sound (x .station)) (sym change-is)
 
 -- ── one after the other ──
 -- what is left of n requests after the first i

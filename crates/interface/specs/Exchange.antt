@@ -1,6 +1,6 @@
 -- The store for hosts in other languages: requests and answers as bytes, and what an exchange of them comes to. Numbers are least byte first.
 use Prim.Native.Nat.{ℕ, _*_, _/_, _%_}
-use mathlib.Core.Bool.{Bool, true, false, cond}
+use mathlib.Core.Bool.{Bool, cond}
 use mathlib.Core.List.{List, [], _∷_, _++_}
 use mathlib.Core.Option.{Option, some, none}
 use lib.Dec.{eqb}
@@ -14,11 +14,12 @@ use Rattle.model.specs.Ids.{noId}
 use Rattle.model.specs.Bytes.{bytes, idIn}
 use Rattle.model.specs.Stations.{emptyStation, setEntry}
 use Rattle.model.specs.Effects.{Effect, stored}
-use Rattle.model.specs.Calls.{Call, Start, Put, Get, Commit, Step, Abort, Collect, Scan}
+use Rattle.model.specs.Calls.{Call}
 use Rattle.model.specs.Answers.{valuesOf}
 use Rattle.sheet.specs.Words.{Verb, isStart, isPut, isGet, isCommit, isStep, isAbort, isCollect, isCut}
 use Rattle.sheet.specs.Lines.{ofFields}
 use Rattle.sheet.specs.Sheets.{lineEffect}
+use Rattle.desk.specs.Acts.{asksScan}
 use Rattle.image.specs.Layout.{imageSize, parts}
 use Rattle.image.specs.Images.{stationBytes, stationIn, isImage}
 
@@ -50,17 +51,6 @@ verbNumbered n =
 unfoldable pub requestCall : List ℕ → Option Call
 requestCall q =
     cond (eqb (getD q 2 0) 0 and eqb (getD q 3 0) 0) (ofFields (verbNumbered (getD q 0 0)) (some (idIn q .txn)) (some (getD q 1 0)) (some (idIn q .clock))) none
-
-unfoldable pub isScan : Option Call → Bool
-isScan none = false
-isScan (some (Start t)) = false
-isScan (some (Put t k v)) = false
-isScan (some (Get t k)) = false
-isScan (some (Commit t c)) = false
-isScan (some (Step t)) = false
-isScan (some (Abort t)) = false
-isScan (some (Collect d)) = false
-isScan (some Scan) = true
 
 -- ── an answer: its kind, then a, b and c as a sheet prints them, 8 bytes each ──
 unfoldable pub kindOf : Answer → ℕ
@@ -103,7 +93,7 @@ requestEffect q h = lineEffect (requestCall q) (h .station) (h .store)
 
 -- a scan's station is its own, whatever the image was
 unfoldable pub afterRequest : List ℕ → Held → Held
-afterRequest q h = record { whole = h .whole or isScan (requestCall q); station = requestEffect q h .station; store = stored (requestEffect q h .stores) (h .store) }
+afterRequest q h = record { whole = h .whole or asksScan (requestCall q); station = requestEffect q h .station; store = stored (requestEffect q h .stores) (h .store) }
 
 -- requests one after the other, and their answers
 unfoldable pub afterRequests : List (List ℕ) → Held → Held

@@ -4,8 +4,8 @@ use calls::Answer;
 use calls::Station;
 use calls::scan;
 use desk::Request;
+use desk::asks_scan;
 use desk::decide;
-use desk::is_cut;
 use image::IMAGE;
 use image::read_image;
 use image::write_image;
@@ -145,7 +145,7 @@ fn run_requests(first: Current, store: &mut [u8], requests: &[u8], answers: &mut
         let to = ANSWER * i;
         i += 1;
         let command = command_in(&requests[from..from + REQUEST]);
-        if is_cut(command) {
+        if asks_scan(command) {
             let found = run_scan(store, &mut answers[to..to + ANSWER]);
             whole = found.whole;
             tested = found.tested;

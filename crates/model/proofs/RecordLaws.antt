@@ -12,10 +12,11 @@ use native.Mathlib.Nat.{zero-lt-suc, suc-ne-zero}
 use native.Mathlib.Decide.{decLt}
 use native.Mathlib.Omega.{arith}
 use borrow.Author.Tests.{eqb-true, eq-eqb}
+use borrow.Rule.Slice.PartMut.{putMid}
 use Rattle.model.specs.declared.Id.{Id}
 use Rattle.model.specs.declared.Entry.{Entry}
 use Rattle.model.specs.Lists.{_and_, same}
-use Rattle.model.specs.Limits.{slots, writeLimit, recordSize, width, storeSize, txnRange, numberRange, byteRange}
+use Rattle.model.specs.Limits.{slots, writeLimit, recordSize, slotSize, width, storeSize, txnRange, numberRange, byteRange}
 use Rattle.model.specs.Ids.{sameId}
 use Rattle.model.specs.Bytes.{bytes, number, idIn, headBytes}
 use Rattle.model.specs.Entries.{markIn, entryIn, freeMark, committedMark, commitRecord, entryRules, commitRules, carriesEntry}
@@ -308,3 +309,20 @@ module _ (s : List ℕ) (d n : ℕ) (r : List ℕ) (z : length s ≡ storeSize) 
       go : Dec (c < d) → recordAt (withRecord s d n r) c m ≡ recordAt s c m
       go (yes y) = write-below s r (recordPlace d n) l inside (recordPlace c m) (omega arith)
       go (no y) = write-above s r (recordPlace d n) l inside (recordPlace c m) (omega arith)
+
+-- ── a record as a part of a store, lent for it ──
+pub record-written : (s y r : List ℕ) (d n at : ℕ) → at ≡ slotSize * d + recordSize * n → y ≡ r → putMid at (at + recordSize - at) s y ≡ withRecord s d n r
+unfolding withRecord
+record-written s y r d n at q e =
+    let k : at + recordSize - at ≡ recordSize = omega arith in
+    let p : at ≡ recordPlace d n = omega arith in
+    ap (λ (x : ℕ). take at s ++ (y ++ drop x (drop at s))) k
+    ∙ (ap (λ (x : List ℕ). take at s ++ (y ++ x)) (drop-drop recordSize at s)
+    ∙ ap₂ (λ (a : ℕ) (x : List ℕ). take a s ++ (x ++ drop (a + recordSize) s)) p e)
+
+pub record-part : (s : List ℕ) (d n at : ℕ) → at ≡ slotSize * d + recordSize * n → take (at + recordSize - at) (drop at s) ≡ recordAt s d n
+unfolding recordAt
+record-part s d n at q =
+    let k : at + recordSize - at ≡ recordSize = omega arith in
+    let p : at ≡ recordPlace d n = omega arith in
+    ap₂ (λ (x a : ℕ). take x (drop a s)) k p

@@ -5,8 +5,8 @@ ghost use Prim.Native.Nat.{_≤_};
 ghost use lib.ListN.{length};
 ghost use Rattle.model.specs.Limits.{writeLimit, readLimit};
 ghost use Rattle.model.specs.Ids.{sameId};
-ghost use Rattle.model.specs.Lives.{readsOf};
-ghost use Rattle.model.specs.Entries.{keysOf, wrote};
+ghost use Rattle.model.specs.Lives.{blank, readsOf};
+ghost use Rattle.model.specs.Entries.{keysOf, wrote, noEntry};
 ghost use Rattle.model.specs.Stations.{emptyStation};
 
 // 01's id: the pair (clock, ticket) of a committed transaction.
@@ -118,22 +118,8 @@ impl Station {
     pub fn empty() -> Station
         ensures { λ r. ⌜ r ≡ emptyStation ⌝ }
     {
-        let id = Id { clock: 0, txn: 0 };
-        let write = Write { key: 0, value: 0 };
-        let read = Read { key: 0, id: id };
-        let live = Live {
-            txn: 0,
-            phase: Phase::Unused,
-            write_count: 0,
-            writes: [write; Station::WRITES],
-            read_count: 0,
-            reads: [read; Station::READS],
-        };
-        let entry = Entry {
-            id: id,
-            count: 0,
-            keys: [0; Station::WRITES],
-        };
+        let live = blank(0, Phase::Unused);
+        let entry = no_entry();
         Station {
             live: [live; Station::LIVE],
             entries: [entry; Station::SLOTS],
@@ -142,6 +128,35 @@ impl Station {
 }
 
 // ---- one value
+// A live transaction with empty sets.
+pub fn blank(txn: u32, phase: Phase) -> Live
+    ensures { λ r. ⌜ r ≡ blank txn phase ⌝ }
+{
+    let id = Id { clock: 0, txn: 0 };
+    let write = Write { key: 0, value: 0 };
+    let read = Read { key: 0, id };
+    Live {
+        txn,
+        phase,
+        write_count: 0,
+        writes: [write; Station::WRITES],
+        read_count: 0,
+        reads: [read; Station::READS],
+    }
+}
+
+// The unused entry.
+pub fn no_entry() -> Entry
+    ensures { λ r. ⌜ r ≡ noEntry ⌝ }
+{
+    let id = Id { clock: 0, txn: 0 };
+    Entry {
+        id,
+        count: 0,
+        keys: [0; Station::WRITES],
+    }
+}
+
 pub fn wide(x: u8) -> usize
     ensures { λ r. ⌜ r ≡ x ⌝ }
 {

@@ -10,20 +10,18 @@ use sheet::print_header;
 use stream::finish;
 use stream::run_block;
 ghost use mathlib.Core.Path.{_≡_};
-ghost use mathlib.Core.Bool.{true};
 ghost use Prim.Native.Nat.{_+_, _^_, _≤_, _<_};
 ghost use lib.ListN.{length};
-ghost use Rattle.model.specs.Sound.{sound};
 
 // The bytes of a line that are kept, of a read and of the output's buffer.
 const KEPT: usize = 65;
 
 const READ: usize = 65536;
 
-const OUT: usize = 131072;
+const OUT: usize = 475136;
 
 // A block's bytes at most, and the output's bytes that leave room for its answers: 96 for each byte.
-const BLOCK: usize = 512;
+const BLOCK: usize = 4096;
 
 const FULL: usize = 81920;
 
@@ -70,7 +68,7 @@ fn make_room(out: &[u8], used: usize) -> Room
 // The end of the block that starts at a place.
 fn block_end(start: usize, len: usize) -> usize
     requires { ⌜ start < len ⌝ }
-    ensures { λ r. ⌜ (start < r) × (r ≤ len) × (r ≤ start + 512) ⌝ }
+    ensures { λ r. ⌜ (start < r) × (r ≤ len) × (r ≤ start + 4096) ⌝ }
 {
     if len - start <= BLOCK {
         return len;
@@ -79,7 +77,7 @@ fn block_end(start: usize, len: usize) -> usize
 }
 
 fn after_read(station: Station, len: usize, number: u64, written: bool) -> Progress
-    ensures { λ r. ⌜ (r .len ≡ len) × (r .number ≡ number) × (r .station ≡ station) ⌝ }
+    ensures { λ r. ⌜ (r .len ≡ len) × (r .number ≡ number) ⌝ }
 {
     Progress {
         station,
@@ -99,8 +97,8 @@ fn run_read(
     input: &[u8],
     out: &mut [u8],
 ) -> Progress
-    requires { ⌜ (length (now part) ≡ 65) × (len ≤ 65) × (number + length (now input) < 2 ^ 64) × (length (now out) ≡ 131072) × (sound station ≡ true) ⌝ }
-    ensures { λ r. ⌜ (r .len ≤ 65) × (r .number ≤ number + length (now (input .entry))) × (sound (r .station) ≡ true) ⌝ }
+    requires { ⌜ (length (now part) ≡ 65) × (len ≤ 65) × (number + length (now input) < 2 ^ 64) × (length (now out) ≡ 475136) ⌝ }
+    ensures { λ r. ⌜ (r .len ≤ 65) × (r .number ≤ number + length (now (input .entry))) ⌝ }
 {
     let mut s = station;
     let mut n = len;
@@ -135,7 +133,7 @@ fn run_end(
     number: u64,
     out: &mut [u8],
 ) -> Stop
-    requires { ⌜ (length (now part) ≡ 65) × (len ≤ 65) × (number + 1 < 2 ^ 64) × (length (now out) ≡ 131072) × (sound station ≡ true) ⌝ }
+    requires { ⌜ (length (now part) ≡ 65) × (len ≤ 65) × (number + 1 < 2 ^ 64) × (length (now out) ≡ 475136) ⌝ }
 {
     let used = finish(station, store, part, len, number, out);
     if io::write_all(STDOUT_FILENO, &out[..used]) {
@@ -152,7 +150,7 @@ fn run_sheet(
     input: &mut [u8],
     out: &mut [u8],
 ) -> Stop
-    requires { ⌜ (length (now part) ≡ 65) × (length (now input) ≡ 65536) × (length (now out) ≡ 131072) × (sound started ≡ true) ⌝ }
+    requires { ⌜ (length (now part) ≡ 65) × (length (now input) ≡ 65536) × (length (now out) ≡ 475136) ⌝ }
 {
     let mut station = started;
     let mut len = 0;
@@ -188,7 +186,7 @@ fn run_all(
     input: &mut [u8],
     out: &mut [u8],
 ) -> Stop
-    requires { ⌜ (length (now part) ≡ 65) × (length (now input) ≡ 65536) × (length (now out) ≡ 131072) × (sound started ≡ true) ⌝ }
+    requires { ⌜ (length (now part) ≡ 65) × (length (now input) ≡ 65536) × (length (now out) ≡ 475136) ⌝ }
 {
     let n = print_header(out);
     if !io::write_all(STDOUT_FILENO, &out[..n]) {
@@ -218,7 +216,7 @@ fn report(stop: Stop) {
     }
 }
 
-// The desk starts as it does after a cut: with a scan of its store, here of zeros. What a scan hands back is sound.
+// The desk starts as it does after a cut: with a scan of its store, here of zeros.
 fn main() {
     let mut store = [0u8; Station::STORE];
     let scanned = scan(&store);

@@ -1,17 +1,17 @@
 -- What a caller reads off the answers of this crate's functions, over the whole station.
 use Prim.Native.Nat.{ℕ, _<_, _≤_}
 use mathlib.Core.Path.{_≡_, refl, sym}
-use mathlib.Core.Logic.{_≢_, ⊎-elim}
+use mathlib.Core.Logic.{⊎-elim}
 use mathlib.Core.Bool.{Bool, true, false, cond}
 use mathlib.Core.List.{map}
-use lib.Dec.{eqb, leb}
+use lib.Dec.{eqb}
 use lib.ListN.{length, length-map}
 use native.Mathlib.Nat.{lt-irrefl}
 use native.Mathlib.Omega.{arith}
-use borrow.Author.Tests.{eqb-true, eqb-false, leb-true, leb-false}
+use borrow.Author.Tests.{eqb-true}
 use Rattle.model.specs.declared.Station.{Station}
 use Rattle.model.specs.Lists.{first, count, anyBelow, greatestBelow}
-use Rattle.model.specs.Limits.{keys, livePlaces, slots}
+use Rattle.model.specs.Limits.{slots}
 use Rattle.model.specs.Entries.{entryRules, isNoEntry}
 use Rattle.model.specs.Stations.{entryAt, liveTxns, heldTxns, isLive, isHeld, placeOf, slotOf, isFree}
 use Rattle.model.specs.Sound.{entryRight, sound}
@@ -20,7 +20,7 @@ use Rattle.model.proofs.Tests.{and-left, and-right, or-cases}
 use Rattle.model.proofs.ListLaws.{greatest-below}
 use Rattle.model.proofs.SlotLaws.{rules-count}
 use Rattle.model.proofs.SoundLaws.{sound-at}
-use Rattle.stations.specs.Found.{liveTxn, entryTxn, namedRow}
+use Rattle.stations.specs.Found.{liveTxn, entryTxn}
 use Rattle.stations.proofs.Search.{member-hit, member-miss}
 
 module _ (st : Station) (t i : ℕ) (at : i ≡ first (eqb t) (map liveTxn (st .live))) where
@@ -75,21 +75,3 @@ entry-count st h d = ⊎-elim
     (λ n. let z : entryAt st d .count ≡ 0 = eqb-true _ 0 (and-right _ _ (and-left _ _ n)) in omega arith)
     (λ r. rules-count (entryAt st d) r)
     (or-cases (isNoEntry (entryAt st d)) (entryRules (entryAt st d)) (sound-at st h .entry d))
-
--- what the answer of `named_row` tells
-module _ (P : ℕ → Type 0) (t k i : ℕ) where
-  pub named-elim : (t ≡ 0 → P 3) → (t ≢ 0 → keys ≤ k → P 4) → (t ≢ 0 → k < keys → livePlaces ≤ i → P 8) → (t ≢ 0 → k < keys → i < livePlaces → P 0) → P (namedRow t k i)
-  unfolding namedRow
-  named-elim a b c d = number (eqb t 0) refl
-    where
-      place : t ≢ 0 → k < keys → (x : Bool) → leb livePlaces i ≡ x → P (cond (leb livePlaces i) 8 0)
-      place n o true e = rw e (c n o (leb-true livePlaces i e))
-      place n o false e = rw e (d n o (leb-false livePlaces i e))
-
-      key : t ≢ 0 → (x : Bool) → leb keys k ≡ x → P (cond (leb keys k) 4 (cond (leb livePlaces i) 8 0))
-      key n true e = rw e (b n (leb-true keys k e))
-      key n false e = rw e (place n (leb-false keys k e) (leb livePlaces i) refl)
-
-      number : (x : Bool) → eqb t 0 ≡ x → P (cond (eqb t 0) 3 (cond (leb keys k) 4 (cond (leb livePlaces i) 8 0)))
-      number true e = rw e (a (eqb-true t 0 e))
-      number false e = rw e (key (eqb-false t 0 e) (leb keys k) refl)

@@ -5,3 +5,4 @@ pub mod Free
 pub mod Sets
 pub mod Callers
 pub mod Changes
+pub mod RowLaws

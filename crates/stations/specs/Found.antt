@@ -1,15 +1,16 @@
 -- Names for what the contracts of this crate say of lists.
 use Prim.Native.Nat.{ℕ}
-use mathlib.Core.Bool.{Bool, cond}
+use mathlib.Core.Bool.{Bool, not, cond}
 use mathlib.Core.List.{List, [], _∷_, _++_}
 use lib.Dec.{eqb, leb}
 use lib.ListN.{take, drop}
 use Rattle.model.specs.declared.Live.{Live}
 use Rattle.model.specs.declared.Entry.{Entry}
 use Rattle.model.specs.declared.Station.{Station}
-use Rattle.model.specs.Limits.{keys, livePlaces}
-use Rattle.model.specs.Lives.{slotMark}
-use Rattle.model.specs.Stations.{liveAt}
+use Rattle.model.specs.Limits.{keys}
+use Rattle.model.specs.Lives.{slotMark, isClosing}
+use Rattle.model.specs.Stations.{liveAt, isLive, placeOf}
+use Rattle.model.specs.Effects.{Row, _when_}
 
 -- the transaction at a place, and of an entry
 abbrev pub liveTxn : Live → ℕ
@@ -38,6 +39,16 @@ module _ {A : Type 0} where
   unfoldable pub joined : ℕ → A → List A → List A
   joined i x xs = take i xs ++ (x ∷ drop i xs)
 
--- the first of rows 3, 4 and 8 that applies to a transaction's number, a key and the place found; 0 where none does
-unfoldable pub namedRow : ℕ → ℕ → ℕ → ℕ
-namedRow t k i = cond (eqb t 0) 3 (cond (leb keys k) 4 (cond (leb livePlaces i) 8 0))
+-- ── rows of the table of refusals ──
+-- the number of the first that applies; 0 where none does
+unfoldable pub firstRow : List Row → ℕ
+firstRow [] = 0
+firstRow (r ∷ rs) = cond (r .applies) (r .returned) (firstRow rs)
+
+-- rows 2, 3, 4 and 8 of a call on transaction t and key k, where the soundness test said b and these are live; a call without a key has key 0
+unfoldable pub namedRows : List Live → ℕ → ℕ → Bool → List Row
+namedRows ls t k b = 2 when not b ∷ 3 when eqb t 0 ∷ 4 when leb keys k ∷ 8 when not (isLive t (stationOf ls [])) ∷ []
+
+-- and row 9
+unfoldable pub openRows : List Live → ℕ → ℕ → Bool → List Row
+openRows ls t k b = namedRows ls t k b ++ (9 when isClosing (liveIn ls (placeOf t (stationOf ls [])) .phase) ∷ [])

@@ -2,23 +2,23 @@
 // call comes to, as a change of a station.
 ghost use mathlib.Core.Path.{_≡_};
 ghost use mathlib.Core.Bool.{true, false, not, cond};
-ghost use mathlib.Core.List.{map};
+ghost use mathlib.Core.List.{map, [], _∷_};
 ghost use Prim.Native.Nat.{_<_, _≤_};
 ghost use lib.Dec.{eqb, leb};
 ghost use lib.ListN.{length, take};
 ghost use Rattle.model.specs.Lists.{_and_, first, member, anyBelow};
-ghost use Rattle.model.specs.Limits.{livePlaces, slots, writeLimit, readLimit};
+ghost use Rattle.model.specs.Limits.{keys, livePlaces, slots, writeLimit, readLimit};
 ghost use Rattle.model.specs.Lives.{noLive, writesOf, writeKey, readKey, hasWritten, hasRead, valueUnder, isClosing, closingClock, slotMark, withPhase};
-ghost use Rattle.model.specs.Entries.{noEntry, recordOf, entryFor};
-ghost use Rattle.model.specs.Stations.{isFree, setLive, setEntry};
+ghost use Rattle.model.specs.Entries.{recordOf, entryFor};
+ghost use Rattle.model.specs.Stations.{isFree, placeOf, setLive, setEntry};
 ghost use Rattle.model.specs.Sound.{zeroPastCounts, setsRight};
-ghost use Rattle.model.specs.Effects.{says};
+ghost use Rattle.model.specs.Effects.{says, _when_};
 ghost use Rattle.model.specs.Start.{opened};
 ghost use Rattle.model.specs.Put.{withWrite};
 ghost use Rattle.model.specs.Get.{withRead};
 ghost use Rattle.model.specs.Commit.{highestFree};
 ghost use Rattle.stations.specs.Changes.{changedBy, IsChange};
-ghost use Rattle.stations.specs.Found.{liveTxn, entryTxn, liveMark, stationOf, liveIn, joined, namedRow};
+ghost use Rattle.stations.specs.Found.{liveTxn, entryTxn, liveMark, stationOf, liveIn, joined, firstRow, namedRows, openRows};
 use model::Answer;
 use model::Entry;
 use model::Id;
@@ -28,55 +28,21 @@ use model::Phase;
 use model::Read;
 use model::Station;
 use model::Write;
-
-fn wide(x: u8) -> usize
-    ensures { λ r. ⌜ r ≡ x ⌝ }
-{
-    x as usize
-}
+use model::blank;
+pub use model::no_entry;
+use model::wide;
 
 // ---- unused, and just started
 pub fn no_live() -> Live
     ensures { λ r. ⌜ r ≡ noLive ⌝ }
 {
-    let id = Id { clock: 0, txn: 0 };
-    let write = Write { key: 0, value: 0 };
-    let read = Read { key: 0, id: id };
-    Live {
-        txn: 0,
-        phase: Phase::Unused,
-        write_count: 0,
-        writes: [write; Station::WRITES],
-        read_count: 0,
-        reads: [read; Station::READS],
-    }
-}
-
-pub fn no_entry() -> Entry
-    ensures { λ r. ⌜ r ≡ noEntry ⌝ }
-{
-    let id = Id { clock: 0, txn: 0 };
-    Entry {
-        id: id,
-        count: 0,
-        keys: [0; Station::WRITES],
-    }
+    blank(0, Phase::Unused)
 }
 
 pub fn opened(txn: u32) -> Live
     ensures { λ r. ⌜ r ≡ opened txn ⌝ }
 {
-    let id = Id { clock: 0, txn: 0 };
-    let write = Write { key: 0, value: 0 };
-    let read = Read { key: 0, id: id };
-    Live {
-        txn: txn,
-        phase: Phase::Open,
-        write_count: 0,
-        writes: [write; Station::WRITES],
-        read_count: 0,
-        reads: [read; Station::READS],
-    }
+    blank(txn, Phase::Open)
 }
 
 // ---- where a transaction is
@@ -108,6 +74,23 @@ pub fn live_at(live: [Live; Station::LIVE], place: usize) -> Live
         i += 1;
     }
     live[Station::LAST_PLACE]
+}
+
+// Its phase, by such a search: measured, a put is a tenth dearer where all of it is read for that.
+fn phase_at(live: [Live; Station::LIVE], place: usize) -> Phase
+    requires { ⌜ place < livePlaces ⌝ }
+    ensures { λ r. ⌜ r ≡ liveIn live place .phase ⌝ }
+{
+    let mut i = 0;
+    while i < Station::LAST_PLACE {
+        let l = live[i];
+        if i == place {
+            return l.phase;
+        }
+        i += 1;
+    }
+    let last = live[Station::LAST_PLACE];
+    last.phase
 }
 
 // The first slot whose entry is this transaction's; their number where there is none.
@@ -436,10 +419,19 @@ pub fn is_closing(p: Phase) -> bool
     }
 }
 
-// The first of rows 3, 4 and 8 that applies; 0 where none does. A call without a key gives 0.
-pub fn named_row(txn: u32, key: u8, place: usize) -> u8
-    ensures { λ r. ⌜ r ≡ namedRow txn key place ⌝ }
+// A call's transaction: the first of the rows asked for that applies, 0 where none does, and its place.
+pub struct Named {
+    pub row: u8,
+    pub place: usize,
+}
+
+// The first of rows 2, 3, 4 and 8 that applies; 0 where none does.
+fn named_row(tested: bool, txn: u32, key: u8, place: usize) -> u8
+    ensures { λ r. ⌜ r ≡ firstRow (2 when not tested ∷ 3 when eqb txn 0 ∷ 4 when leb keys key ∷ 8 when leb livePlaces place ∷ []) ⌝ }
 {
+    if !tested {
+        return 2;
+    }
     if txn == 0 {
         return 3;
     }
@@ -450,6 +442,33 @@ pub fn named_row(txn: u32, key: u8, place: usize) -> u8
         return 8;
     }
     0
+}
+
+// By rows 2, 3, 4 and 8. A call without a key gives 0.
+pub fn named_at(live: [Live; Station::LIVE], tested: bool, txn: u32, key: u8) -> Named
+    ensures { λ r. ⌜ (r .row ≡ firstRow (namedRows live txn key tested)) × (r .place ≡ placeOf txn (stationOf live [])) × (r .row ≡ 0 → r .place < livePlaces) ⌝ }
+{
+    let place = place_of(live, txn);
+    Named {
+        row: named_row(tested, txn, key, place),
+        place,
+    }
+}
+
+// By rows 2, 3, 4, 8 and 9.
+pub fn open_at(live: [Live; Station::LIVE], tested: bool, txn: u32, key: u8) -> Named
+    ensures { λ r. ⌜ (r .row ≡ firstRow (openRows live txn key tested)) × (r .place ≡ placeOf txn (stationOf live [])) × (r .row ≡ 0 → r .place < livePlaces) ⌝ }
+{
+    let at = named_at(live, tested, txn, key);
+    if at.row != 0 {
+        return at;
+    }
+    let place = at.place;
+    let phase = phase_at(live, place);
+    if is_closing(phase) {
+        return Named { row: 9, place };
+    }
+    at
 }
 
 // ---- what a call comes to

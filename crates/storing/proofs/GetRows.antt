@@ -1,24 +1,23 @@
 -- A get, test by test.
-use Prim.Native.Nat.{ℕ, _<_, _≤_}
+use Prim.Native.Nat.{ℕ}
 use mathlib.Core.Path.{_≡_, refl, sym, ap, ap₂, _∙_}
 use mathlib.Core.Logic.{_≢_}
 use mathlib.Core.Bool.{Bool, true, false}
-use mathlib.Core.List.{List, [], _∷_, map}
+use mathlib.Core.List.{List, [], _∷_}
 use mathlib.Core.Option.{Option, some, none}
-use lib.Dec.{eqb}
 use lib.ListN.{length}
 use native.Mathlib.Omega.{arith}
-use borrow.Author.Tests.{le-leb, lt-leb, eq-eqb, ne-eqb}
+use borrow.Author.Tests.{ne-eqb}
 use Rattle.model.specs.declared.Read.{Read}
 use Rattle.model.specs.declared.Live.{Live}
 use Rattle.model.specs.declared.Entry.{Entry}
 use Rattle.model.specs.declared.Station.{Station}
 use Rattle.model.specs.declared.Answer.the-variants as A
-use Rattle.model.specs.Lists.{first, any}
-use Rattle.model.specs.Limits.{keys, storeSize}
-use Rattle.model.specs.Lives.{writesOf, readsOf, hasWritten, valueUnder, isClosing}
+use Rattle.model.specs.Lists.{any}
+use Rattle.model.specs.Limits.{storeSize}
+use Rattle.model.specs.Lives.{writesOf, readsOf, hasWritten, valueUnder}
 use Rattle.model.specs.Entries.{wrote}
-use Rattle.model.specs.Stations.{liveAt, entryAt, setLive, isLive}
+use Rattle.model.specs.Stations.{liveAt, entryAt, setLive, liveTxns, isLive, placeOf}
 use Rattle.model.specs.Records.{valueIn, carriesVersion}
 use Rattle.model.specs.Sound.{sound}
 use Rattle.model.specs.Reading.{passes, newest, Choice, own, absent, nofit, version, chosen, choose}
@@ -28,9 +27,9 @@ use Rattle.model.proofs.RefusalLaws.{refusals-none, skipped, hit}
 use Rattle.model.proofs.Tests.{not-of-false, not-of-true}
 use Rattle.reading.specs.declared.Chosen.the-variants.{Version, Nofit, None}
 use Rattle.reading.specs.Choosing.{chosenAs}
-use Rattle.stations.specs.Found.{liveTxn, namedRow}
-use Rattle.stations.proofs.Callers.{place-none, named-elim}
-use Rattle.storing.proofs.Parts.{length-right, sound-right, Placed}
+use Rattle.stations.specs.Found.{stationOf, firstRow, namedRows, openRows}
+use Rattle.stations.proofs.RowLaws.{rows-refused, rows-passed, open-numbered}
+use Rattle.storing.proofs.Parts.{length-right}
 
 -- ── what Algorithm 1 chose, from the code's answer ──
 pub chosen-version : (x : Choice) (d : ℕ) → chosenAs x ≡ Version d → x ≡ version d
@@ -70,75 +69,55 @@ module _ (st : Station) (s : List ℕ) (t k : ℕ) where
   unfolding get wrongLength
   get-1 h = hit 1 _ _ st _ (not-of-false _ (ne-eqb _ _ h))
 
-  module _ (z : length s ≡ storeSize) where
-    pub get-2 : sound st ≡ false → get st s t k ≡ says (A.Refused 2 0) st
-    unfolding get unsound
-    get-2 h = skipped 1 _ _ st _ (length-right s z) ∙ hit 2 _ _ st _ (not-of-false _ h)
+  -- from row 12 on, with transaction l at place i
+  abbrev pub get-rest : ℕ → Live → Effect
+  get-rest i l = refusals (12 when noRoom l k (choiceOf st l k) ∷ 17 when notCarried st s k (choiceOf st l k) ∷ []) st (answered st s i k (choiceOf st l k))
 
-    module _ (g : sound st ≡ true) where
-      get-3 : t ≡ 0 → get st s t k ≡ says (A.Refused 3 0) st
-      unfolding get
-      get-3 h = skipped 1 _ _ st _ (length-right s z) ∙ (skipped 2 _ _ st _ (sound-right st g) ∙ hit 3 _ _ st _ (eq-eqb t 0 h))
+  get-rows : get st s t k ≡ refusals (1 when wrongLength s ∷ []) st (refusals (openRows (st .live) t k (sound st)) st (get-rest (placeOf t st) (liveAt st (placeOf t st))))
+  unfolding get refusals openRows namedRows unsound isLive liveTxns placeOf liveAt
+  get-rows = refl
 
-      get-4 : t ≢ 0 → keys ≤ k → get st s t k ≡ says (A.Refused 4 0) st
-      unfolding get
-      get-4 n h = skipped 1 _ _ st _ (length-right s z) ∙ (skipped 2 _ _ st _ (sound-right st g) ∙ (skipped 3 _ _ st _ (ne-eqb t 0 n) ∙ hit 4 _ _ st _ (le-leb keys k h)))
+  module _ (z : length s ≡ storeSize) (b : Bool) (tested : b ≡ sound st) (r : ℕ) (e : r ≡ firstRow (openRows (st .live) t k b)) where
+    get-sized : get st s t k ≡ refusals (openRows (st .live) t k (sound st)) st (get-rest (placeOf t st) (liveAt st (placeOf t st)))
+    get-sized = get-rows ∙ (skipped 1 _ [] st _ (length-right s z) ∙ refusals-none st _)
 
-      get-8 : t ≢ 0 → k < keys → isLive t st ≡ false → get st s t k ≡ says (A.Refused 8 0) st
-      unfolding get
-      get-8 n o h = skipped 1 _ _ st _ (length-right s z) ∙ (skipped 2 _ _ st _ (sound-right st g) ∙ (skipped 3 _ _ st _ (ne-eqb t 0 n) ∙ (skipped 4 _ _ st _ (lt-leb keys k o) ∙ hit 8 _ _ st _ (not-of-false _ h))))
+    pub get-refused : r ≢ 0 → get st s t k ≡ says (A.Refused r 0) st
+    get-refused n = get-sized ∙ rows-refused st (openRows (st .live) t k) b tested r e n _
 
-      -- by the answers of `place_of` and `named_row`
-      pub get-named : (i r : ℕ) → i ≡ first (eqb t) (map liveTxn (st .live)) → length (st .live) ≡ 8 → r ≡ namedRow t k i → r ≢ 0 → get st s t k ≡ says (A.Refused r 0) st
-      get-named i r q y e = rw e (named-elim (λ (x : ℕ). x ≢ 0 → get st s t k ≡ says (A.Refused x 0) st) t k i
-          (λ h _. get-3 h)
-          (λ n h _. get-4 n h)
-          (λ n o h _. get-8 n o (place-none st t i q y h))
-          (λ _ _ _ h. absurd (h refl)))
+    pub get-open : r ≡ 0 → (i : ℕ) → i ≡ placeOf t (stationOf (st .live) []) → (l : Live) → l ≡ liveAt st i → get st s t k ≡ get-rest i l
+    unfolding placeOf liveTxns
+    get-open n i p l q =
+        get-sized ∙ (rows-passed st (openRows (st .live) t k) b tested r e (open-numbered (st .live) t k (sound st)) n _
+        ∙ (ap (λ (j : ℕ). get-rest j (liveAt st j)) (sym p) ∙ ap (get-rest i) (sym q)))
 
-  module _ (i : ℕ) (f : Placed st s t k i) (l : Live) (q : l ≡ liveAt st i) where
-    -- from row 9 on, with transaction x at place j
-    rows : ℕ → Live → Effect
-    rows j x = refusals (9 when isClosing (x .phase) ∷ 12 when noRoom x k (choiceOf st x k) ∷ 17 when notCarried st s k (choiceOf st x k) ∷ []) st (answered st s j k (choiceOf st x k))
+  module _ (i : ℕ) (l : Live) (g : get st s t k ≡ get-rest i l) where
+    chosen-rows : (ch : Choice) → choiceOf st l k ≡ ch → get st s t k ≡ refusals (12 when noRoom l k ch ∷ 17 when notCarried st s k ch ∷ []) st (answered st s i k ch)
+    chosen-rows ch h = g ∙ ap (λ (x : Choice). refusals (12 when noRoom l k x ∷ 17 when notCarried st s k x ∷ []) st (answered st s i k x)) h
 
-    get-rows : get st s t k ≡ rows i l
-    unfolding get rows
-    get-rows = skipped 1 _ _ st _ (length-right s (f .size)) ∙ (skipped 2 _ _ st _ (sound-right st (f .right)) ∙ (skipped 3 _ _ st _ (ne-eqb t 0 (f .number)) ∙ (skipped 4 _ _ st _ (lt-leb keys k (f .key)) ∙ (skipped 8 _ _ st _ (not-of-true _ (f .live))
-        ∙ (ap (λ (j : ℕ). rows j (liveAt st j)) (sym (f .place)) ∙ ap (rows i) (sym q))))))
+    pub get-own : (v : ℕ) → choiceOf st l k ≡ own v → get st s t k ≡ says (A.Own v) st
+    unfolding noRoom notCarried answered refusals
+    get-own v h = chosen-rows (own v) h
 
-    pub get-9 : isClosing (l .phase) ≡ true → get st s t k ≡ says (A.Refused 9 0) st
-    unfolding rows
-    get-9 h = get-rows ∙ hit 9 _ _ st _ h
+    pub get-none : choiceOf st l k ≡ absent → get st s t k ≡ says A.None st
+    unfolding noRoom notCarried answered refusals
+    get-none h = chosen-rows absent h
 
-    module _ (p : isClosing (l .phase) ≡ false) where
-      chosen-rows : (ch : Choice) → choiceOf st l k ≡ ch → get st s t k ≡ refusals (12 when noRoom l k ch ∷ 17 when notCarried st s k ch ∷ []) st (answered st s i k ch)
-      unfolding rows
-      chosen-rows ch h = get-rows ∙ (skipped 9 _ _ st _ p ∙ ap (λ (x : Choice). refusals (12 when noRoom l k x ∷ 17 when notCarried st s k x ∷ []) st (answered st s i k x)) h)
+    pub get-nofit : choiceOf st l k ≡ nofit → get st s t k ≡ says A.Nofit st
+    unfolding noRoom notCarried answered refusals
+    get-nofit h = chosen-rows nofit h
 
-      pub get-own : (v : ℕ) → choiceOf st l k ≡ own v → get st s t k ≡ says (A.Own v) st
-      unfolding noRoom notCarried answered refusals
-      get-own v h = chosen-rows (own v) h
+    module _ (d : ℕ) (c : choiceOf st l k ≡ version d) where
+      pub get-12 : noRoom l k (version d) ≡ true → get st s t k ≡ says (A.Refused 12 0) st
+      get-12 h = chosen-rows (version d) c ∙ hit 12 _ _ st _ h
 
-      pub get-none : choiceOf st l k ≡ absent → get st s t k ≡ says A.None st
-      unfolding noRoom notCarried answered refusals
-      get-none h = chosen-rows absent h
+      module _ (r : noRoom l k (version d) ≡ false) where
+        pub get-17 : carriesVersion (versionAt st s k d) k (entryAt st d .id) ≡ false → get st s t k ≡ says (A.Refused 17 0) st
+        unfolding notCarried
+        get-17 h = chosen-rows (version d) c ∙ (skipped 12 _ _ st _ r ∙ hit 17 _ _ st _ (not-of-false _ h))
 
-      pub get-nofit : choiceOf st l k ≡ nofit → get st s t k ≡ says A.Nofit st
-      unfolding noRoom notCarried answered refusals
-      get-nofit h = chosen-rows nofit h
-
-      module _ (d : ℕ) (c : choiceOf st l k ≡ version d) where
-        pub get-12 : noRoom l k (version d) ≡ true → get st s t k ≡ says (A.Refused 12 0) st
-        get-12 h = chosen-rows (version d) c ∙ hit 12 _ _ st _ h
-
-        module _ (r : noRoom l k (version d) ≡ false) where
-          pub get-17 : carriesVersion (versionAt st s k d) k (entryAt st d .id) ≡ false → get st s t k ≡ says (A.Refused 17 0) st
-          unfolding notCarried
-          get-17 h = chosen-rows (version d) c ∙ (skipped 12 _ _ st _ r ∙ hit 17 _ _ st _ (not-of-false _ h))
-
-          pub get-version : (v : ℕ) (m : Live) → carriesVersion (versionAt st s k d) k (entryAt st d .id) ≡ true → v ≡ valueIn (versionAt st s k d) → m ≡ withRead k (entryAt st d .id) l
-              → get st s t k ≡ says (A.Version v (entryAt st d .id)) (setLive st i m)
-          unfolding notCarried answered
-          get-version v m h ev em =
-              chosen-rows (version d) c ∙ (skipped 12 _ _ st _ r ∙ (skipped 17 _ _ st _ (not-of-true _ h) ∙ (refusals-none st _
-              ∙ sym (ap₂ {B = Live} (λ (x : ℕ) (y : Live). says (A.Version x (entryAt st d .id)) (setLive st i y)) ev (em ∙ ap (withRead k (entryAt st d .id)) q)))))
+        pub get-version : l ≡ liveAt st i → (v : ℕ) (m : Live) → carriesVersion (versionAt st s k d) k (entryAt st d .id) ≡ true → v ≡ valueIn (versionAt st s k d) → m ≡ withRead k (entryAt st d .id) l
+            → get st s t k ≡ says (A.Version v (entryAt st d .id)) (setLive st i m)
+        unfolding notCarried answered
+        get-version q v m h ev em =
+            chosen-rows (version d) c ∙ (skipped 12 _ _ st _ r ∙ (skipped 17 _ _ st _ (not-of-true _ h) ∙ (refusals-none st _
+            ∙ sym (ap₂ {B = Live} (λ (x : ℕ) (y : Live). says (A.Version x (entryAt st d .id)) (setLive st i y)) ev (em ∙ ap (withRead k (entryAt st d .id)) q)))))

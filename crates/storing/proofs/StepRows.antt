@@ -3,8 +3,8 @@ use Prim.Native.Nat.{ℕ, _+_, _<_, _≤_}
 use mathlib.Core.Path.{_≡_, refl, sym, ap, ap₂, _∙_}
 use mathlib.Core.Logic.{_≢_, _⊎_, ⊎-elim}
 use mathlib.Core.Bool.{Bool, true, false, not}
-use mathlib.Core.List.{List, [], _∷_, map}
-use lib.Dec.{eqb, ltb}
+use mathlib.Core.List.{List, [], _∷_}
+use lib.Dec.{ltb}
 use lib.ListN.{length, getD}
 use native.Mathlib.Nat.{lt-irrefl}
 use native.Mathlib.Omega.{arith}
@@ -16,11 +16,10 @@ use Rattle.model.specs.declared.Phase.{Phase}
 use Rattle.model.specs.declared.Phase.the-variants.{Unused, Open, Closing}
 use Rattle.model.specs.declared.Answer.{Answer}
 use Rattle.model.specs.declared.Answer.the-variants as A
-use Rattle.model.specs.Lists.{first}
-use Rattle.model.specs.Limits.{slots, storeSize}
+use Rattle.model.specs.Limits.{livePlaces, slots, storeSize}
 use Rattle.model.specs.Lives.{withPhase, noWrite, noLive, isClosing, closingSlot, recordsStored}
 use Rattle.model.specs.Entries.{commitRecord, entryFor}
-use Rattle.model.specs.Stations.{liveAt, setLive, setEntry, isLive}
+use Rattle.model.specs.Stations.{liveAt, setLive, setEntry, liveTxns, isLive, placeOf}
 use Rattle.model.specs.Records.{versionRecord, withRecord}
 use Rattle.model.specs.Sound.{sound}
 use Rattle.model.specs.Effects.{Effect, stored, outcomeOf, says, saysStoring, _when_, refusals, wrongLength, unsound}
@@ -28,10 +27,10 @@ use Rattle.model.specs.Step.{oneMore, stepped, step}
 use Rattle.model.proofs.RefusalLaws.{refusals-none, skipped, hit}
 use Rattle.model.proofs.Tests.{not-of-false, not-of-true}
 use Rattle.stations.specs.Changes.{changedBy, IsChange}
-use Rattle.stations.specs.Found.{liveTxn, namedRow}
-use Rattle.stations.proofs.Callers.{place-none, named-elim}
+use Rattle.stations.specs.Found.{stationOf, firstRow, namedRows}
+use Rattle.stations.proofs.RowLaws.{rows-refused, rows-passed, named-numbered}
 use Rattle.storing.specs.Parts.{recordAnswer, recordStored}
-use Rattle.storing.proofs.Parts.{handed, length-right, sound-right, Placed}
+use Rattle.storing.proofs.Parts.{handed, length-right}
 
 -- a step that stores a record, of either kind
 module _ (st : Station) (s : List ℕ) (i d c n : ℕ) where
@@ -64,45 +63,33 @@ module _ (st : Station) (s : List ℕ) (t : ℕ) where
   unfolding step wrongLength
   step-1 h = hit 1 _ _ st _ (not-of-false _ (ne-eqb _ _ h))
 
-  module _ (z : length s ≡ storeSize) where
-    pub step-2 : sound st ≡ false → step st s t ≡ says (A.Refused 2 0) st
-    unfolding step unsound
-    step-2 h = skipped 1 _ _ st _ (length-right s z) ∙ hit 2 _ _ st _ (not-of-false _ h)
+  -- row 10 and the effect, at place i
+  abbrev pub step-rest : ℕ → Effect
+  step-rest i = refusals (10 when not (isClosing (liveAt st i .phase)) ∷ []) st (stepped st i (liveAt st i) (liveAt st i .phase))
 
-    module _ (g : sound st ≡ true) where
-      step-3 : t ≡ 0 → step st s t ≡ says (A.Refused 3 0) st
-      unfolding step
-      step-3 h = skipped 1 _ _ st _ (length-right s z) ∙ (skipped 2 _ _ st _ (sound-right st g) ∙ hit 3 _ _ st _ (eq-eqb t 0 h))
+  step-rows : step st s t ≡ refusals (1 when wrongLength s ∷ []) st (refusals (namedRows (st .live) t 0 (sound st)) st (step-rest (placeOf t st)))
+  unfolding step refusals namedRows unsound isLive liveTxns placeOf
+  step-rows = refl
 
-      step-8 : t ≢ 0 → isLive t st ≡ false → step st s t ≡ says (A.Refused 8 0) st
-      unfolding step
-      step-8 n h = skipped 1 _ _ st _ (length-right s z) ∙ (skipped 2 _ _ st _ (sound-right st g) ∙ (skipped 3 _ _ st _ (ne-eqb t 0 n) ∙ hit 8 _ _ st _ (not-of-false _ h)))
+  module _ (z : length s ≡ storeSize) (b : Bool) (tested : b ≡ sound st) (r : ℕ) (e : r ≡ firstRow (namedRows (st .live) t 0 b)) where
+    step-sized : step st s t ≡ refusals (namedRows (st .live) t 0 (sound st)) st (step-rest (placeOf t st))
+    step-sized = step-rows ∙ (skipped 1 _ [] st _ (length-right s z) ∙ refusals-none st _)
 
-      -- by the answers of `place_of` and `named_row`, the latter for key 0
-      pub step-named : (i r : ℕ) → i ≡ first (eqb t) (map liveTxn (st .live)) → length (st .live) ≡ 8 → r ≡ namedRow t 0 i → r ≢ 0 → step st s t ≡ says (A.Refused r 0) st
-      step-named i r q y e = rw e (named-elim (λ (x : ℕ). x ≢ 0 → step st s t ≡ says (A.Refused x 0) st) t 0 i
-          (λ h _. step-3 h)
-          (λ _ h _. absurd (omega arith))
-          (λ n _ h _. step-8 n (place-none st t i q y h))
-          (λ _ _ _ h. absurd (h refl)))
+    pub step-refused : r ≢ 0 → step st s t ≡ says (A.Refused r 0) st
+    step-refused n = step-sized ∙ rows-refused st (namedRows (st .live) t 0) b tested r e n _
 
-  module _ (i : ℕ) (f : Placed st s t 0 i) where
-    -- row 10, at the transaction's place
-    rows : ℕ → Effect
-    rows j = refusals (10 when not (isClosing (liveAt st j .phase)) ∷ []) st (stepped st j (liveAt st j) (liveAt st j .phase))
+    pub step-open : r ≡ 0 → (i : ℕ) → i ≡ placeOf t (stationOf (st .live) []) → step st s t ≡ step-rest i
+    unfolding placeOf liveTxns
+    step-open n i p = step-sized ∙ (rows-passed st (namedRows (st .live) t 0) b tested r e (named-numbered (st .live) t 0 (sound st)) n _ ∙ ap step-rest (sym p))
 
-    step-rows : step st s t ≡ rows i
-    unfolding step rows
-    step-rows = skipped 1 _ _ st _ (length-right s (f .size)) ∙ (skipped 2 _ _ st _ (sound-right st (f .right)) ∙ (skipped 3 _ _ st _ (ne-eqb t 0 (f .number)) ∙ (skipped 8 _ _ st _ (not-of-true _ (f .live)) ∙ ap rows (sym (f .place)))))
-
+  module _ (i : ℕ) (g : step st s t ≡ step-rest i) where
     pub step-10 : isClosing (liveAt st i .phase) ≡ false → step st s t ≡ says (A.Refused 10 0) st
-    unfolding rows
-    step-10 h = step-rows ∙ hit 10 _ _ st _ (not-of-false _ h)
+    step-10 h = g ∙ hit 10 _ _ st _ (not-of-false _ h)
 
     module _ (d c n : ℕ) (p : liveAt st i .phase ≡ Closing d c n) where
       step-on : step st s t ≡ stepped st i (liveAt st i) (Closing d c n)
-      unfolding rows isClosing
-      step-on = step-rows ∙ (skipped 10 _ _ st _ (not-of-true _ (ap isClosing p)) ∙ (refusals-none st _ ∙ ap (stepped st i (liveAt st i)) p))
+      unfolding isClosing
+      step-on = g ∙ (skipped 10 _ _ st _ (not-of-true _ (ap isClosing p)) ∙ (refusals-none st _ ∙ ap (stepped st i (liveAt st i)) p))
 
       -- a record is stored
       pub step-record : (a : Answer) (m : Live) (e : Entry) (z : List ℕ) → n ≤ liveAt st i .«write_count» → e ≡ entryFor (liveAt st i) → m ≡ withPhase (Closing d c (n + 1)) (liveAt st i)
@@ -118,11 +105,11 @@ module _ (st : Station) (s : List ℕ) (t : ℕ) where
       module _ (m : Live) (e : Entry) (o : liveAt st i .«write_count» < n) (q : e ≡ entryFor (liveAt st i)) (r : m ≡ noLive) where
         done : step st s t ≡ says (A.Done (e .id)) (setEntry (setLive st i m) d e)
         unfolding stepped closingSlot recordsStored oneMore
-        done = let g : liveAt st i .«write_count» ≤ n = omega arith in step-on ∙ (rw (le-ltb n (liveAt st i .«write_count») g, ne-eqb n (liveAt st i .«write_count») (λ x. lt-irrefl n (omega arith)), r, q))
+        done = let w : liveAt st i .«write_count» ≤ n = omega arith in step-on ∙ (rw (le-ltb n (liveAt st i .«write_count») w, ne-eqb n (liveAt st i .«write_count») (λ x. lt-irrefl n (omega arith)), r, q))
 
-        pub step-done : d < slots → IsChange st (step st s t) (record { answer = A.Done (e .id); place = i; live = m; slot = d; entry = e }) × (s ≡ stored (step st s t .stores) s)
+        pub step-done : i < livePlaces → d < slots → IsChange st (step st s t) (record { answer = A.Done (e .id); place = i; live = m; slot = d; entry = e }) × (s ≡ stored (step st s t .stores) s)
         unfolding IsChange changedBy outcomeOf says
-        step-done u = handed st _ _ (A.Done (e .id)) (setEntry (setLive st i m) d e) s done (f .low, u, refl)
+        step-done v u = handed st _ _ (A.Done (e .id)) (setEntry (setLive st i m) d e) s done (v, u, refl)
 
 -- a phase that is none of the third kind
 pub not-closing : (p : Phase) → (denote.Enum.Declared.tagOf Rattle.model.proofs.Phase.the-type p ≡ 0) ⊎ (denote.Enum.Declared.tagOf Rattle.model.proofs.Phase.the-type p ≡ 1) → isClosing p ≡ false

@@ -39,13 +39,12 @@ use stations::entry_changed;
 use stations::entry_for;
 use stations::has_read;
 use stations::has_written;
-use stations::is_closing;
 use stations::live_at;
 use stations::live_changed;
-use stations::named_row;
+use stations::named_at;
 use stations::no_entry;
 use stations::no_live;
-use stations::place_of;
+use stations::open_at;
 use stations::record_of;
 use stations::refused;
 use stations::unchanged;
@@ -125,20 +124,13 @@ pub fn get(station: Station, tested: bool, store: &[u8], txn: u32, key: u8) -> C
     if store.len() != Station::STORE {
         return refused(station, 1);
     }
-    if !tested {
-        return refused(station, 2);
-    }
     let live = station.live;
-    let place = place_of(live, txn);
-    let row = named_row(txn, key, place);
-    if row != 0 {
-        return refused(station, row);
+    let at = open_at(live, tested, txn, key);
+    if at.row != 0 {
+        return refused(station, at.row);
     }
+    let place = at.place;
     let l = live_at(live, place);
-    let phase = l.phase;
-    if is_closing(phase) {
-        return refused(station, 9);
-    }
     if has_written(l, key) {
         return unchanged(station, Answer::Own(value_under(l, key)));
     }
@@ -190,15 +182,12 @@ pub fn step(station: Station, tested: bool, store: &mut [u8], txn: u32) -> Chang
     if store.len() != Station::STORE {
         return refused(station, 1);
     }
-    if !tested {
-        return refused(station, 2);
-    }
     let live = station.live;
-    let place = place_of(live, txn);
-    let row = named_row(txn, 0, place);
-    if row != 0 {
-        return refused(station, row);
+    let at = named_at(live, tested, txn, 0);
+    if at.row != 0 {
+        return refused(station, at.row);
     }
+    let place = at.place;
     // Measured: here an index costs less than live_at.
     let l = station.live[place];
     let phase = l.phase;

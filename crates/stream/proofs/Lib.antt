@@ -2,3 +2,4 @@ pub mod JoinLaws
 pub mod BlockLaws
 pub mod RunLaws
 pub mod ReadsLaws
+pub mod Mach

@@ -2,45 +2,39 @@
 use Prim.Native.Nat.{ℕ, _+_, _≤_}
 use mathlib.Core.Path.{_≡_, refl, sym, ap, _∙_}
 use mathlib.Core.Logic.{_≢_}
-use mathlib.Core.Bool.{true}
+use mathlib.Core.Bool.{Bool}
 use mathlib.Core.List.{List, [], _∷_, append-nil}
 use lib.ListN.{length, take}
 use lib.Seq.{length-take-le}
-use mathlib.Core.Option.{Option}
 use Rattle.model.specs.declared.Station.{Station}
 use Rattle.model.specs.declared.Outcome.{Outcome}
 use Rattle.model.specs.Sound.{sound}
-use Rattle.model.specs.Effects.{stored, outcomeOf}
-use Rattle.model.specs.Calls.{Call}
-use Rattle.sheet.specs.declared.Command.{Command}
+use Rattle.model.specs.Lists.{_or_}
+use Rattle.model.specs.Effects.{outcomeOf}
 use Rattle.sheet.specs.Lines.{lineCall}
 use Rattle.sheet.specs.Commands.{commandOf}
 use Rattle.sheet.specs.Sheets.{Desk, lineEffect, afterLine, printed, lineOutput}
-use Rattle.desk.specs.Acts.{callOf, effectOf, acted, kept}
-use Rattle.desk.proofs.ActLaws.{call-of-command, acted-sound}
+use Rattle.desk.specs.declared.Request.{Request}
+use Rattle.desk.specs.Acts.{callOf, asksScan, acted, kept}
+use Rattle.desk.proofs.ActLaws.{acted-is, kept-is, acted-tested}
 use Rattle.sheet.specs.Words.{newline}
 use Rattle.stream.specs.Streams.{byteOutput, bytesOutput, lastLine, endOutput}
 use Rattle.stream.specs.Parts.{deskOf, streamOf}
 
-module _ (l : List ℕ) (st : Station) (s : List ℕ) (n : ℕ) (c : Command) (h : c ≡ commandOf (lineCall l)) (o : Outcome) (s′ : List ℕ)
-    (p : o ≡ acted st s (record { command = c; tested = true })) (q : s′ ≡ kept st s (record { command = c; tested = true })) where
-  call-is : callOf c ≡ lineCall l
-  call-is = ap callOf h ∙ call-of-command (lineCall l)
+module _ (l : List ℕ) (st : Station) (s : List ℕ) (n : ℕ) (q : Request) (h : q .command ≡ commandOf (lineCall l)) (o : Outcome) (p : o ≡ acted st s q) where
+  outcome-is : o ≡ outcomeOf (lineEffect (lineCall l) st s)
+  outcome-is = p ∙ acted-is q (lineCall l) h st s
 
-  pub line-run : deskOf (o .station) s′ (n + 1) ≡ afterLine l (deskOf st s n)
-  unfolding deskOf afterLine acted kept effectOf outcomeOf
-  line-run = λ i. record {
-    station = (ap (λ (x : Outcome). x .station) p ∙ ap (λ (x : Option Call). lineEffect x st s .station) call-is) i;
-    store = (q ∙ ap (λ (x : Option Call). stored (lineEffect x st s .stores) s) call-is) i;
-    line = n + 1;
-  }
+  pub line-run : (s′ : List ℕ) → s′ ≡ kept st s q → deskOf (o .station) s′ (n + 1) ≡ afterLine l (deskOf st s n)
+  unfolding deskOf afterLine outcomeOf
+  line-run s′ k = λ i. record { station = outcome-is i .station; store = (k ∙ kept-is q (lineCall l) h st s) i; line = n + 1 }
 
   pub line-answered : printed n (o .answer) ≡ lineOutput l (deskOf st s n)
-  unfolding deskOf lineOutput acted effectOf outcomeOf
-  line-answered = ap (λ (x : Outcome). printed n (x .answer)) p ∙ ap (λ (x : Option Call). printed n (lineEffect x st s .answer)) call-is
+  unfolding deskOf lineOutput outcomeOf
+  line-answered = ap (λ (x : Outcome). printed n (x .answer)) outcome-is
 
-  pub line-sound : sound st ≡ true → sound (o .station) ≡ true
-  line-sound z = ap (λ (x : Outcome). sound (x .station)) p ∙ acted-sound st s (record { command = c; tested = true }) z
+  pub line-tested : q .tested ≡ sound st → (t : Bool) → t ≡ (asksScan (callOf (q .command)) or q .tested) → t ≡ sound (o .station)
+  line-tested g t e = e ∙ ap (λ (b : Bool). asksScan (callOf (q .command)) or b) g ∙ sym (acted-tested st s q) ∙ ap (λ (x : Outcome). sound (x .station)) (sym p)
 
 -- ── the end of the input ──
 pub end-none : (st : Station) (s : List ℕ) (n : ℕ) (p : List ℕ) (len : ℕ) → len ≡ 0 → [] ≡ endOutput (streamOf st s n p len)

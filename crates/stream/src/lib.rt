@@ -1,24 +1,29 @@
 // The run sheet as a stream: blocks of input, cut anywhere, run line by line.
+use calls::Answer;
+use calls::Outcome;
 use calls::Station;
 use desk::Request;
-use desk::act_once;
+use desk::act;
+use desk::tested_after;
 use sheet::parse_line;
 use sheet::print_line;
+use soundness::is_sound;
 ghost use mathlib.Core.Path.{_≡_};
-ghost use mathlib.Core.Bool.{true};
 ghost use Prim.Native.Nat.{_+_, _*_, _^_, _≤_, _<_};
 ghost use lib.ListN.{length, take, drop};
 ghost use Rattle.model.specs.Sound.{sound};
 ghost use Rattle.sheet.specs.Sheets.{firstLine, afterLine, lineOutput};
+ghost use Rattle.desk.specs.Acts.{acted, kept};
 ghost use Rattle.stream.specs.Streams.{joined, afterBytes, bytesOutput, endOutput};
 ghost use Rattle.stream.specs.Parts.{deskOf, streamOf, joinedWith};
 
 // The bytes that are kept of a line: one more than a line may have, which tells a longer one.
 const KEPT: usize = 65;
 
-// The station after a line, and the bytes of its output.
+// The station after a line, what the soundness test says of it, and the bytes of the line's output.
 struct Ran {
     pub station: Station,
+    pub tested: bool,
     pub used: usize,
 }
 
@@ -66,32 +71,58 @@ fn fill(part: &mut [u8], len: usize, input: &[u8], start: usize) -> Filled
     Filled { len: n, end: i }
 }
 
-// A whole line: parsed, carried out and answered. The station is sound and stays so: what a test would say is known.
-fn run_line(station: Station, store: &mut [u8], line: &[u8], number: u64, out: &mut [u8]) -> Ran
-    requires { ⌜ (96 ≤ length (now out)) × (sound station ≡ true) ⌝ }
-    ensures { λ r. ⌜ (deskOf (r .station) (now (store .exit)) (number + 1) ≡ afterLine (now (line .entry)) (deskOf station (now (store .entry)) number)) × (r .used ≤ 96) × (take (r .used) (now (out .exit)) ≡ lineOutput (now (line .entry)) (deskOf station (now (store .entry)) number)) × (drop (r .used) (now (out .exit)) ≡ drop (r .used) (now (out .entry))) × (sound (r .station) ≡ true) ⌝ }
+// The one call that is lent the station: it writes the new one over it.
+fn act_on(station: &mut Station, store: &mut [u8], request: Request) -> Answer
+    requires { ⌜ request .tested ≡ sound (now station) ⌝ }
+    ensures { λ r. ⌜ (r ≡ acted (now (station .entry)) (now (store .entry)) request .answer) × (now (station .exit) ≡ acted (now (station .entry)) (now (store .entry)) request .station) × (now (store .exit) ≡ kept (now (station .entry)) (now (store .entry)) request) ⌝ }
+{
+    let o = act(*station, store, request);
+    *station = o.station;
+    o.answer
+}
+
+// Lends a station of its own to act_on, so that whoever calls this needs no reference to one.
+fn act_once(station: Station, store: &mut [u8], request: Request) -> Outcome
+    requires { ⌜ request .tested ≡ sound station ⌝ }
+    ensures { λ r. ⌜ (r ≡ acted station (now (store .entry)) request) × (now (store .exit) ≡ kept station (now (store .entry)) request) ⌝ }
+{
+    let mut s = station;
+    let a = act_on(&mut s, store, request);
+    Outcome {
+        station: s,
+        answer: a,
+    }
+}
+
+// A whole line: parsed, carried out and answered.
+fn run_line(
+    station: Station,
+    tested: bool,
+    store: &mut [u8],
+    line: &[u8],
+    number: u64,
+    out: &mut [u8],
+) -> Ran
+    requires { ⌜ (96 ≤ length (now out)) × (tested ≡ sound station) ⌝ }
+    ensures { λ r. ⌜ (deskOf (r .station) (now (store .exit)) (number + 1) ≡ afterLine (now (line .entry)) (deskOf station (now (store .entry)) number)) × (r .used ≤ 96) × (take (r .used) (now (out .exit)) ≡ lineOutput (now (line .entry)) (deskOf station (now (store .entry)) number)) × (drop (r .used) (now (out .exit)) ≡ drop (r .used) (now (out .entry))) × (r .tested ≡ sound (r .station)) ⌝ }
 {
     let command = parse_line(line);
-    let outcome = act_once(
-        station,
-        store,
-        Request {
-            command,
-            tested: true,
-        },
-    );
+    let request = Request { command, tested };
+    let outcome = act_once(station, store, request);
     let answer = outcome.answer;
     let used = print_line(out, number, answer);
     let next = outcome.station;
     Ran {
         station: next,
+        tested: tested_after(request),
         used,
     }
 }
 
-// A block of input. Each line prints at most 96 bytes, so out is never full. No input is so long that the lines' numbers reach 2^64.
-pub fn run_block(
+// The lines of a block. Each prints at most 96 bytes, so out is never full.
+fn run_lines(
     station: Station,
+    tested: bool,
     store: &mut [u8],
     part: &mut [u8],
     len: usize,
@@ -99,9 +130,10 @@ pub fn run_block(
     input: &[u8],
     out: &mut [u8],
 ) -> Fed
-    requires { ⌜ (length (now part) ≡ 65) × (len ≤ 65) × (number + length (now input) < 2 ^ 64) × (96 * length (now input) ≤ length (now out)) × (sound station ≡ true) ⌝ }
-    ensures { λ r. ⌜ (streamOf (r .station) (now (store .exit)) (r .number) (now (part .exit)) (r .len) ≡ afterBytes (now (input .entry)) (streamOf station (now (store .entry)) number (now (part .entry)) len)) × (take (r .used) (now (out .exit)) ≡ bytesOutput (now (input .entry)) (streamOf station (now (store .entry)) number (now (part .entry)) len)) × (drop (r .used) (now (out .exit)) ≡ drop (r .used) (now (out .entry))) × (r .used ≤ 96 * length (now (input .entry))) × (r .len ≤ 65) × (r .number ≤ number + length (now (input .entry))) × (sound (r .station) ≡ true) ⌝ }
+    requires { ⌜ (length (now part) ≡ 65) × (len ≤ 65) × (number + length (now input) < 2 ^ 64) × (96 * length (now input) ≤ length (now out)) × (tested ≡ sound station) ⌝ }
+    ensures { λ r. ⌜ (streamOf (r .station) (now (store .exit)) (r .number) (now (part .exit)) (r .len) ≡ afterBytes (now (input .entry)) (streamOf station (now (store .entry)) number (now (part .entry)) len)) × (take (r .used) (now (out .exit)) ≡ bytesOutput (now (input .entry)) (streamOf station (now (store .entry)) number (now (part .entry)) len)) × (drop (r .used) (now (out .exit)) ≡ drop (r .used) (now (out .entry))) × (r .used ≤ 96 * length (now (input .entry))) × (r .len ≤ 65) × (r .number ≤ number + length (now (input .entry))) ⌝ }
 {
+    let mut known = tested;
     let mut s = station;
     let mut next = number;
     let mut used = 0;
@@ -109,9 +141,10 @@ pub fn run_block(
     let mut n = first.len;
     let mut end = first.end;
     while end < input.len() {
-        let ran = run_line(s, store, &part[..n], next, &mut out[used..]);
+        let ran = run_line(s, known, store, &part[..n], next, &mut out[used..]);
         let after = ran.station;
         s = after;
+        known = ran.tested;
         used += ran.used;
         next += 1;
         let line = fill(part, 0, input, end + 1);
@@ -126,6 +159,24 @@ pub fn run_block(
     }
 }
 
+// A block of input. No input is so long that the lines' numbers reach 2^64. Soundness is tested once: what the test says after each line is
+// known. Measured: that the loop is a function of its own saves copies of the station.
+pub fn run_block(
+    station: Station,
+    store: &mut [u8],
+    part: &mut [u8],
+    len: usize,
+    number: u64,
+    input: &[u8],
+    out: &mut [u8],
+) -> Fed
+    requires { ⌜ (length (now part) ≡ 65) × (len ≤ 65) × (number + length (now input) < 2 ^ 64) × (96 * length (now input) ≤ length (now out)) ⌝ }
+    ensures { λ r. ⌜ (streamOf (r .station) (now (store .exit)) (r .number) (now (part .exit)) (r .len) ≡ afterBytes (now (input .entry)) (streamOf station (now (store .entry)) number (now (part .entry)) len)) × (take (r .used) (now (out .exit)) ≡ bytesOutput (now (input .entry)) (streamOf station (now (store .entry)) number (now (part .entry)) len)) × (drop (r .used) (now (out .exit)) ≡ drop (r .used) (now (out .entry))) × (r .used ≤ 96 * length (now (input .entry))) × (r .len ≤ 65) × (r .number ≤ number + length (now (input .entry))) ⌝ }
+{
+    let tested = is_sound(station);
+    run_lines(station, tested, store, part, len, number, input, out)
+}
+
 // The end of the input: a line that has begun is run, as if its newline came. The bytes of its output.
 pub fn finish(
     station: Station,
@@ -135,12 +186,13 @@ pub fn finish(
     number: u64,
     out: &mut [u8],
 ) -> usize
-    requires { ⌜ (length (now part) ≡ 65) × (len ≤ 65) × (number + 1 < 2 ^ 64) × (96 ≤ length (now out)) × (sound station ≡ true) ⌝ }
+    requires { ⌜ (length (now part) ≡ 65) × (len ≤ 65) × (number + 1 < 2 ^ 64) × (96 ≤ length (now out)) ⌝ }
     ensures { λ r. ⌜ (r ≤ 96) × (take r (now (out .exit)) ≡ endOutput (streamOf station (now (store .entry)) number (now (part .entry)) len)) × (drop r (now (out .exit)) ≡ drop r (now (out .entry))) ⌝ }
 {
     if len == 0 {
         return 0;
     }
-    let fed = run_block(station, store, part, len, number, b"\n", out);
+    let tested = is_sound(station);
+    let fed = run_lines(station, tested, store, part, len, number, b"\n", out);
     fed.used
 }

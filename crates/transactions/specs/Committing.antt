@@ -1,6 +1,7 @@
 -- Names for what the parts of a commit give.
 use Prim.Native.Nat.{ℕ}
-use mathlib.Core.Bool.{cond}
+use mathlib.Core.Bool.{Bool, not, cond}
+use mathlib.Core.List.{List, [], _∷_}
 use lib.Dec.{eqb, leb}
 use Rattle.model.specs.declared.Live.{Live}
 use Rattle.model.specs.declared.Station.{Station}
@@ -11,11 +12,12 @@ use Rattle.model.specs.Lists.{_and_, anyBelow}
 use Rattle.model.specs.Limits.{livePlaces, slots}
 use Rattle.model.specs.Lives.{noLive, withPhase}
 use Rattle.model.specs.Stations.{isFree}
+use Rattle.model.specs.Effects.{Row, _when_}
 use Rattle.model.specs.Commit.{highestFree}
 
--- the first of rows 3, 5 and 8 that applies to a transaction's number, a clock, and the slot and the place found; 0 where none does
-unfoldable pub unknownRow : ℕ → ℕ → ℕ → ℕ → ℕ
-unknownRow t c j i = cond (eqb t 0) 3 (cond (eqb c 0) 5 (cond (leb slots j and leb livePlaces i) 8 0))
+-- rows 2, 3, 5 and 8 of a commit, where the soundness test said b: of a transaction's number, a clock, and the slot and the place found
+unfoldable pub unknownRows : ℕ → ℕ → ℕ → ℕ → Bool → List Row
+unknownRows t c j i b = 2 when not b ∷ 3 when eqb t 0 ∷ 5 when eqb c 0 ∷ 8 when (leb livePlaces i and leb slots j) ∷ []
 
 -- the slot that a commit of so many writes takes; none has the number 64
 unfoldable pub slotFor : ℕ → Station → ℕ

@@ -12,8 +12,8 @@ use stations::highest_free;
 use stations::is_closing;
 use stations::live_at;
 use stations::live_changed;
-use stations::named_row;
 use stations::no_live;
+use stations::open_at;
 use stations::opened;
 use stations::place_of;
 use stations::refused;
@@ -27,9 +27,9 @@ ghost use Rattle.model.specs.Start.{start};
 ghost use Rattle.model.specs.Put.{put};
 ghost use Rattle.model.specs.Commit.{commit};
 ghost use Rattle.model.specs.Abort.{abort};
-ghost use Rattle.stations.specs.Found.{stationOf};
+ghost use Rattle.stations.specs.Found.{stationOf, firstRow};
 ghost use Rattle.stations.specs.Changes.{IsChange};
-ghost use Rattle.transactions.specs.Committing.{unknownRow, slotFor, afterCommit, commitAnswer};
+ghost use Rattle.transactions.specs.Committing.{unknownRows, slotFor, afterCommit, commitAnswer};
 
 // ---- start
 // Makes a transaction live and open, with empty sets, in the lowest unused place.
@@ -65,20 +65,13 @@ pub fn put(station: Station, tested: bool, txn: u32, key: u8, value: u64) -> Cha
     requires { ⌜ tested ≡ sound station ⌝ }
     ensures { λ r. ⌜ IsChange station (put station txn key value) r ⌝ }
 {
-    if !tested {
-        return refused(station, 2);
-    }
     let live = station.live;
-    let place = place_of(live, txn);
-    let row = named_row(txn, key, place);
-    if row != 0 {
-        return refused(station, row);
+    let at = open_at(live, tested, txn, key);
+    if at.row != 0 {
+        return refused(station, at.row);
     }
+    let place = at.place;
     let l = live_at(live, place);
-    let phase = l.phase;
-    if is_closing(phase) {
-        return refused(station, 9);
-    }
     if l.write_count >= Station::WRITES_U8 {
         if !has_written(l, key) {
             return refused(station, 11);
@@ -89,10 +82,13 @@ pub fn put(station: Station, tested: bool, txn: u32, key: u8, value: u64) -> Cha
 }
 
 // ---- commit
-// The first of rows 3, 5 and 8 that applies; 0 where none does.
-fn unknown_row(txn: u32, clock: u64, held: usize, place: usize) -> u8
-    ensures { λ r. ⌜ r ≡ unknownRow txn clock held place ⌝ }
+// The first of rows 2, 3, 5 and 8 that applies; 0 where none does.
+fn unknown_row(tested: bool, txn: u32, clock: u64, held: usize, place: usize) -> u8
+    ensures { λ r. ⌜ r ≡ firstRow (unknownRows txn clock held place tested) ⌝ }
 {
+    if !tested {
+        return 2;
+    }
     if txn == 0 {
         return 3;
     }
@@ -142,14 +138,11 @@ pub fn commit(station: Station, tested: bool, txn: u32, clock: u64) -> Change
     requires { ⌜ tested ≡ sound station ⌝ }
     ensures { λ r. ⌜ IsChange station (commit station txn clock) r ⌝ }
 {
-    if !tested {
-        return refused(station, 2);
-    }
     let entries = station.entries;
     let held = slot_of(entries, txn);
     let live = station.live;
     let place = place_of(live, txn);
-    let row = unknown_row(txn, clock, held, place);
+    let row = unknown_row(tested, txn, clock, held, place);
     if row != 0 {
         return refused(station, row);
     }
@@ -181,20 +174,11 @@ pub fn abort(station: Station, tested: bool, txn: u32) -> Change
     requires { ⌜ tested ≡ sound station ⌝ }
     ensures { λ r. ⌜ IsChange station (abort station txn) r ⌝ }
 {
-    if !tested {
-        return refused(station, 2);
-    }
     let live = station.live;
-    let place = place_of(live, txn);
-    let row = named_row(txn, 0, place);
-    if row != 0 {
-        return refused(station, row);
-    }
-    let dropped = live_at(live, place);
-    let phase = dropped.phase;
-    if is_closing(phase) {
-        return refused(station, 9);
+    let at = open_at(live, tested, txn, 0);
+    if at.row != 0 {
+        return refused(station, at.row);
     }
     let unused = no_live();
-    live_changed(station, Answer::Dropped, place, unused)
+    live_changed(station, Answer::Dropped, at.place, unused)
 }

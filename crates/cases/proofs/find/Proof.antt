@@ -1,46 +1,46 @@
-use lib.ListN.{length}
-use Prim.Native.Nat.{_≤_, _-_}
+use Prim.Native.Nat.{ℕ, _+_, _-_, _≤_}
+use mathlib.Core.Path.{_≡_}
+use mathlib.Core.List.{List}
+use lib.ListN.{length, take, drop, length-take, length-drop}
+use Rattle.decimal.specs.Fields.{field}
+use native.Mathlib.Omega.{arith}
 use borrow.Author.Needs.{needs}
+use Rattle.decimal.proofs.FieldLaws.{field-short}
 use Rattle.cases.proofs.find.Statement.{statement}
 use Rattle.cases.proofs.find.Tie as tie
 
-abbrev Inv-loop : tie.InvT-loop
-Inv-loop text from b i₀ i = (from ≤ i) × (i ≤ length text)
+-- the field lies in what is left
+inside : (text : List ℕ) (from r : ℕ) (b : ℕ) → from ≤ length text → r ≡ length (field b (take (length text - from) (drop from text))) → from + r ≤ length text
+inside text from r b o e =
+    omega (arith, e, field-short b (take (length text - from) (drop from text)), length-take (length text - from) (drop from text), length-drop from text)
 
-abbrev μ-loop : tie.MeasureT-loop
-μ-loop text from b i₀ i = length text - i
+sub-field-end : tie.Need-sub-field-end
+sub-field-end c = search needs
 
-loop-holds : tie.Need-loop-holds Inv-loop μ-loop
-loop-holds c = search needs
+part-field-end-start : tie.Need-part-field-end-start
+part-field-end-start c = search needs
 
-shared-slice-read-if1 : tie.Need-shared-slice-read-if1 Inv-loop μ-loop
-shared-slice-read-if1 c = search needs
+part-field-end-end : tie.Need-part-field-end-end
+part-field-end-end c = search needs
 
-returns : tie.Need-returns Inv-loop μ-loop
-returns c = search needs
+field-end-requires : tie.Need-field-end-requires
+field-end-requires c κs = search needs
 
-add-i : tie.Need-add-i Inv-loop μ-loop
-add-i c = search needs
+add-result : tie.Need-add-result
+add-result c = let a = c .before .before .before .args in
+    let h : a .from + c .field-end .result ≤ length (a .text .now) = inside (a .text .now) (a .from) _ (a .b) (c .before .before .before .pre) (c .field-end .ensures) in
+    search needs
 
-loop-less : tie.Need-loop-less Inv-loop μ-loop
-loop-less c = search needs
-
-loop-again : tie.Need-loop-again Inv-loop μ-loop
-loop-again c = search needs
-
-returns-2 : tie.Need-returns-2 Inv-loop μ-loop
-returns-2 c = search needs
+returns : tie.Need-returns
+returns c = let a = c .before .before .before .args in (omega arith, inside (a .text .now) (a .from) _ (a .b) (c .before .before .before .pre) (c .field-end .ensures))
 
 pub find-spec : {M : Type 1} → statement M
 find-spec =
     tie.close
     (tie.spec
-    Inv-loop
-    μ-loop
-    loop-holds
-    shared-slice-read-if1
-    returns
-    add-i
-    loop-less
-    loop-again
-    returns-2)
+    sub-field-end
+    part-field-end-start
+    part-field-end-end
+    field-end-requires
+    add-result
+    returns)

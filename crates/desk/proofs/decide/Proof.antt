@@ -2,9 +2,11 @@
 use borrow.Author.Needs.{needs}
 use mathlib.Core.Path.{sym, ap, _∙_}
 use mathlib.Core.Bool.{true≢false}
-use Rattle.model.specs.Calls.{Start, Put, Get, Commit, Step, Abort, Collect, does}
-use Rattle.desk.specs.Acts.{callOf, isCut}
-use Rattle.desk.proofs.ActLaws.{start-quiet, put-quiet, get-quiet, commit-quiet, abort-quiet, decides, decides-quiet, decides-not}
+use Rattle.model.specs.Calls.{Start, Put, Get, Commit, Step, Abort, Collect, does, isScan}
+use Rattle.model.proofs.StoreLaws.{start-stores-nothing, put-stores-nothing, get-stores-nothing, commit-stores-nothing, abort-stores-nothing}
+use Rattle.sheet.specs.declared.Command.{Command}
+use Rattle.desk.specs.Acts.{callOf, asksScan}
+use Rattle.desk.proofs.ActLaws.{decides, decides-quiet, decides-not}
 use Rattle.desk.proofs.decide.Statement.{statement}
 use Rattle.desk.proofs.decide.Tie as tie
 
@@ -64,22 +66,22 @@ refused-requires-2 c κs = search needs
 
 returns : tie.Need-returns
 unfolding callOf does
-returns c = decides-quiet _ _ _ (Start _) (ap callOf (c .before .before .command .given .1)) _ (c .start .ensures) (start-quiet _ _)
+returns c = decides-quiet _ _ _ (Start _) (ap callOf (c .before .before .command .given .1)) _ (c .start .ensures) (start-stores-nothing _ _)
 
 returns-2 : tie.Need-returns-2
 unfolding callOf does
-returns-2 c = decides-quiet _ _ _ (Put _ _ _) (ap callOf (c .before .before .command2 .given .1)) _ (c .put .ensures) (put-quiet _ _ _ _)
+returns-2 c = decides-quiet _ _ _ (Put _ _ _) (ap callOf (c .before .before .command2 .given .1)) _ (c .put .ensures) (put-stores-nothing _ _ _ _)
 
 same-length : tie.Need-same-length
 same-length c = search needs
 
 returns-3 : tie.Need-returns-3
 unfolding callOf does
-returns-3 c = decides-quiet _ _ _ (Get _ _) (ap callOf (c .before .before .before .command3 .given .1)) _ (c .get .ensures) (get-quiet _ _ _ _)
+returns-3 c = decides-quiet _ _ _ (Get _ _) (ap callOf (c .before .before .before .command3 .given .1)) _ (c .get .ensures) (get-stores-nothing _ _ _ _)
 
 returns-4 : tie.Need-returns-4
 unfolding callOf does
-returns-4 c = decides-quiet _ _ _ (Commit _ _) (ap callOf (c .before .before .command4 .given .1)) _ (c .commit .ensures) (commit-quiet _ _ _)
+returns-4 c = decides-quiet _ _ _ (Commit _ _) (ap callOf (c .before .before .command4 .given .1)) _ (c .commit .ensures) (commit-stores-nothing _ _ _)
 
 same-length-2 : tie.Need-same-length-2
 same-length-2 c = search needs
@@ -90,7 +92,7 @@ returns-5 c = decides _ _ _ (Step _) (ap callOf (c .before .before .before .befo
 
 returns-6 : tie.Need-returns-6
 unfolding callOf does
-returns-6 c = decides-quiet _ _ _ (Abort _) (ap callOf (c .before .before .command6 .given .1)) _ (c .abort .ensures) (abort-quiet _ _)
+returns-6 c = decides-quiet _ _ _ (Abort _) (ap callOf (c .before .before .command6 .given .1)) _ (c .abort .ensures) (abort-stores-nothing _ _)
 
 same-length-3 : tie.Need-same-length-3
 same-length-3 c = search needs
@@ -101,8 +103,8 @@ returns-7 c = decides _ _ _ (Collect _) (ap callOf (c .before .before .before .b
 
 -- a cut was ruled out
 returns-8 : tie.Need-returns-8
-unfolding isCut
-returns-8 c = absurd (true≢false (sym (ap isCut (c .before .enum-told .given .1)) ∙ c .before .before .before .before .pre .1))
+unfolding callOf asksScan isScan
+returns-8 c = absurd (true≢false (sym (ap (λ (x : Command). asksScan (callOf x)) (c .before .enum-told .given .1)) ∙ c .before .before .before .before .pre .1))
 
 returns-9 : tie.Need-returns-9
 unfolding callOf does

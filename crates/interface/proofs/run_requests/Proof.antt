@@ -15,7 +15,7 @@ use Rattle.model.proofs.SoundKept.{sound-scan}
 use Rattle.stations.specs.Changes.{changedBy}
 use Rattle.stations.proofs.Changes.{is-inside}
 use Rattle.desk.specs.declared.Request.{Request}
-use Rattle.desk.specs.Acts.{isCut}
+use Rattle.desk.specs.Acts.{callOf, asksScan}
 use Rattle.image.specs.Layout.{parts}
 use Rattle.interface.specs.declared.Current.{Current}
 use Rattle.interface.specs.Exchange.{requestSize, answerSize, Held, afterRequests, answersTo, requestsIn}
@@ -65,8 +65,8 @@ part-command-in-end c = search needs
 command-in-requires : tie.Need-command-in-requires Inv-loop μ-loop
 command-in-requires c κs = search needs
 
-is-cut-requires : tie.Need-is-cut-requires Inv-loop μ-loop
-is-cut-requires c κs = search needs
+asks-scan-requires : tie.Need-asks-scan-requires Inv-loop μ-loop
+asks-scan-requires c κs = search needs
 
 add-run-scan : tie.Need-add-run-scan Inv-loop μ-loop
 add-run-scan c = search needs
@@ -93,7 +93,7 @@ room c = omega (arith, c .loop-test .taken, c .before .loop .inv .1, c .before .
 loop-again : tie.Need-loop-again Inv-loop μ-loop
 loop-again c =
     let r = c .before .before .before .run-scan in
-    let n = c .before .before .before .before .before .before .before .is-cut in
+    let n = c .before .before .before .before .before .before .before .asks-scan in
     let m = c .before .before .before .before .before .before .before .before .command-in in
     let l = c .before .before .before .before .before .before .before .before .before .before .before .loop in
     let s = c .before .before .before .before .before .before .before .before .before .before .before .before .before .before .before .before in
@@ -102,7 +102,7 @@ loop-again c =
     let q = take (requestSize * l .i + requestSize - requestSize * l .i) (drop (requestSize * l .i) (s .args .requests .now)) in
     let h : Current = record { whole = l .whole; tested = l .tested; station = l .station } in
     let d : Request = record { command = m .result; tested = l .tested } in
-    let k : isCut (m .result) ≡ true = sym (n .ensures) ∙ c .before .before .before .before .before .before .if1 .taken in (
+    let k : asksScan (callOf (m .result)) ≡ true = sym (n .ensures) ∙ c .before .before .before .before .before .before .if1 .taken in (
       omega (arith, o),
       same-len-mid (answerSize * l .i) (answerSize * l .i + answerSize - answerSize * l .i) (l .answers) (r .last .1 .0) (r .kept .1 .0) ∙ l .inv .1,
       l .inv .2,
@@ -114,7 +114,7 @@ loop-again c =
     )
 
 decide-requires : tie.Need-decide-requires Inv-loop μ-loop
-decide-requires c κs = (c .before .before .before .before .before .before .loop .inv .3, sym (c .before .before .is-cut .ensures) ∙ c .before .if1 .left)
+decide-requires c κs = (c .before .before .before .before .before .before .loop .inv .3, sym (c .before .before .asks-scan .ensures) ∙ c .before .if1 .left)
 
 -- the change's place and slot are there
 inside : (c : tie.After-decide Inv-loop μ-loop) → (c .decide .result .place < livePlaces) × (c .decide .result .slot < slots)
@@ -159,7 +159,7 @@ unfolding changedBy setLive setEntry
 loop-again-2 c =
     let y = c .before .before .write-answer in
     let r = c .before .before .before .before .before .before .before .before .decide in
-    let n = c .before .before .before .before .before .before .before .before .before .before .before .is-cut in
+    let n = c .before .before .before .before .before .before .before .before .before .before .before .asks-scan in
     let m = c .before .before .before .before .before .before .before .before .before .before .before .before .command-in in
     let l = c .before .before .before .before .before .before .before .before .before .before .before .before .before .before .before .loop in
     let s = c .before .before .before .before .before .before .before .before .before .before .before .before .before .before .before .before .before .before .before .before in
@@ -168,7 +168,7 @@ loop-again-2 c =
     let q = take (requestSize * l .i + requestSize - requestSize * l .i) (drop (requestSize * l .i) (s .args .requests .now)) in
     let h : Current = record { whole = l .whole; tested = l .tested; station = l .station } in
     let d : Request = record { command = m .result; tested = l .tested } in
-    let k : isCut (m .result) ≡ false = sym (n .ensures) ∙ c .before .before .before .before .before .before .before .before .before .before .if1 .left in (
+    let k : asksScan (callOf (m .result)) ≡ false = sym (n .ensures) ∙ c .before .before .before .before .before .before .before .before .before .before .if1 .left in (
       omega (arith, o),
       same-len-mid (answerSize * l .i) (answerSize * l .i + answerSize - answerSize * l .i) (l .answers) (y .last .0) (y .kept .0) ∙ l .inv .1,
       r .kept .1 .0 ∙ l .inv .2,
@@ -207,7 +207,7 @@ run-requests-spec =
     part-command-in-start
     part-command-in-end
     command-in-requires
-    is-cut-requires
+    asks-scan-requires
     add-run-scan
     sub-run-scan
     part-run-scan-start

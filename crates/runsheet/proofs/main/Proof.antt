@@ -1,10 +1,5 @@
--- `runsheet::main` is safe and ends: what a scan hands back is a sound station.
-use mathlib.Core.Path.{ap, _∙_}
+-- `runsheet::main` is safe and ends.
 use borrow.Author.Needs.{needs}
-use Rattle.model.specs.declared.Outcome.{Outcome}
-use Rattle.model.specs.Sound.{sound}
-use Rattle.model.specs.Effects.{outcomeOf}
-use Rattle.model.proofs.SoundKept.{sound-scan}
 use Rattle.runsheet.proofs.main.Statement.{statement}
 use Rattle.runsheet.proofs.main.Tie as tie
 
@@ -27,9 +22,7 @@ slice-aggregate-run-all-4 : tie.Need-slice-aggregate-run-all-4
 slice-aggregate-run-all-4 c = search needs
 
 run-all-requires : tie.Need-run-all-requires
-unfolding outcomeOf
-run-all-requires c κs =
-    (search needs, search needs, search needs, ap (λ (o : Outcome). sound (o .station)) (c .before .before .before .before .before .scan .ensures) ∙ sound-scan _)
+run-all-requires c κs = (search needs, search needs, search needs)
 
 report-requires : tie.Need-report-requires
 report-requires c κs = search needs

@@ -34,7 +34,7 @@ run-sheet-requires : tie.Need-run-sheet-requires
 run-sheet-requires c κs =
     let h = c .before .before .before .before .before .before .before .before .before .print-header in
     let s = c .before .before .before .before .before .before .before .before .before .before .before .before .before .before .before in
-    (s .pre .0, s .pre .1, h .kept .0 ∙ s .pre .2, s .pre .3)
+    (s .pre .0, s .pre .1, h .kept .0 ∙ s .pre .2)
 
 same-length-2 : tie.Need-same-length-2
 same-length-2 c = search needs

@@ -1,25 +1,23 @@
 -- `runsheet::run_read` meets its contract.
 use Prim.Native.Nat.{_+_, _-_, _≤_}
-use mathlib.Core.Path.{_≡_, refl, sym, ap, _∙_}
-use mathlib.Core.Bool.{true}
+use mathlib.Core.Path.{_≡_, refl, sym, _∙_}
 use lib.ListN.{length, take, drop}
 use lib.Seq.{length-take-le}
 use borrow.Author.Needs.{needs}
 use borrow.Rule.Slice.PartMut.{mid-len, same-len-mid}
 use native.Mathlib.Omega.{arith}
-use Rattle.model.specs.Sound.{sound}
 use Rattle.runsheet.proofs.run_read.Statement.{statement}
 use Rattle.runsheet.proofs.run_read.Tie as tie
 
 abbrev Inv-loop : tie.InvT-loop
 Inv-loop store₀ part₀ len number input out₀ s₀ n₀ next₀ used₀ at₀ store part out s n next used at =
-    (at ≤ length input) × (n ≤ 65) × (used ≤ 131072) × (next ≤ number + at) × (length part ≡ 65) × (length out ≡ 131072) × (length store ≡ length store₀) × (sound s ≡ true)
+    (at ≤ length input) × (n ≤ 65) × (used ≤ 475136) × (next ≤ number + at) × (length part ≡ 65) × (length out ≡ 475136) × (length store ≡ length store₀)
 
 abbrev μ-loop : tie.MeasureT-loop
 μ-loop store₀ part₀ len number input out₀ s₀ n₀ next₀ used₀ at₀ store part out s n next used at = length input - at
 
 loop-holds : tie.Need-loop-holds Inv-loop μ-loop
-loop-holds c = let s = c .before .before .before .before in (omega arith, s .pre .1, omega arith, omega arith, s .pre .0, s .pre .3, refl, s .pre .4)
+loop-holds c = let s = c .before .before .before .before in (omega arith, s .pre .1, omega arith, omega arith, s .pre .0, s .pre .3, refl)
 
 make-room-requires : tie.Need-make-room-requires Inv-loop μ-loop
 make-room-requires c κs = search needs
@@ -40,7 +38,7 @@ returns : tie.Need-returns Inv-loop μ-loop
 returns c =
     let l = c .before .before .before .before .before .before .loop in
     let a = c .after-read .ensures in
-    (omega (arith, a .0, l .inv .1), omega (arith, a .1, l .inv .0, l .inv .3), ap sound (a .2) ∙ l .inv .7)
+    (omega (arith, a .0, l .inv .1), omega (arith, a .1, l .inv .0, l .inv .3))
 
 block-end-requires : tie.Need-block-end-requires Inv-loop μ-loop
 block-end-requires c κs = search needs
@@ -71,7 +69,7 @@ run-block-requires c κs =
     let m = c .before .before .before .before .before .before .before .make-room in
     let i : length (take (e .result - l .at) (drop (l .at) (s .args .input .now))) ≡ e .result - l .at = mid-len (l .at) (e .result) (s .args .input .now) (e .ensures .1) in
     let o : length (take (length (l .out) - m .result .start) (drop (m .result .start) (l .out))) ≡ length (l .out) - m .result .start = mid-len (m .result .start) (length (l .out)) (l .out) (omega arith) in
-    (l .inv .4, l .inv .1, omega (arith, i, s .pre .2, l .inv .0, l .inv .3, e .ensures .1), omega (arith, i, o, e .ensures .2, m .ensures, l .inv .5), l .inv .7)
+    (l .inv .4, l .inv .1, omega (arith, i, s .pre .2, l .inv .0, l .inv .3, e .ensures .1), omega (arith, i, o, e .ensures .2, m .ensures, l .inv .5))
 
 add-used : tie.Need-add-used Inv-loop μ-loop
 add-used c =
@@ -101,7 +99,6 @@ loop-again c =
       r .kept .1 .1 .0 ∙ l .inv .4,
       same-len-mid (m .result .start) (length (l .out) - m .result .start) (l .out) (r .last .1 .1 .1 .1 .1 .1 .0) (r .kept .1 .1 .1 .1 .1 .1 .0) ∙ l .inv .5,
       r .kept .1 .0 ∙ l .inv .6,
-      r .ensures .6,
     )
 
 slice-reshare-prefix-write-all : tie.Need-slice-reshare-prefix-write-all Inv-loop μ-loop
@@ -131,7 +128,7 @@ returns-2 : tie.Need-returns-2 Inv-loop μ-loop
 returns-2 c =
     let l = c .before .before .before .before .loop in
     let a = c .after-read2 .ensures in
-    (omega (arith, a .0, l .inv .1), omega (arith, a .1, l .inv .0, l .inv .3), ap sound (a .2) ∙ l .inv .7)
+    (omega (arith, a .0, l .inv .1), omega (arith, a .1, l .inv .0, l .inv .3))
 
 pub run-read-spec : {M : Type 1} → statement M
 run-read-spec =

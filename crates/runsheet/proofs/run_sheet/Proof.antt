@@ -1,24 +1,22 @@
 -- `runsheet::run_sheet` is safe and ends: 2^46 reads of 2^16 bytes have at most 2^62 lines.
 use Prim.Native.Nat.{_+_, _*_, _-_, _≤_}
 use mathlib.Core.Path.{_≡_, refl, sym, _∙_}
-use mathlib.Core.Bool.{true}
 use lib.ListN.{length, take}
 use borrow.Author.Needs.{needs}
 use native.Mathlib.Omega.{arith}
-use Rattle.model.specs.Sound.{sound}
 use Rattle.runsheet.proofs.run_sheet.Statement.{statement}
 use Rattle.runsheet.proofs.run_sheet.Tie as tie
 
 abbrev Inv-loop : tie.InvT-loop
 Inv-loop store₀ part₀ input₀ out₀ station₀ len₀ number₀ turns₀ store part input out station len number turns =
-    (length part ≡ 65) × (length input ≡ 65536) × (length out ≡ 131072) × (length store ≡ length store₀) × (len ≤ 65) × (number + 65536 * turns ≤ 4611686018427387905) × (sound station ≡ true)
+    (length part ≡ 65) × (length input ≡ 65536) × (length out ≡ 475136) × (length store ≡ length store₀) × (len ≤ 65) × (number + 65536 * turns ≤ 4611686018427387905)
 
 abbrev μ-loop : tie.MeasureT-loop
 μ-loop store₀ part₀ input₀ out₀ station₀ len₀ number₀ turns₀ store part input out station len number turns =
     turns
 
 loop-holds : tie.Need-loop-holds Inv-loop μ-loop
-loop-holds c = let s = c .before .before .before .before in (s .pre .0, s .pre .1, s .pre .2, refl, omega arith, omega arith, s .pre .3)
+loop-holds c = let s = c .before .before .before .before in (s .pre .0, s .pre .1, s .pre .2, refl, omega arith, omega arith)
 
 read-requires : tie.Need-read-requires Inv-loop μ-loop
 read-requires c κs = search needs
@@ -73,7 +71,7 @@ run-read-requires c κs =
     let b : n .result ≡ length (take (n .result) (g .last .1 .0)) = n .ensures .0 .1 in
     let d : n .result ≤ length (g .last .1 .0) = n .ensures .0 .0 in
     let e : length (g .last .1 .0) ≡ 65536 = g .kept .1 .0 ∙ l .inv .1 in
-    (l .inv .0, l .inv .4, omega (arith, b, d, e, l .inv .5, c .before .before .before .before .before .before .before .before .before .before .before .before .loop-test .taken), l .inv .2, l .inv .6)
+    (l .inv .0, l .inv .4, omega (arith, b, d, e, l .inv .5, c .before .before .before .before .before .before .before .before .before .before .before .before .loop-test .taken), l .inv .2)
 
 same-length-9 : tie.Need-same-length-9 Inv-loop μ-loop
 same-length-9 c = search needs
@@ -112,7 +110,6 @@ loop-again c =
       r .kept .1 .0 ∙ l .inv .3,
       r .ensures .0,
       omega (arith, a, b, d, e, l .inv .5, c .before .before .before .before .before .before .before .before .before .before .before .before .before .before .before .before .before .before .before .before .before .before .loop-test .taken),
-      r .ensures .2,
     )
 
 same-length-13 : tie.Need-same-length-13 Inv-loop μ-loop

@@ -16,7 +16,8 @@ use Rattle.model.specs.Records.{zeroRecord, recordAt}
 use Rattle.model.specs.Sound.{sound}
 use Rattle.model.specs.Supersedence.{superseded, isReadBy, isRead}
 use Rattle.storing.proofs.CollectRows.{collect-1, collect-2, collect-out, collect-unheld, collect-15, collect-16, collect-17, collect-on}
-use Rattle.storing.proofs.Parts.{record-part, handed, handed-storing}
+use Rattle.model.proofs.RecordLaws.{record-part}
+use Rattle.storing.proofs.Parts.{handed, handed-storing}
 use Rattle.storing.proofs.collect.Statement.{statement}
 use Rattle.storing.proofs.collect.Tie as tie
 

@@ -7,7 +7,7 @@ use borrow.Author.Needs.{needs}
 use Rattle.model.specs.Limits.{recordSize, slotSize}
 use Rattle.model.specs.Records.{valueIn, carriesVersion, recordAt}
 use Rattle.model.proofs.SlotLaws.{record-of-low}
-use Rattle.storing.proofs.Parts.{record-part}
+use Rattle.model.proofs.RecordLaws.{record-part}
 use Rattle.storing.proofs.read_version.Statement.{statement}
 use Rattle.storing.proofs.read_version.Tie as tie
 

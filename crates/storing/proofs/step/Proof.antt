@@ -1,59 +1,56 @@
 -- `storing::step` meets its contract.
 use Prim.Native.Nat.{ℕ, _≤_}
 use mathlib.Core.Path.{_≡_, sym, _∙_}
-use mathlib.Core.Bool.{true}
 use mathlib.Core.List.{List}
 use lib.ListN.{length, length-map}
 use native.Mathlib.Omega.{arith}
 use borrow.Author.Needs.{needs}
-use borrow.Author.Tests.{not-true, not-false}
 use Rattle.model.specs.declared.Station.{Station}
 use Rattle.model.specs.declared.Phase.the-variants.{Closing}
 use Rattle.model.specs.Limits.{storeSize}
-use Rattle.model.specs.Sound.{sound}
+use Rattle.model.specs.Step.{step}
 use Rattle.model.specs.Stations.{liveAt}
 use Rattle.model.proofs.SoundFacts.{IsClosing, closing-facts}
 use Rattle.model.proofs.SoundLaws.{write-limit}
 use Rattle.stations.proofs.Changes.{as-outcome}
-use Rattle.storing.proofs.Parts.{handed, Placed, placed}
-use Rattle.storing.proofs.StepRows.{not-closing, step-1, step-2, step-named, step-10, step-record, step-done}
+use Rattle.stations.proofs.RowLaws.{Placed, named-found}
+use Rattle.storing.proofs.Parts.{handed}
+use Rattle.storing.proofs.StepRows.{not-closing, step-rest, step-1, step-refused, step-open, step-10, step-record, step-done}
 use Rattle.storing.proofs.step.Statement.{statement}
 use Rattle.storing.proofs.step.Tie as tie
 
--- past rows 1 and 2
+-- past rows 1, 2, 3 and 8: the transaction is live at place i
 abbrev start : tie.Else2 → tie.Start
-start c = c .before .before .before
+start c = c .before .before .before .before .before .before
 
 size : (c : tie.Else2) → length (start c .args .store .now) ≡ storeSize
-size c = c .before .if1 .left
+size c = c .before .before .before .before .if1 .left
 
-right : (c : tie.Else2) → sound (start c .args .t1) ≡ true
-right c = sym (start c .pre) ∙ not-false _ (c .if2 .left)
+abbrev st : tie.Else2 → Station
+st c = start c .args .t1
 
-places : (c : tie.Else2) → length (start c .args .t1 .live) ≡ 8
-places c = simp length-map at (start c .good .0 .1 .1 .0 .1 .0 .1)
+abbrev s : tie.Else2 → List ℕ
+s c = start c .args .store .now
 
--- past rows 3 and 8: the transaction is live at place i
-abbrev st : tie.Else3 → Station
-st c = start (c .before .before .before .before) .args .t1
+abbrev t : tie.Else2 → ℕ
+t c = start c .args .txn
 
-abbrev s : tie.Else3 → List ℕ
-s c = start (c .before .before .before .before) .args .store .now
+abbrev i : tie.Else2 → ℕ
+i c = c .before .before .named-at .result .place
 
-abbrev t : tie.Else3 → ℕ
-t c = start (c .before .before .before .before) .args .txn
-
-abbrev i : tie.Else3 → ℕ
-i c = c .before .before .place-of .result
-
-found : (c : tie.Else3) → Placed (st c) (s c) (t c) 0 (i c)
+found : (c : tie.Else2) → Placed (st c) (t c) 0 (i c)
 found c =
-    let e = c .before .before .before .before in
-    placed (st c) (s c) (t c) 0 (i c) (size e) (right e) (c .before .before .place-of .ensures) (places e) (sym (c .before .named-row .ensures) ∙ c .if3 .left)
+    let a = c .before .before .named-at .ensures in
+    named-found _ _ _ _ (a .1) (a .2 (c .if2 .left)) _ (start c .pre) _ (c .if2 .left) (a .0)
+
+comes : (c : tie.Else2) → step (st c) (s c) (t c) ≡ step-rest (st c) (s c) (t c) (i c)
+comes c =
+    let a = c .before .before .named-at .ensures in
+    step-open _ _ _ (size c) _ (start c .pre) _ (a .0) (c .if2 .left) _ (a .1)
 
 -- past row 10: the transaction is closing, with slot d, its clock and n records stored
-abbrev e₃ : tie.After-phase → tie.Else3
-e₃ c = c .before .before .before
+abbrev e₂ : tie.After-phase → tie.Else2
+e₂ c = c .before .before .before
 
 abbrev d : tie.After-phase → ℕ
 d c = c .phase .given .0 .0
@@ -64,18 +61,18 @@ clock c = c .phase .given .0 .1 .0
 abbrev n : tie.After-phase → ℕ
 n c = c .phase .given .0 .1 .1 .0
 
-closing : (c : tie.After-phase) → liveAt (st (e₃ c)) (i (e₃ c)) .phase ≡ Closing (d c) (clock c) (n c)
+closing : (c : tie.After-phase) → liveAt (st (e₂ c)) (i (e₂ c)) .phase ≡ Closing (d c) (clock c) (n c)
 unfolding liveAt
 closing c = c .phase .given .1
 
-facts : (c : tie.After-phase) → IsClosing (st (e₃ c)) (liveAt (st (e₃ c)) (i (e₃ c))) (d c) (clock c) (n c)
-facts c = closing-facts (st (e₃ c)) (found (e₃ c) .right) (i (e₃ c)) (d c) (clock c) (n c) (closing c)
+facts : (c : tie.After-phase) → IsClosing (st (e₂ c)) (liveAt (st (e₂ c)) (i (e₂ c))) (d c) (clock c) (n c)
+facts c = closing-facts (st (e₂ c)) (found (e₂ c) .right) (i (e₂ c)) (d c) (clock c) (n c) (closing c)
 
 -- at the test for the last step
-abbrev p : tie.After-struct-known → tie.After-phase
+abbrev p : tie.After-struct-known2 → tie.After-phase
 p c = c .before .before .before
 
-limit : (c : tie.After-phase) → liveAt (st (e₃ c)) (i (e₃ c)) .«write_count» ≤ 8
+limit : (c : tie.After-phase) → liveAt (st (e₂ c)) (i (e₂ c)) .«write_count» ≤ 8
 limit c = write-limit _ (facts c .used .sets)
 
 refused-requires : tie.Need-refused-requires
@@ -87,33 +84,14 @@ returns c =
     let z = a .store .now in
     handed _ _ _ _ _ z (step-1 (a .t1) z (a .txn) (c .before .if1 .taken)) (c .refused .ensures)
 
+named-at-requires : tie.Need-named-at-requires
+named-at-requires c κs = tt
+
 refused-requires-2 : tie.Need-refused-requires-2
 refused-requires-2 c κs = tt
 
 returns-2 : tie.Need-returns-2
-returns-2 c =
-    let e = c .before .before .before .before in
-    let a = e .args in
-    let z = a .store .now in
-    handed _ _ _ _ _ z (step-2 (a .t1) z (a .txn) (c .before .before .if1 .left) (sym (e .pre) ∙ not-true _ (c .before .if2 .taken))) (c .refused2 .ensures)
-
-place-of-requires : tie.Need-place-of-requires
-place-of-requires c κs = tt
-
-named-row-requires : tie.Need-named-row-requires
-named-row-requires c κs = tt
-
-refused-requires-3 : tie.Need-refused-requires-3
-refused-requires-3 c κs = tt
-
-returns-3 : tie.Need-returns-3
-returns-3 c =
-    let r = c .before .before .named-row in
-    let i = c .before .before .before .place-of in
-    let e = c .before .before .before .before .before in
-    let a = start e .args in
-    let z = a .store .now in
-    handed _ _ _ _ _ z (step-named (a .t1) z (a .txn) (size e) (right e) (i .result) (r .result) (i .ensures) (places e) (r .ensures) (c .before .if3 .taken)) (c .refused3 .ensures)
+returns-2 c = handed _ _ _ _ _ (c .before .before .before .before .before .before .before .args .store .now) (step-refused _ _ _ (c .before .before .before .before .before .if1 .left) _ (c .before .before .before .before .before .before .before .pre) _ (c .before .before .before .named-at .ensures .0) (c .before .if2 .taken)) (c .refused2 .ensures)
 
 mul-l : tie.Need-mul-l
 mul-l c = omega (arith, found c .low)
@@ -124,14 +102,14 @@ element-copy-out-l c = found c .low
 enum-known-phase : tie.Need-enum-known-phase
 enum-known-phase c = search needs
 
-refused-requires-4 : tie.Need-refused-requires-4
-refused-requires-4 c κs = tt
+refused-requires-3 : tie.Need-refused-requires-3
+refused-requires-3 c κs = tt
 
-returns-4 : tie.Need-returns-4
+returns-3 : tie.Need-returns-3
 unfolding liveAt
-returns-4 c =
+returns-3 c =
     let e = c .before .before .before in
-    handed _ _ _ _ _ (s e) (step-10 (st e) (s e) (t e) (i e) (found e) (not-closing _ (c .before .match .keys2))) (c .refused4 .ensures)
+    handed _ _ _ _ _ (s e) (step-10 (st e) (s e) (t e) (i e) (comes e) (not-closing _ (c .before .match .keys2))) (c .refused3 .ensures)
 
 cast-d : tie.Need-cast-d
 cast-d c = search needs
@@ -142,18 +120,18 @@ entry-for-requires c κs = tt
 no-live-requires : tie.Need-no-live-requires
 no-live-requires c κs = tt
 
-returns-5 : tie.Need-returns-5
+returns-4 : tie.Need-returns-4
 unfolding liveAt
-returns-5 c =
+returns-4 c =
     let k = c .before .before .before in
     let f = p k in
-    let e = e₃ f in
+    let e = e₂ f in
     let m = k .before .entry-for in
-    step-done (st e) (s e) (t e) (i e) (found e) (d f) (clock f) (n f) (closing f) (c .no-live .result) (m .result) (c .before .before .if4 .taken) (m .ensures) (c .no-live .ensures) (facts f .low)
+    step-done (st e) (s e) (t e) (i e) (comes e) (d f) (clock f) (n f) (closing f) (c .no-live .result) (m .result) (c .before .before .if3 .taken) (m .ensures) (c .no-live .ensures) (found e .low) (facts f .low)
 
-add-t30 : tie.Need-add-t30
+add-t29 : tie.Need-add-t29
 unfolding liveAt
-add-t30 c = omega (arith, c .if4 .left, limit (p (c .before)))
+add-t29 c = omega (arith, c .if3 .left, limit (p (c .before)))
 
 with-phase-requires : tie.Need-with-phase-requires
 with-phase-requires c κs = tt
@@ -162,25 +140,25 @@ store-record-requires : tie.Need-store-record-requires
 unfolding liveAt
 store-record-requires c κs =
     let f = p (c .before .before .before) in
-    (found (e₃ f) .size, (facts f .low, (c .before .before .if4 .left, limit f)))
+    (size (e₂ f), (facts f .low, (c .before .before .if3 .left, limit f)))
 
 live-changed-requires : tie.Need-live-changed-requires
-live-changed-requires c κs = found (e₃ (p (c .before .before .before .before .before .before))) .low
+live-changed-requires c κs = found (e₂ (p (c .before .before .before .before .before .before))) .low
 
 same-length : tie.Need-same-length
 same-length c = search needs
 
-returns-6 : tie.Need-returns-6
+returns-5 : tie.Need-returns-5
 unfolding liveAt
-returns-6 c =
+returns-5 c =
     let o = c .before .before .before .before .before in
     let h = o .before in
     let k = h .before in
     let f = p k in
-    let e = e₃ f in
+    let e = e₂ f in
     let m = k .before .entry-for in
     let w = c .before .before .before .store-record in
-    let q = step-record (st e) (s e) (t e) (i e) (found e) (d f) (clock f) (n f) (closing f) (w .result) (o .with-phase .result) (m .result) (w .last .0) (h .if4 .left) (m .ensures) (o .with-phase .ensures) (w .ensures .0) (w .ensures .1) in
+    let q = step-record (st e) (s e) (t e) (i e) (comes e) (d f) (clock f) (n f) (closing f) (w .result) (o .with-phase .result) (m .result) (w .last .0) (h .if3 .left) (m .ensures) (o .with-phase .ensures) (w .ensures .0) (w .ensures .1) in
     (as-outcome _ _ _ _ (q .0) (c .live-changed .ensures), q .1)
 
 pub step-spec : {M : Type 1} → statement M
@@ -189,24 +167,21 @@ step-spec =
     (tie.spec
     refused-requires
     returns
+    named-at-requires
     refused-requires-2
     returns-2
-    place-of-requires
-    named-row-requires
-    refused-requires-3
-    returns-3
     mul-l
     element-copy-out-l
     enum-known-phase
-    refused-requires-4
-    returns-4
+    refused-requires-3
+    returns-3
     cast-d
     entry-for-requires
     no-live-requires
-    returns-5
-    add-t30
+    returns-4
+    add-t29
     with-phase-requires
     store-record-requires
     live-changed-requires
     same-length
-    returns-6)
+    returns-5)

@@ -4,7 +4,7 @@ use native.Mathlib.Omega.{arith}
 use borrow.Author.Needs.{needs}
 use Rattle.model.specs.Limits.{slotSize}
 use Rattle.model.specs.Entries.{commitRecord}
-use Rattle.storing.proofs.Parts.{record-written}
+use Rattle.model.proofs.RecordLaws.{record-written}
 use Rattle.storing.proofs.store_commit.Statement.{statement}
 use Rattle.storing.proofs.store_commit.Tie as tie
 

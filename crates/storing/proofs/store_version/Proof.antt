@@ -4,7 +4,7 @@ use mathlib.Core.Path.{refl}
 use borrow.Author.Needs.{needs}
 use Rattle.model.specs.Limits.{recordSize, slotSize}
 use Rattle.model.specs.Records.{versionRecord}
-use Rattle.storing.proofs.Parts.{record-written}
+use Rattle.model.proofs.RecordLaws.{record-written}
 use Rattle.storing.proofs.store_version.Statement.{statement}
 use Rattle.storing.proofs.store_version.Tie as tie
 

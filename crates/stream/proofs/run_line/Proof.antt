@@ -1,7 +1,8 @@
 -- `stream::run_line` meets its contract.
-use mathlib.Core.Path.{sym, _∙_}
+use mathlib.Core.Path.{_∙_}
 use borrow.Author.Needs.{needs}
-use Rattle.stream.proofs.RunLaws.{line-run, line-answered, line-sound}
+use Rattle.desk.specs.declared.Request.{Request}
+use Rattle.stream.proofs.RunLaws.{line-run, line-answered, line-tested}
 use Rattle.stream.proofs.run_line.Statement.{statement}
 use Rattle.stream.proofs.run_line.Tie as tie
 
@@ -9,10 +10,13 @@ parse-line-requires : tie.Need-parse-line-requires
 parse-line-requires c κs = search needs
 
 act-once-requires : tie.Need-act-once-requires
-act-once-requires c κs = sym (c .before .before .before .before .before .pre .1)
+act-once-requires c κs = search needs
 
 print-line-requires : tie.Need-print-line-requires
 print-line-requires c κs = search needs
+
+tested-after-requires : tie.Need-tested-after-requires
+tested-after-requires c κs = search needs
 
 same-length : tie.Need-same-length
 same-length c = search needs
@@ -22,16 +26,17 @@ same-length-2 c = search needs
 
 returns : tie.Need-returns
 returns c =
-    let s = c .before .before .before .before .before .before .before .before .before .before .before .before .before in
+    let s = c .before .before .before .before .before .before .before .before .before .before .before .before .before .before in
     let a = s .args in
-    let o = c .before .before .before .before .before .before .before .act-once in
-    let w = c .before .before .before .print-line in
-    let m = c .before .before .before .before .before .before .before .before .before .parse-line in (
-      line-run (a .line .now) (a .station) (a .store .now) (a .number) (m .result) (m .ensures) (o .result) (o .last .1 .0) (o .ensures .0) (o .ensures .1),
+    let m = c .before .before .before .before .before .before .before .before .before .before .parse-line in
+    let o = c .before .before .before .before .before .before .before .before .act-once in
+    let w = c .before .before .before .before .print-line in
+    let q : Request = record { command = m .result; tested = a .tested } in (
+      line-run (a .line .now) (a .station) (a .store .now) (a .number) q (m .ensures) (o .result) (o .ensures .0) (o .last .1 .0) (o .ensures .1),
       w .ensures .0,
-      w .ensures .1 ∙ line-answered (a .line .now) (a .station) (a .store .now) (a .number) (m .result) (m .ensures) (o .result) (o .last .1 .0) (o .ensures .0) (o .ensures .1),
+      w .ensures .1 ∙ line-answered (a .line .now) (a .station) (a .store .now) (a .number) q (m .ensures) (o .result) (o .ensures .0),
       w .ensures .2,
-      line-sound (a .line .now) (a .station) (a .store .now) (a .number) (m .result) (m .ensures) (o .result) (o .last .1 .0) (o .ensures .0) (o .ensures .1) (s .pre .1),
+      line-tested (a .line .now) (a .station) (a .store .now) (a .number) q (m .ensures) (o .result) (o .ensures .0) (s .pre .1) (c .tested-after .result) (c .tested-after .ensures),
     )
 
 pub run-line-spec : {M : Type 1} → statement M
@@ -41,6 +46,7 @@ run-line-spec =
     parse-line-requires
     act-once-requires
     print-line-requires
+    tested-after-requires
     same-length
     same-length-2
     returns)

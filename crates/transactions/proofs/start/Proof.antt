@@ -65,7 +65,7 @@ returns-4 c =
 
 -- what the searches have found
 sought : (c : tie.After-slot-of) → Sought (c .before .before .before .before .before .before .before .args .station) (c .before .before .before .before .before .before .before .args .txn) (c .slot-of .result) (c .before .before .before .place-of .result)
-sought c = record { isSound = sound-known (c .before .before .before .before .before .before); slotAt = c .slot-of .ensures; placeAt = c .before .before .before .place-of .ensures; entries64 = entries64 (c .before .before .before .before .before .before .before); live8 = live8 (c .before .before .before .before .before .before .before) }
+sought c = record { slotAt = c .slot-of .ensures; placeAt = c .before .before .before .place-of .ensures; entries64 = entries64 (c .before .before .before .before .before .before .before); live8 = live8 (c .before .before .before .before .before .before .before) }
 
 place-of-requires-2 : tie.Need-place-of-requires-2
 place-of-requires-2 c κs = search needs
@@ -76,7 +76,7 @@ refused-requires-5 c κs = search needs
 returns-5 : tie.Need-returns-5
 returns-5 c =
     as-effect _ _ _ _
-    (start-7 _ _ _ _ (sought (c .before .before .before .before)) (c .before .before .before .before .before .before .before .before .before .if2 .left) (c .before .before .before .before .before .before .if3 .left) (c .before .before .before .if4 .left) (place-none _ 0 _ (c .before .before .place-of2 .ensures) (live8 (c .before .before .before .before .before .before .before .before .before .before .before)) (c .before .if5 .taken)))
+    (start-7 _ _ _ _ (sought (c .before .before .before .before)) (sound-known (c .before .before .before .before .before .before .before .before .before .before)) (c .before .before .before .before .before .before .before .before .before .if2 .left) (c .before .before .before .before .before .before .if3 .left) (c .before .before .before .if4 .left) (place-none _ 0 _ (c .before .before .place-of2 .ensures) (live8 (c .before .before .before .before .before .before .before .before .before .before .before)) (c .before .if5 .taken)))
     (c .refused5 .ensures)
 
 opened-requires : tie.Need-opened-requires
@@ -90,7 +90,7 @@ returns-6 c =
     let z = c .before .before .before .place-of2 in
     as-effect _ _ _ _
     (placed A.Started _ _ _ _ _ _ refl (c .before .opened .ensures)
-    (start-done _ _ _ _ (sought (c .before .before .before .before .before)) (c .before .before .before .before .before .before .before .before .before .before .if2 .left) (c .before .before .before .before .before .before .before .if3 .left) (c .before .before .before .before .if4 .left) (place-live _ 0 _ (z .ensures) (live8 (c .before .before .before .before .before .before .before .before .before .before .before .before)) (c .before .before .if5 .left)) _ (place-eq _ 0 _ (z .ensures))))
+    (start-done _ _ _ _ (sought (c .before .before .before .before .before)) (sound-known (c .before .before .before .before .before .before .before .before .before .before .before)) (c .before .before .before .before .before .before .before .before .before .before .if2 .left) (c .before .before .before .before .before .before .before .if3 .left) (c .before .before .before .before .if4 .left) (place-live _ 0 _ (z .ensures) (live8 (c .before .before .before .before .before .before .before .before .before .before .before .before)) (c .before .before .if5 .left)) _ (place-eq _ 0 _ (z .ensures))))
     (c .live-changed .ensures)
 
 pub start-spec : {M : Type 1} → statement M

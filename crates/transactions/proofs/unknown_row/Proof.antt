@@ -2,29 +2,34 @@
 use borrow.Author.Tests.{eq-eqb, ne-eqb, le-leb, lt-leb}
 use Rattle.model.specs.Limits.{livePlaces, slots}
 use Rattle.model.proofs.Tests.{and-intro, and-none-left, and-none-right}
-use Rattle.transactions.specs.Committing.{unknownRow}
+use Rattle.stations.specs.Found.{firstRow}
+use Rattle.transactions.specs.Committing.{unknownRows}
 use Rattle.transactions.proofs.unknown_row.Statement.{statement}
 use Rattle.transactions.proofs.unknown_row.Tie as tie
 
 returns : tie.Need-returns
-unfolding unknownRow
-returns c = rw (eq-eqb _ 0 (c .if1 .taken))
+unfolding firstRow unknownRows
+returns c = rw (c .if1 .taken)
 
 returns-2 : tie.Need-returns-2
-unfolding unknownRow
-returns-2 c = rw (ne-eqb _ 0 (c .before .if1 .left), eq-eqb _ 0 (c .if2 .taken))
+unfolding firstRow unknownRows
+returns-2 c = rw (c .before .if1 .left, eq-eqb _ 0 (c .if2 .taken))
 
 returns-3 : tie.Need-returns-3
-unfolding unknownRow
-returns-3 c = rw (ne-eqb _ 0 (c .before .before .if1 .left), ne-eqb _ 0 (c .before .if2 .left), and-none-left _ _ (lt-leb slots _ (c .if3 .taken)))
+unfolding firstRow unknownRows
+returns-3 c = rw (c .before .before .if1 .left, ne-eqb _ 0 (c .before .if2 .left), eq-eqb _ 0 (c .if3 .taken))
 
 returns-4 : tie.Need-returns-4
-unfolding unknownRow
-returns-4 c = rw (ne-eqb _ 0 (c .before .before .before .if1 .left), ne-eqb _ 0 (c .before .before .if2 .left), and-intro _ _ (le-leb slots _ (c .before .if3 .left)) (le-leb livePlaces _ (c .if4 .taken)))
+unfolding firstRow unknownRows
+returns-4 c = rw (c .before .before .before .if1 .left, ne-eqb _ 0 (c .before .before .if2 .left), ne-eqb _ 0 (c .before .if3 .left), and-none-right _ _ (lt-leb slots _ (c .if4 .taken)))
 
 returns-5 : tie.Need-returns-5
-unfolding unknownRow
-returns-5 c = rw (ne-eqb _ 0 (c .before .before .before .if1 .left), ne-eqb _ 0 (c .before .before .if2 .left), and-none-right _ _ (lt-leb livePlaces _ (c .if4 .left)))
+unfolding firstRow unknownRows
+returns-5 c = rw (c .before .before .before .before .if1 .left, ne-eqb _ 0 (c .before .before .before .if2 .left), ne-eqb _ 0 (c .before .before .if3 .left), and-intro _ _ (le-leb livePlaces _ (c .if5 .taken)) (le-leb slots _ (c .before .if4 .left)))
+
+returns-6 : tie.Need-returns-6
+unfolding firstRow unknownRows
+returns-6 c = rw (c .before .before .before .before .if1 .left, ne-eqb _ 0 (c .before .before .before .if2 .left), ne-eqb _ 0 (c .before .before .if3 .left), and-none-left _ _ (lt-leb livePlaces _ (c .if5 .left)))
 
 pub unknown-row-spec : {M : Type 1} → statement M
-unknown-row-spec = tie.close (tie.spec returns returns-2 returns-3 returns-4 returns-5)
+unknown-row-spec = tie.close (tie.spec returns returns-2 returns-3 returns-4 returns-5 returns-6)

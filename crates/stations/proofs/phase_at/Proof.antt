@@ -1,0 +1,50 @@
+-- `stations::phase_at` meets its contract. The loop's invariant is that of `live_at`. Assumes nothing.
+use Prim.Native.Nat.{_≤_, _-_}
+use mathlib.Core.Path.{_≡_, ap}
+use lib.ListN.{getD}
+use native.Mathlib.Omega.{arith}
+use borrow.Author.Needs.{needs}
+use Rattle.model.specs.Lives.{liveBeyond}
+use Rattle.model.specs.Stations.{liveAt}
+use Rattle.stations.proofs.phase_at.Statement.{statement}
+use Rattle.stations.proofs.phase_at.Tie as tie
+
+abbrev Inv-loop : tie.InvT-loop
+Inv-loop place live i₀ i = (i ≤ 7) × (i ≤ place)
+
+abbrev μ-loop : tie.MeasureT-loop
+μ-loop place live i₀ i = 7 - i
+
+loop-holds : tie.Need-loop-holds Inv-loop μ-loop
+loop-holds c = (omega arith, omega arith)
+
+mul-l : tie.Need-mul-l Inv-loop μ-loop
+mul-l c = search needs
+
+array-copy-out-l : tie.Need-array-copy-out-l Inv-loop μ-loop
+array-copy-out-l c = search needs
+
+returns : tie.Need-returns Inv-loop μ-loop
+unfolding liveAt
+returns c = ap (λ i. getD (c .before .before .before .before .args .t1) i liveBeyond .phase) (c .if1 .taken)
+
+add-i : tie.Need-add-i Inv-loop μ-loop
+add-i c = search needs
+
+loop-less : tie.Need-loop-less Inv-loop μ-loop
+loop-less c = search needs
+
+loop-again : tie.Need-loop-again Inv-loop μ-loop
+loop-again c = (omega arith, omega arith)
+
+array-copy-out-last : tie.Need-array-copy-out-last Inv-loop μ-loop
+array-copy-out-last c = search needs
+
+returns-2 : tie.Need-returns-2 Inv-loop μ-loop
+unfolding liveAt
+returns-2 c =
+    let q : 7 ≡ c .before .before .before .args .place = omega arith in
+    ap (λ i. getD (c .before .before .before .args .t1) i liveBeyond .phase) q
+
+pub phase-at-spec : {M : Type 1} → statement M
+phase-at-spec = tie.close (tie.spec Inv-loop μ-loop loop-holds mul-l array-copy-out-l returns add-i loop-less loop-again array-copy-out-last returns-2)
