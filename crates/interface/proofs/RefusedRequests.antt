@@ -8,7 +8,6 @@ use mathlib.Core.List.{List, [], _∷_}
 use mathlib.Core.Option.{Option, some, none}
 use lib.ListN.{length}
 use native.Mathlib.Omega.{arith}
-use Rattle.model.specs.declared.Station.{Station}
 use Rattle.model.specs.Lists.{_and_, _or_, all}
 use Rattle.model.specs.Ids.{sameId}
 use Rattle.model.specs.Entries.{entryRules, isNoEntry}

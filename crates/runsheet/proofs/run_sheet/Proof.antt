@@ -1,5 +1,5 @@
 -- `runsheet::run_sheet` is safe and ends: 2^46 reads of 2^16 bytes have at most 2^62 lines.
-use Prim.Native.Nat.{_+_, _*_, _-_, _≤_}
+use Prim.Native.Nat.{_+_, _*_, _≤_}
 use mathlib.Core.Path.{_≡_, refl, sym, _∙_}
 use lib.ListN.{length, take}
 use borrow.Author.Needs.{needs}
