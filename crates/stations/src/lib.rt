@@ -76,7 +76,7 @@ pub fn live_at(live: [Live; Station::LIVE], place: usize) -> Live
     live[Station::LAST_PLACE]
 }
 
-// Its phase, by such a search: measured, a put is a tenth dearer where all of it is read for that.
+// Its phase, by such a search: measured, a put in a batch is a fifth dearer where the whole transaction is read for it.
 fn phase_at(live: [Live; Station::LIVE], place: usize) -> Phase
     requires { ⌜ place < livePlaces ⌝ }
     ensures { λ r. ⌜ r ≡ liveIn live place .phase ⌝ }
