@@ -114,12 +114,26 @@ impl Station {
 
     pub const STORE: usize = Station::SLOT * Station::SLOTS;
 
-    // The station made from nothing.
+    // The station made from nothing. Measured: made of blank and no_entry it is not inlined, and a scan costs a copy more.
     pub fn empty() -> Station
         ensures { λ r. ⌜ r ≡ emptyStation ⌝ }
     {
-        let live = blank(0, Phase::Unused);
-        let entry = no_entry();
+        let id = Id { clock: 0, txn: 0 };
+        let write = Write { key: 0, value: 0 };
+        let read = Read { key: 0, id: id };
+        let live = Live {
+            txn: 0,
+            phase: Phase::Unused,
+            write_count: 0,
+            writes: [write; Station::WRITES],
+            read_count: 0,
+            reads: [read; Station::READS],
+        };
+        let entry = Entry {
+            id: id,
+            count: 0,
+            keys: [0; Station::WRITES],
+        };
         Station {
             live: [live; Station::LIVE],
             entries: [entry; Station::SLOTS],
