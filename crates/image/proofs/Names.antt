@@ -28,6 +28,8 @@ unfoldable pub use Rattle.model.specs.Bytes.{bytes, number, idIn}
 unfoldable pub use Rattle.model.specs.Lives.{closingSlot, closingClock, recordsStored}
 unfoldable pub use Rattle.model.specs.Stations.{emptyStation}
 pub use Rattle.model.proofs.Tests.{and-none-left, and-none-right, and-intro, and-left, and-right}
+pub use Rattle.model.proofs.ListLaws.{every-append}
+pub use Rattle.model.proofs.RangesKept.{bytes-are, bytes-zeros}
 pub use Rattle.model.proofs.RecordLaws.{Bytes, bytes-take, bytes-drop, length-bytes, number-bytes, same-refl, bytes-number, same-true}
 pub use Rattle.records.proofs.SlotSteps.{part-length}
 pub use Rattle.records.proofs.ByteLaws.{keys-read}

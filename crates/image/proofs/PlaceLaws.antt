@@ -1,7 +1,7 @@
 -- The rows of an image and a place (specs/Layout, specs/Images), by their fields: as long as they say, read back, and tested.
-use Rattle.image.proofs.Names.{ℕ, zero, suc, _+_, _/_, _%_, _<_, _≤_, _≡_, refl, sym, ap, ap₂, _∙_, _≢_, Bool, true, List, [], _∷_, _++_, map, append-nil, eqb, length, take, drop, getD, set, replicate, length-append, length-drop, take-at, drop-at, drop-drop, length-take-le, arith, putMid, Id, Write, Live, Entry, Phase, Unused, Open, Closing, writeLimit, readLimit, recordSize, numberRange, byteRange, _and_, all, same, bytes, number, idIn, closingSlot, closingClock, recordsStored, and-intro, Bytes, bytes-take, bytes-drop, length-bytes, number-bytes, same-refl, headSize, itemSize, writesSize, readsSize, placeSize, Field, num, raw, fieldBytes, row, flat, parts, writeRow, writeBytes, writeFrom, startBytes, readRow, readBytes, readFrom, entryRow, entryBytes, entryFrom, phaseNumber, phaseOf, phaseFrom, headRow, placeHead, isAlone, placeBytes, placeFrom, isHead, isPlace, Every, IsByte, IdFits, WriteFits, ReadFits, PhaseFits, LiveFits, EntryFits}
+use Rattle.image.proofs.Names.{ℕ, zero, suc, _+_, _/_, _%_, _<_, _≤_, _≡_, refl, sym, ap, ap₂, _∙_, _≢_, Bool, true, List, [], _∷_, _++_, map, append-nil, eqb, length, take, drop, getD, set, replicate, length-append, length-drop, take-at, drop-at, drop-drop, length-take-le, arith, putMid, Id, Write, Live, Entry, Phase, Unused, Open, Closing, writeLimit, readLimit, recordSize, numberRange, byteRange, _and_, all, same, bytes, number, idIn, closingSlot, closingClock, recordsStored, and-intro, Bytes, bytes-take, bytes-drop, length-bytes, number-bytes, same-refl, headSize, itemSize, writesSize, readsSize, placeSize, Field, num, raw, fieldBytes, row, flat, parts, writeRow, writeBytes, writeFrom, startBytes, readRow, readBytes, readFrom, entryRow, entryBytes, entryFrom, phaseNumber, phaseOf, phaseFrom, headRow, placeHead, isAlone, placeBytes, placeFrom, isHead, isPlace, Every, IsByte, IdFits, WriteFits, ReadFits, PhaseFits, LiveFits, EntryFits, every-append, bytes-are, bytes-zeros}
 use Rattle.image.proofs.PartLaws.{parts-take}
-use Rattle.image.proofs.RowLaws.{spread-all, begins-part, begins-then, begins-at, begins-all, begins-only, and-end, rowAt, row-begins, row-is, own-byte, byte-is, own-number, number-is, zeros-are, alone-row, number-fits, bytes-every, bytes-are, zeros-bytes, append-bytes, row-bytes, Coded, array-bytes, array-long, array-back, array-last, array-many, array-fits, array-begins}
+use Rattle.image.proofs.RowLaws.{spread-all, begins-part, begins-then, begins-at, begins-all, begins-only, and-end, rowAt, row-begins, row-is, own-byte, byte-is, own-number, number-is, zeros-are, alone-row, number-fits, bytes-every, row-bytes, Coded, array-bytes, array-long, array-back, array-last, array-many, array-fits, array-begins}
 
 -- ── a write ──
 write-test : (b : List ℕ) → length b ≡ itemSize → Bytes b → same (writeBytes (writeFrom b)) b ≡ isAlone 8 b
@@ -17,7 +17,7 @@ write-coded = record {
   back = λ w f z. record { key = w .key; value = number-bytes 8 (w .value) (f .value64) z };
   fits = λ b l y. record { key8 = y 0 (omega arith); value64 = number-fits b 8 8 (omega arith) y };
   test = write-test;
-  are = λ w f. row-bytes (writeRow w) ((f .key8, tt), (zeros-bytes 7, (bytes-are 8 (w .value), tt)));
+  are = λ w f. row-bytes (writeRow w) ((f .key8, tt), (bytes-zeros 7, (bytes-are 8 (w .value), tt)));
 }
 
 -- ── an id, in a read and an entry ──
@@ -43,7 +43,7 @@ read-coded = record {
   back = λ r f z. record { key = r .key; id = record { clock = number-bytes 8 (r .id .clock) (f .id .clock64) z; txn = number-bytes 4 (r .id .txn) (f .id .txn32) z } };
   fits = λ b l y. record { key8 = y 0 (omega arith); id = id-fits b (omega arith) y };
   test = read-test;
-  are = λ r f. row-bytes (readRow r) ((f .key8, tt), (zeros-bytes 3, (bytes-are 4 (r .id .txn), (bytes-are 8 (r .id .clock), tt))));
+  are = λ r f. row-bytes (readRow r) ((f .key8, tt), (bytes-zeros 3, (bytes-are 4 (r .id .txn), (bytes-are 8 (r .id .clock), tt))));
 }
 
 -- ── an entry ──
@@ -68,7 +68,7 @@ entry-coded = record {
   };
   fits = λ b l y. record { id = id-fits b (omega arith) y; count8 = y 0 (omega arith); key-places = keys-long b l; keys = bytes-every (take writeLimit (drop 16 b)) (bytes-take writeLimit (drop 16 b) (bytes-drop 16 b y)) };
   test = entry-test;
-  are = λ e f. row-bytes (entryRow e) ((f .count8, tt), (zeros-bytes 3, (bytes-are 4 (e .id .txn), (bytes-are 8 (e .id .clock), (f .keys, tt)))));
+  are = λ e f. row-bytes (entryRow e) ((f .count8, tt), (bytes-zeros 3, (bytes-are 4 (e .id .txn), (bytes-are 8 (e .id .clock), (f .keys, tt)))));
 }
 
 -- ── a phase ──
@@ -111,7 +111,7 @@ head-bytes : (l : Live) → LiveFits l → Every IsByte (placeHead (l .phase) (l
 unfolding placeHead fieldBytes
 head-bytes l f =
     let p = l .phase in
-    row-bytes (headRow p (l .txn) (l .«write_count») (l .«read_count»)) ((phase-byte p, tt), ((f .phase .slot8, tt), ((f .phase .stored8, tt), ((f .writes8, tt), (bytes-are 4 (l .txn), (bytes-are 8 (closingClock p), ((f .reads8, tt), (zeros-bytes 7, tt))))))))
+    row-bytes (headRow p (l .txn) (l .«write_count») (l .«read_count»)) ((phase-byte p, tt), ((f .phase .slot8, tt), ((f .phase .stored8, tt), ((f .writes8, tt), (bytes-are 4 (l .txn), (bytes-are 8 (closingClock p), ((f .reads8, tt), (bytes-zeros 7, tt))))))))
 
 -- a phase, written, has the numbers that are read, its clock k, and the last bytes are zero
 abbrev pub headTest : List ℕ → ℕ → ℕ → ℕ → ℕ → ℕ → Bool
@@ -186,7 +186,7 @@ place-coded = record {
     reads = array-fits read-coded readLimit (drop (headSize + writesSize) b) (omega (arith, length-drop (headSize + writesSize) b)) (bytes-drop (headSize + writesSize) b y);
   };
   test = λ b l y. refl;
-  are = λ l f. append-bytes (placeHead (l .phase) (l .txn) (l .«write_count») (l .«read_count»)) (flat writeBytes (l .writes) ++ flat readBytes (l .reads)) (head-bytes l f) (append-bytes (flat writeBytes (l .writes)) (flat readBytes (l .reads)) (array-bytes write-coded (l .writes) (f .writes)) (array-bytes read-coded (l .reads) (f .reads)));
+  are = λ l f. every-append IsByte (placeHead (l .phase) (l .txn) (l .«write_count») (l .«read_count»)) (flat writeBytes (l .writes) ++ flat readBytes (l .reads)) (head-bytes l f) (every-append IsByte (flat writeBytes (l .writes)) (flat readBytes (l .reads)) (array-bytes write-coded (l .writes) (f .writes)) (array-bytes read-coded (l .reads) (f .reads)));
 }
 
 -- ── what is written over the parts of a row ──

@@ -1,7 +1,7 @@
 -- A station is written as bytes from which it is read back, and bytes are an image exactly where they are those of the station read.
-use Rattle.image.proofs.Names.{ℕ, _+_, _≤_, _≡_, sym, ap, ap₂, _∙_, _≢_, Bool, true, false, cond, List, _++_, map, length, take, drop, length-append, length-drop, drop-at, arith, eqb-true, eq-eqb, ne-eqb, Station, livePlaces, slots, recordSize, _and_, all, same, emptyStation, and-left, and-right, and-intro, Bytes, bytes-drop, same-refl, same-true, placeSize, placesSize, entriesSize, imageSize, flat, parts, entryBytes, entryFrom, isAlone, placeBytes, isPlace, stationBytes, stationIn, isImage, StationFits, Every, IsByte}
+use Rattle.image.proofs.Names.{ℕ, _+_, _≤_, _≡_, sym, ap, ap₂, _∙_, _≢_, Bool, true, false, cond, List, _++_, map, length, take, drop, length-append, length-drop, drop-at, arith, eqb-true, eq-eqb, ne-eqb, Station, livePlaces, slots, recordSize, _and_, all, same, emptyStation, and-left, and-right, and-intro, Bytes, bytes-drop, same-refl, same-true, placeSize, placesSize, entriesSize, imageSize, flat, parts, entryBytes, entryFrom, isAlone, placeBytes, isPlace, stationBytes, stationIn, isImage, StationFits, Every, IsByte, every-append}
 use Rattle.image.proofs.PartLaws.{parts-take}
-use Rattle.image.proofs.RowLaws.{begins-then, begins-all, array-long, array-back, array-last, array-many, array-fits, array-begins, array-bytes, append-bytes}
+use Rattle.image.proofs.RowLaws.{begins-then, begins-all, array-long, array-back, array-last, array-many, array-fits, array-begins, array-bytes}
 use Rattle.image.proofs.PlaceLaws.{entry-coded, place-coded}
 
 -- ── bytes are an image ──
@@ -68,7 +68,7 @@ module _ (st : Station) (f : StationFits st) where
   -- every number of it is a byte
   pub image-bytes : Every IsByte (stationBytes st)
   unfolding stationBytes
-  image-bytes = append-bytes (flat placeBytes (st .live)) (flat entryBytes (st .entries)) (array-bytes place-coded (st .live) (f .live)) (array-bytes entry-coded (st .entries) (f .entries))
+  image-bytes = every-append IsByte (flat placeBytes (st .live)) (flat entryBytes (st .entries)) (array-bytes place-coded (st .live) (f .live)) (array-bytes entry-coded (st .entries) (f .entries))
 
 -- bytes that are a station's image
 pub image-of : (st : Station) (b : List ℕ) → StationFits st → b ≡ stationBytes st → (isImage b ≡ true) × (stationIn b ≡ st)

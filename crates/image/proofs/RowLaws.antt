@@ -1,5 +1,5 @@
 -- Rows and arrays (specs/Layout): bytes begin with one exactly where each field, or each element, is as it must be.
-use Rattle.image.proofs.Names.{_/_, ℕ, zero, suc, _+_, _*_, _-_, _^_, _<_, _≤_, suc-le-suc, _≡_, refl, sym, ap, subst, _∙_, Bool, true, false, true≢false, List, [], _∷_, _++_, map, append-nil, append-assoc, eqb, length, take, drop, getD, replicate, length-append, length-drop, length-map, take-append-drop, drop-of-length-le, take-at, drop-at, drop-cons, drop-drop, length-take-le, mul-zero, mul-suc, add-comm, suc-ne-zero, zero-lt-suc, pow-succ', arith, eqb-true, eq-eqb, ne-eqb, byteRange, _and_, all, same, bytes, number, Bytes, bytes-take, bytes-drop, bytes-number, number-bytes, same-refl, same-true, Field, num, raw, byte, zeros, fieldBytes, row, flat, parts, isAlone, Every, IsByte}
+use Rattle.image.proofs.Names.{ℕ, zero, suc, _+_, _*_, _-_, _^_, _<_, _≤_, suc-le-suc, _≡_, refl, sym, ap, subst, _∙_, Bool, true, false, true≢false, List, [], _∷_, _++_, map, append-nil, append-assoc, eqb, length, take, drop, getD, replicate, length-append, length-drop, length-map, take-append-drop, drop-of-length-le, take-at, drop-at, drop-cons, drop-drop, length-take-le, mul-zero, mul-suc, add-comm, suc-ne-zero, zero-lt-suc, pow-succ', arith, eqb-true, eq-eqb, ne-eqb, byteRange, _and_, all, same, bytes, number, Bytes, bytes-take, bytes-drop, bytes-number, number-bytes, same-refl, same-true, Field, num, raw, byte, zeros, fieldBytes, row, flat, parts, isAlone, Every, IsByte, every-append}
 use Rattle.image.proofs.PartLaws.{parts-length}
 
 -- ── the cells of a list, one by one ──
@@ -165,22 +165,10 @@ pub number-fits : (b : List ℕ) (a k : ℕ) → a + k ≤ length b → Bytes b 
 number-fits b a k h y = subst (λ (n : ℕ). number (take k (drop a b)) < byteRange ^ n) (part-size b a k h) (number-small (take k (drop a b)) (bytes-take k (drop a b) (bytes-drop a b y)))
 
 -- ── every number written is a byte ──
-pub bytes-are : (n x : ℕ) → Every IsByte (bytes n x)
-unfolding bytes
-bytes-are zero x = tt
-bytes-are (suc n) x = (omega arith, bytes-are n (x / byteRange))
-
-pub zeros-bytes : (n : ℕ) → Every IsByte (replicate n 0)
-zeros-bytes n = subst (Every IsByte) (none n) (bytes-are n 0)
-
-pub append-bytes : (x y : List ℕ) → Every IsByte x → Every IsByte y → Every IsByte (x ++ y)
-append-bytes [] y hx hy = hy
-append-bytes (a ∷ x) y hx hy = (hx .0, append-bytes x y (hx .1) hy)
-
 flat-bytes : {A : Type 0} (f : A → List ℕ) (P : A → Type 0) → ((x : A) → P x → Every IsByte (f x)) → (xs : List A) → Every P xs → Every IsByte (flat f xs)
 unfolding flat
 flat-bytes f P g [] h = tt
-flat-bytes f P g (x ∷ xs) h = append-bytes (f x) (flat f xs) (g x (h .0)) (flat-bytes f P g xs (h .1))
+flat-bytes f P g (x ∷ xs) h = every-append IsByte (f x) (flat f xs) (g x (h .0)) (flat-bytes f P g xs (h .1))
 
 pub row-bytes : (fs : List Field) → Every (λ (f : Field). Every IsByte (fieldBytes f)) fs → Every IsByte (row fs)
 unfolding row
