@@ -73,7 +73,7 @@ fn code(a: Answer) -> u64 {
         Answer::Own(v) => v % 65536 + 16,
         Answer::Version(v, _) => v % 65536 + 17,
         Answer::None => 3,
-        Answer::Nofit => 4,
+        Answer::Nofit(k) => u64::from(k) + 22,
         Answer::Closing(d) => u64::from(d) + 18,
         Answer::Empty => 5,
         Answer::Done(_) => 6,

@@ -1,5 +1,5 @@
-/* A day at the desk, in C: a job is committed, power goes while the next one closes, and a scan starts the desk again. The host's disk is an
- * array beside the store: each record goes there, 24 bytes at a time, when it is written and before the next request. */
+/* A day at the desk, in C: a job is committed, power goes while the next one closes, and a scan starts the desk again; a reader is told which of its
+ * reads is in the way. The host's disk is an array beside the store: each record goes there, 24 bytes at a time, when it is written and before the next request. */
 #include "gorehimu.h"
 #include <stdio.h>
 
@@ -82,6 +82,20 @@ int main(void) {
     if (say("put 256, no key", GOREHIMU_PUT, 4, 256, 1).a != GOREHIMU_MALFORMED) return 1;
     close_all(4, say("commit at 102", GOREHIMU_COMMIT, 4, 0, 102));
     if (say("collect 63", GOREHIMU_COLLECT, 0, 63, 0).kind == GOREHIMU_COLLECTED) keep(63, 0);
+
+    /* a reader has the counter; a job moves it and names a price for the first time: no price fits the counter that was read */
+    say("start 5", GOREHIMU_START, 5, 0, 0);
+    say("get counter", GOREHIMU_GET, 5, 1, 0);
+    say("start 6", GOREHIMU_START, 6, 0, 0);
+    say("put counter", GOREHIMU_PUT, 6, 1, 9);
+    say("put price", GOREHIMU_PUT, 6, 2, 250);
+    close_all(6, say("commit at 103", GOREHIMU_COMMIT, 6, 0, 103));
+    struct gorehimu_answer price = say("get price", GOREHIMU_GET, 5, 2, 0);
+    if (price.kind != GOREHIMU_NOFIT) return 1;
+    say("abort 5", GOREHIMU_ABORT, 5, 0, 0);
+    say("start 7", GOREHIMU_START, 7, 0, 0);
+    say("get what was in the way", GOREHIMU_GET, 7, price.a, 0);
+    say("get price", GOREHIMU_GET, 7, 2, 0);
     printf("%-28s %s\n", "disk", memcmp(disk, store, sizeof store) == 0 ? "as the store" : "not as the store");
     return start_again();
 }

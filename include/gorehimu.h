@@ -71,7 +71,9 @@ enum gorehimu_kind {
     GOREHIMU_OWN = 3,       /* get: a the value that this transaction put */
     GOREHIMU_VERSION = 4,   /* get: a the value, b and c the clock and the transaction that wrote it; the key joins the read set */
     GOREHIMU_NONE = 5,      /* get: no one has written the key */
-    GOREHIMU_NOFIT = 6,     /* get: no version fits what was read before; abort and start again */
+    GOREHIMU_NOFIT = 6,     /* get: no version fits what was read before. a the key in the way, the lowest: this transaction has read it, and the
+                             * newest version of the wanted key was written together with a newer one of a. Read again, a gives the same, so
+                             * abort, start again, and read a first */
     GOREHIMU_CLOSING = 7,   /* commit: a the slot; now step until done */
     GOREHIMU_EMPTY = 8,     /* commit: nothing was put, the transaction is over */
     GOREHIMU_DONE = 9,      /* commit of a committed transaction, or the last step: b the clock, c the transaction */

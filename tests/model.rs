@@ -66,7 +66,7 @@ pub enum Answer {
     Own(u64),
     Version(u64, Id),
     None,
-    Nofit,
+    Nofit(u8),
     Closing(u8),
     Empty,
     Done(Id),
@@ -336,7 +336,7 @@ impl Station {
             return Err(Answer::None);
         }
         candidates.sort_by_key(|(_, e)| std::cmp::Reverse(e.id));
-        'candidates: for (d, e) in candidates {
+        'candidates: for &(d, e) in &candidates {
             if bound.is_some_and(|b| e.id < b) {
                 break;
             }
@@ -347,7 +347,9 @@ impl Station {
             }
             return Ok(d);
         }
-        Err(Answer::Nofit)
+        let newest = candidates[0].1;
+        let in_the_way = l.reads().iter().filter(|r| newest.wrote(r.key) && r.id < newest.id).map(|r| r.key).min();
+        Err(Answer::Nofit(in_the_way.expect("the newest entry that wrote the key conflicts with a read")))
     }
 
     pub fn get(&mut self, store: &[u8], txn: u32, key: u8) -> Answer {
@@ -512,7 +514,7 @@ impl Answer {
             Answer::Own(_) => "own",
             Answer::Version(..) => "version",
             Answer::None => "none",
-            Answer::Nofit => "nofit",
+            Answer::Nofit(_) => "nofit",
             Answer::Closing(_) => "closing",
             Answer::Empty => "empty",
             Answer::Done(_) => "done",
@@ -532,7 +534,7 @@ impl Answer {
             Answer::Version(v, id) => (v, id.clock, id.txn.into()),
             Answer::Closing(d) | Answer::Slipped(d) => (d.into(), 0, 0),
             Answer::Done(id) | Answer::Collected(id) => (0, id.clock, id.txn.into()),
-            Answer::Stored(k) => (k.into(), 0, 0),
+            Answer::Nofit(k) | Answer::Stored(k) => (k.into(), 0, 0),
             Answer::Found(n) => (n.into(), 0, 0),
             Answer::Refused(n, d) => (n.into(), d.into(), 0),
             _ => (0, 0, 0),

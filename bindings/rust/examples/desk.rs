@@ -1,5 +1,5 @@
 //! Two jobs, a cut while the second closes, and the desk started again from its disk, an array beside the store: each record goes there, 24 bytes
-//! at a time, when it is written and before the next request.
+//! at a time, when it is written and before the next request. Then a reader that is told which of its reads is in the way.
 
 use gorehimu::{record_place, Answer, Desk, Request, RECORD, STORE};
 
@@ -46,4 +46,18 @@ fn main() {
     println!("{:?} {:?}", desk.get(3, 0), desk.get(3, 1));
     println!("{:?} {:?}", desk.commit(1, 999), desk.commit(2, 101));
     println!("{:?} {:?}", desk.collect(63).refusal(), desk.commit(2, 101).refusal());
+
+    // transaction 3 has read the counter; a job moves it and names a price for the first time: no price fits the counter that was read
+    desk.start(4);
+    desk.put(4, 1, 8);
+    desk.put(4, 2, 250);
+    desk.commit(4, 102);
+    while !matches!(desk.step(4), Answer::Done { .. }) {}
+    let answer = desk.get(3, 2);
+    println!("{answer:?}");
+    if let Answer::Nofit(in_the_way) = answer {
+        desk.abort(3);
+        desk.start(5);
+        println!("{:?} {:?}", desk.get(5, in_the_way), desk.get(5, 2));
+    }
 }

@@ -171,8 +171,9 @@ pub enum Answer {
     },
     /// No one has written the key.
     None,
-    /// No version fits what was read before: abort, and start again.
-    Nofit,
+    /// No version fits what was read before. The key is the one in the way, the lowest: this transaction has read it, and the newest version of the
+    /// wanted key was written together with a newer one of it. Read again, it gives the same; so abort, start again, and read it first.
+    Nofit(u8),
     /// The transaction closes in this slot: step until done.
     Closing(u8),
     /// Nothing was put: the transaction is over.
@@ -318,7 +319,7 @@ impl Answer {
             3 => Answer::Own(field(1)),
             4 => Answer::Version { value: field(1), clock: field(2), transaction: transaction() },
             5 => Answer::None,
-            6 => Answer::Nofit,
+            6 => Answer::Nofit(small(1)),
             7 => Answer::Closing(small(1)),
             8 => Answer::Empty,
             9 => Answer::Done { clock: field(2), transaction: transaction() },

@@ -118,7 +118,7 @@ fn code(a: Answer) -> u64
         Answer::Own(v) => v % 65536 + 16,
         Answer::Version(v, _) => v % 65536 + 17,
         Answer::None => 3,
-        Answer::Nofit => 4,
+        Answer::Nofit(k) => k as u64 + 22,
         Answer::Closing(d) => d as u64 + 18,
         Answer::Empty => 5,
         Answer::Done(_) => 6,

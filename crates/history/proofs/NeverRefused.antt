@@ -75,7 +75,7 @@ module _ (st : Station) (s : List ℕ) (b : Ledger) (h : sound st ≡ true) (inv
   unfolding notCarried versionAt
   off17 i k (own v) e = refl
   off17 i k absent e = refl
-  off17 i k nofit e = refl
+  off17 i k (nofit x) e = refl
   off17 i k (version d) e =
       let r = version-entry st (liveAt st i) k d e in
       not-of-true _ (committed-version s d (entryAt st d) (inv .slots .entered d (wrote-held st h d k (r .1))) k (r .1))
@@ -90,7 +90,7 @@ module _ (st : Station) (s : List ℕ) (b : Ledger) (h : sound st ≡ true) (inv
       by-choice : (ch : Choice) → Calm (answered st s (placeOf t st) k ch)
       by-choice (own v) = calm-says _ _ refl
       by-choice absent = calm-says _ _ refl
-      by-choice nofit = calm-says _ _ refl
+      by-choice (nofit x) = calm-says _ _ refl
       by-choice (version d) = calm-says _ _ refl
   calm (Commit t c) = off 2 _ _ st _ off2 (row 3 _ _ st _ refl λ h3. row 5 _ _ st _ refl λ h5. row 8 _ _ st _ refl λ h8. row 9 _ _ st _ refl λ h9. row 13 _ _ st _ refl λ h13.
       unguarded Calm st _ (cond-rule Calm (isHeld t st) _ _ (λ y. calm-says _ _ refl) λ y. cond-rule Calm (eqb (liveAt st (placeOf t st) .«write_count») 0) _ _ (λ w. calm-says _ _ refl) λ w. calm-says _ _ refl))

@@ -143,6 +143,6 @@ get-keeps st s b t k inv h =
         → (x : Choice) → choiceOf st (liveAt st (placeOf t st)) k ≡ x → Good s b (Get t k) (answered st s (placeOf t st) k x)
     by-choice n z nc (own v) e = unfold answered in good-says s b (Get t k) (A.Own v) st (unfold feed in inv)
     by-choice n z nc absent e = unfold answered in good-says s b (Get t k) A.None st (unfold feed in inv)
-    by-choice n z nc nofit e = unfold answered in good-says s b (Get t k) A.Nofit st (unfold feed in inv)
+    by-choice n z nc (nofit x) e = unfold answered in good-says s b (Get t k) (A.Nofit x) st (unfold feed in inv)
     by-choice n z nc (version d) e = unfold answered in good-says s b (Get t k) _ _
         (unfold feed txnOf keyOf in version-read st s b inv h t k d n z nc (choice-version st (liveAt st (placeOf t st)) k d e))

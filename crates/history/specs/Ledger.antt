@@ -105,6 +105,6 @@ feed (A.Found n) c b = withDrafts [] b
 -- "Any other answer, a refusal too: nothing."
 feed (A.Own v) c b = b
 feed A.None c b = b
-feed A.Nofit c b = b
+feed (A.Nofit k) c b = b
 feed (A.Stored k) c b = b
 feed (A.Refused n d) c b = b

@@ -44,7 +44,7 @@ got : (st : Station) (s : List ℕ) (i k : ℕ) (ch : Choice) → Accepted (answ
 unfolding answered says refusedWith
 got st s i k (own v) = record { accepts = refl }
 got st s i k absent = record { accepts = refl }
-got st s i k nofit = record { accepts = refl }
+got st s i k (nofit x) = record { accepts = refl }
 got st s i k (version d) = record { accepts = refl }
 
 either : (b c : Bool) (x y z : Effect) → Accepted x → Accepted y → Accepted z → Accepted (cond b x (cond c y z))

@@ -86,7 +86,7 @@ fn kind_of(answer: Answer) -> u64
         Answer::Own(_) => 3,
         Answer::Version(_, _) => 4,
         Answer::None => 5,
-        Answer::Nofit => 6,
+        Answer::Nofit(_) => 6,
         Answer::Closing(_) => 7,
         Answer::Empty => 8,
         Answer::Done(_) => 9,

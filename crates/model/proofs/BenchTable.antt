@@ -1,16 +1,19 @@
 -- 01 'Bench sheet': the ★ cases, and for each of 01's 'Slips of thought seen before' a case that a definition with that slip fails,
--- as one table of calls with their answers under one claim. All keys, values and numbers are run through the definitions.
+-- as one table of calls with their answers under one claim; and 02's rows, request by request. All keys, values and numbers are run through
+-- the definitions.
 use Prim.Native.Nat.{ℕ}
 use mathlib.Core.Path.{_≡_, refl}
 use mathlib.Core.List.{List, [], _∷_, _++_, map}
-use lib.ListN.{replicate}
+use mathlib.Core.Option.{Option·elim}
+use lib.ListN.{length, replicate}
 use Rattle.model.specs.declared.Id.{Id}
 use Rattle.model.specs.declared.Write.{Write}
+use Rattle.model.specs.declared.Read.{Read}
 use Rattle.model.specs.declared.Entry.{Entry}
 use Rattle.model.specs.declared.Phase.the-variants.{Closing}
 use Rattle.model.specs.declared.Answer.{Answer}
 use Rattle.model.specs.declared.Answer.the-variants as A
-use Rattle.model.specs.Lists.{_and_, _or_, all, any, first, filter, count, insert, padded, from, member, ascending, distinct, same, anyBelow, greatestBelow}
+use Rattle.model.specs.Lists.{_and_, _or_, all, any, first, filter, count, insert, padded, from, member, least, ascending, distinct, same, anyBelow, greatestBelow}
 use Rattle.model.specs.Limits.{storeSize}
 use Rattle.model.specs.Ids.{older, sameId, newerOf, greatest}
 use Rattle.model.specs.Bytes.{bytes, number, idIn, headBytes}
@@ -20,7 +23,7 @@ use Rattle.model.specs.Stations.{emptyStation, liveAt, entryAt, setLive,
 use Rattle.model.specs.Records.{valueIn, versionRecord, zeroRecord, carriesVersion, recordAt, withRecord}
 use Rattle.model.specs.Slots.{versionsCarry, judged, seen}
 use Rattle.model.specs.Sound.{isNoWrite, isNoRead, isNoLive, zeroPastCounts, setsRight, names, inUse, closingRight, placeRight, entryRight, sound}
-use Rattle.model.specs.Reading.{lowerBound, conflictsWith, conflicts, passes, keepNewer, newest, nofit, chosen, choose}
+use Rattle.model.specs.Reading.{lowerBound, conflictsWith, lowestConflict, conflicts, passes, keepNewer, newest, newestWriter, keyInTheWay, Choice, nofit, chosen, choose}
 use Rattle.model.specs.Supersedence.{newerOn, superseded, isReadBy, isRead}
 use Rattle.model.specs.Effects.{stored, says, saysStoring, refusals, wrongLength, unsound}
 use Rattle.model.specs.Start.{opened, start}
@@ -80,11 +83,11 @@ starred =
     ++ ((Start 9, A.Started) ∷ (Get 9 K, A.Version 20 (id 2 2)) ∷ (Get 9 L, A.Version 21 (id 2 2)) ∷ []))
     -- "Only a {L}; L read; then b {K, L} held: K is nofit."
     ∷ (whole 1 1 63 (w L 10 ∷ []) ++ ((Start 9, A.Started) ∷ (Get 9 L, A.Version 10 (id 1 1)) ∷ [])
-    ++ whole 2 2 62 (w K 20 ∷ w L 21 ∷ []) ++ ((Get 9 K, A.Nofit) ∷ []))
+    ++ whole 2 2 62 (w K 20 ∷ w L 21 ∷ []) ++ ((Get 9 K, A.Nofit L) ∷ []))
     -- "a {K}, b {L}; K read; then c {K, L} held: L gives b."
     ∷ (readBeforeC ++ ((Get 9 L, A.Version 20 (id 2 2)) ∷ []))
     -- "The same, b collected first: L is nofit (§5.2.1)."
-    ∷ (readBeforeC ++ ((Collect 62, A.Collected (id 2 2)) ∷ (Get 9 L, A.Nofit) ∷ []))
+    ∷ (readBeforeC ++ ((Collect 62, A.Collected (id 2 2)) ∷ (Get 9 L, A.Nofit K) ∷ []))
     -- "The same, collecting a: 16."
     ∷ (readBeforeC ++ ((Collect 63, A.Refused 16 0) ∷ []))
     -- "Clock 100, tickets 5 and 9 write K: 9 is newer.": it is read, and of the two only 5 can be collected
@@ -114,6 +117,14 @@ slipsOfThought =
     ∷ (slipped 5 1 63 (w K 5 ∷ []) ++ ((Start 9, A.Started) ∷ (Get 9 K, A.None) ∷ (Collect 63, A.Refused 14 0) ∷ (Step 5, A.Done (id 1 5)) ∷ (Get 9 K, A.Version 5 (id 1 5)) ∷ []))
     ∷ []
 
+-- 02 §1: nofit names "the lowest on which the newest entry that wrote the wanted key conflicts", not a key of the last candidate tried. Keys
+-- 1 and 2 read; then b {0, 2} and c {0, 1} held: c, the newest, says 1, and b, tried last, says 2.
+pub nofitNames : List (List Line)
+nofitNames =
+    (whole 1 1 63 (w 1 11 ∷ w 2 12 ∷ []) ++ ((Start 9, A.Started) ∷ (Get 9 1, A.Version 11 (id 1 1)) ∷ (Get 9 2, A.Version 12 (id 1 1)) ∷ [])
+    ++ whole 2 2 62 (w 0 20 ∷ w 2 22 ∷ []) ++ whole 3 3 61 (w 0 30 ∷ w 1 31 ∷ []) ++ ((Get 9 0, A.Nofit 1) ∷ []))
+    ∷ []
+
 pub given : List Line → List Answer
 given ls = answers (map (λ (l : Line). l .0) ls) emptyStation (replicate storeSize 0)
 
@@ -121,21 +132,34 @@ pub expected : List Line → List Answer
 expected ls = map (λ (l : Line). l .1) ls
 
 pub table : List (List Line)
-table = starred ++ slipsOfThought
-
-abbrev wrote-L : Entry
-wrote-L = record { id = id 1 1; count = 1; keys = L ∷ [] }
-
-abbrev wrote-K-L : Entry
-wrote-K-L = record { id = id 2 2; count = 2; keys = K ∷ L ∷ [] }
+table = starred ++ slipsOfThought ++ nofitNames
 
 -- The claim: every line of every case is answered as the table says.
 pub bench-holds : map given table ≡ map expected table
-unfolding puts versions begun slipped whole readBeforeC starred slipsOfThought given expected table _and_ _or_ all any first filter count insert padded from member ascending distinct same anyBelow greatestBelow older sameId newerOf greatest emptyStation writesOf readsOf keysOf wrote wroteAs hasWritten hasRead valueUnder isClosing closingSlot closingClock recordsStored liveAt entryAt setLive setEntry liveTxns heldTxns isLive isHeld placeOf slotOf holds slotMark closingSlots isFree bytes number idIn markIn entryIn valueIn headBytes commitRecord versionRecord zeroRecord entryRules commitRules carriesEntry carriesVersion recordAt withRecord recordOf versionsCarry judged seen isNoWrite isNoRead isNoEntry isNoLive zeroPastCounts setsRight names inUse closingRight placeRight entryRight sound lowerBound conflictsWith conflicts passes keepNewer newest chosen choose newerOn superseded isReadBy isRead stored says saysStoring refusals wrongLength unsound opened start withWrites withWrite put choiceOf withReads withRead versionAt noRoom notCarried answered get withPhase highestFree commit entryFor oneMore stepped step abort collect slotsSeen entrySeen isCommitted breaks lowestBroken scanned scan does answers
+unfolding puts versions begun slipped whole readBeforeC starred slipsOfThought nofitNames given expected table _and_ _or_ all any first filter count insert padded from member ascending distinct same anyBelow greatestBelow older sameId newerOf greatest emptyStation writesOf readsOf keysOf wrote wroteAs hasWritten hasRead valueUnder isClosing closingSlot closingClock recordsStored liveAt entryAt setLive setEntry liveTxns heldTxns isLive isHeld placeOf slotOf holds slotMark closingSlots isFree bytes number idIn markIn entryIn valueIn headBytes commitRecord versionRecord zeroRecord entryRules commitRules carriesEntry carriesVersion recordAt withRecord recordOf versionsCarry judged seen isNoWrite isNoRead isNoEntry isNoLive zeroPastCounts setsRight names inUse closingRight placeRight entryRight sound lowerBound conflictsWith least lowestConflict conflicts Option·elim passes keepNewer newest newestWriter keyInTheWay chosen choose newerOn superseded isReadBy isRead stored says saysStoring refusals wrongLength unsound opened start withWrites withWrite put choiceOf withReads withRead versionAt noRoom notCarried answered get withPhase highestFree commit entryFor oneMore stepped step abort collect slotsSeen entrySeen isCommitted breaks lowestBroken scanned scan does answers
 bench-holds = refl
 
--- The lower bound shows only on a read list that no history makes: L read at a's version, K at b's, which wrote L too. Then a is below
--- the bound, b conflicts, and L is nofit.
-pub bound-holds : choose (wrote-L ∷ wrote-K-L ∷ []) (record { key = K; id = id 2 2 } ∷ record { key = L; id = id 1 1 } ∷ []) L ≡ nofit
-unfolding choose chosen newest keepNewer passes conflicts conflictsWith lowerBound greatest newerOf wroteAs wrote keysOf member any filter sameId older _and_ _or_
-bound-holds = refl
+-- ── Algorithm 1 alone, on entries and reads as no history makes them ──
+abbrev wroteAt : ℕ → List ℕ → Entry
+wroteAt c ks = record { id = id c c; count = length ks; keys = ks }
+
+abbrev readAt : ℕ → ℕ → Read
+readAt k c = record { key = k; id = id c c }
+
+-- entries, reads, the wanted key, what is chosen
+pub choices : List (List Entry × List Read × ℕ × Choice)
+choices =
+    -- The lower bound: L read at a's version, K at b's, which wrote L too. Then a is below the bound, b conflicts, and L is nofit. The key in
+    -- the way is L; not K, whose read set the bound.
+    (wroteAt 1 (L ∷ []) ∷ wroteAt 2 (K ∷ L ∷ []) ∷ [], readAt K 2 ∷ readAt L 1 ∷ [], L, nofit L)
+    -- of all keys on which the newest conflicts the lowest, wherever its read stands
+    ∷ (wroteAt 3 (0 ∷ 1 ∷ 2 ∷ []) ∷ [], readAt 2 1 ∷ readAt 1 1 ∷ [], 0, nofit 1)
+    -- but not the lowest on which any candidate does: the newest says 2, the other 1
+    ∷ (wroteAt 2 (0 ∷ 1 ∷ []) ∷ wroteAt 3 (0 ∷ 2 ∷ []) ∷ [], readAt 1 1 ∷ readAt 2 1 ∷ [], 0, nofit 2)
+    -- and of the entries that wrote the wanted key: a newer one that did not plays no part
+    ∷ (wroteAt 2 (0 ∷ 2 ∷ []) ∷ wroteAt 3 (1 ∷ []) ∷ [], readAt 1 1 ∷ readAt 2 1 ∷ [], 0, nofit 2)
+    ∷ []
+
+pub choices-hold : map (λ (x : List Entry × List Read × ℕ × Choice). choose (x .0) (x .1) (x .2)) choices ≡ map (λ (x : List Entry × List Read × ℕ × Choice). x .3) choices
+unfolding choices choose chosen newest keepNewer newestWriter keyInTheWay passes conflicts lowestConflict least Option·elim conflictsWith lowerBound greatest newerOf wroteAs wrote keysOf member any filter sameId older _and_ _or_
+choices-hold = refl

@@ -26,17 +26,20 @@ use Rattle.model.specs.Answers.{refusedWith}
 use Rattle.model.proofs.ListLaws.{first-yes, first-no, member-yes, member-no}
 use Rattle.model.proofs.InsertLaws.{insert-rule}
 use Rattle.model.proofs.RefusalLaws.{accepted}
-use Rattle.model.proofs.ReadingLaws.{version-is, passes-wrote, as-wrote}
+use Rattle.model.proofs.ReadingLaws.{version-is, passes-wrote, as-wrote, InTheWay, nofit-has-key}
 use Rattle.model.proofs.StationLaws.{entry-get}
 
--- a version: Algorithm 1 chose it
-pub choice-version : (st : Station) (l : Live) (k d : ℕ) → choiceOf st l k ≡ version d → choose (st .entries) (readsOf l) k ≡ version d
+-- not the transaction's own write: Algorithm 1 chose it
+choice-chosen : (st : Station) (l : Live) (k : ℕ) (x : Choice) → ((v : ℕ) → own v ≡ x → ⊥) → choiceOf st l k ≡ x → choose (st .entries) (readsOf l) k ≡ x
 unfolding choiceOf
-choice-version st l k d e = go (hasWritten k l) e
+choice-chosen st l k x other e = go (hasWritten k l) e
   where
-    go : (w : Bool) → cond w (own (valueUnder k (writesOf l))) (choose (st .entries) (readsOf l) k) ≡ version d → choose (st .entries) (readsOf l) k ≡ version d
-    go true x = let y : _≡_ {A = ℕ} 0 1 = cc in absurd (omega arith)
-    go false x = x
+    go : (w : Bool) → cond w (own (valueUnder k (writesOf l))) (choose (st .entries) (readsOf l) k) ≡ x → choose (st .entries) (readsOf l) k ≡ x
+    go true q = absurd (other _ q)
+    go false q = q
+
+pub choice-version : (st : Station) (l : Live) (k d : ℕ) → choiceOf st l k ≡ version d → choose (st .entries) (readsOf l) k ≡ version d
+choice-version st l k d = choice-chosen st l k (version d) (λ v e. let z : _≡_ {A = ℕ} 0 1 = cc in absurd (omega arith))
 
 -- its entry is there and wrote the key
 pub version-entry : (st : Station) (l : Live) (k d : ℕ) → choiceOf st l k ≡ version d → (d < length (st .entries)) × (wrote (entryAt st d) k ≡ true)
@@ -57,7 +60,7 @@ answered-version : (st : Station) (s : List ℕ) (i k : ℕ) (ch : Choice) (v : 
 unfolding answered says
 answered-version st s i k (own u) v x h = let z : _≡_ {A = ℕ} 0 1 = cc in absurd (omega arith)
 answered-version st s i k absent v x h = let z : _≡_ {A = ℕ} 0 1 = cc in absurd (omega arith)
-answered-version st s i k nofit v x h = let z : _≡_ {A = ℕ} 0 1 = cc in absurd (omega arith)
+answered-version st s i k (nofit n) v x h = let z : _≡_ {A = ℕ} 0 1 = cc in absurd (omega arith)
 answered-version st s i k (version d) v x h = (d, refl, cc, cc)
 
 pub get-version : (st : Station) (s : List ℕ) (t k v : ℕ) (x : Id) → get st s t k .answer ≡ A.Version v x
@@ -66,6 +69,24 @@ unfolding get all
 get-version st s t k v x h =
     let r = accepted _ st _ refl (ap refusedWith h ∙ (unfold refusedWith in refl)) in
     answered-version st s (placeOf t st) k _ v x (sym (ap (λ (e : Effect). e .answer) (r .1)) ∙ h)
+
+-- ── nofit names a key (02 §1) ──
+answered-nofit : (st : Station) (s : List ℕ) (i k : ℕ) (ch : Choice) (n : ℕ) → answered st s i k ch .answer ≡ A.Nofit n → ch ≡ nofit n
+unfolding answered says
+answered-nofit st s i k (own u) n h = let z : _≡_ {A = ℕ} 0 1 = cc in absurd (omega arith)
+answered-nofit st s i k absent n h = let z : _≡_ {A = ℕ} 0 1 = cc in absurd (omega arith)
+answered-nofit st s i k (nofit x) n h = ap nofit (cc)
+answered-nofit st s i k (version d) n h = let z : _≡_ {A = ℕ} 0 1 = cc in absurd (omega arith)
+
+-- a get that answers nofit, of any station and store: the newest entry that wrote the key conflicts, and on no lower key than the one named
+pub get-nofit-key : (st : Station) (s : List ℕ) (t k n : ℕ) → get st s t k .answer ≡ A.Nofit n → InTheWay (st .entries) (readsOf (liveAt st (placeOf t st))) k n
+unfolding get all
+get-nofit-key st s t k n h =
+    let r = accepted _ st _ refl (ap refusedWith h ∙ (unfold refusedWith in refl)) in
+    let l = liveAt st (placeOf t st) in
+    nofit-has-key (st .entries) (readsOf l) k n
+    (choice-chosen st l k (nofit n) (λ v e. let z : _≡_ {A = ℕ} 0 1 = cc in absurd (omega arith))
+    (answered-nofit st s (placeOf t st) k _ n (sym (ap (λ (e : Effect). e .answer) (r .1)) ∙ h)))
 
 -- ── read your writes (§3.5): a get of a key just put answers its value ──
 pub value-inserted : (k v : ℕ) (ws : List Write) → valueUnder k (insert writeKey (record { key = k; value = v }) ws) ≡ v

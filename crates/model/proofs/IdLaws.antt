@@ -5,7 +5,7 @@ use mathlib.Core.Logic.{_⊎_, inl, inr, ⊎-elim}
 use mathlib.Core.Bool.{Bool, true, false}
 use mathlib.Core.List.{List, [], _∷_, List·Memᴰ, List·Memᴰ·head, List·Memᴰ·tail, List·Memᴰ·not-nil, List·Memᴰ·cases-cons}
 use native.Mathlib.Nat.{lt-irrefl}
-use native.Mathlib.Decide.{decLt}
+use native.Mathlib.Decide.{ℕ-discrete, decLt}
 use native.Mathlib.Omega.{arith}
 use borrow.Author.Tests.{ltb-true, ltb-false, eqb-true, lt-ltb, le-ltb, eq-eqb}
 use Rattle.model.specs.declared.Id.{Id}
@@ -117,3 +117,11 @@ greatest-one (j ∷ is) = go (older j (greatest is)) refl (greatest-one is)
     go : (b : Bool) → older j (greatest is) ≡ b → (greatest is ≡ noId) ⊎ List·Memᴰ (greatest is) is → (newerOf j (greatest is) ≡ noId) ⊎ List·Memᴰ (newerOf j (greatest is)) (j ∷ is)
     go true e ih = unfold newerOf in (rw e (⊎-elim (λ z. inl z) (λ m. inr (List·Memᴰ·tail m)) ih))
     go false e ih = unfold newerOf in (rw e (inr (List·Memᴰ·head refl)))
+
+-- nothing is older than noId
+pub none-older : (i : Id) → older i noId ≡ false
+none-older i = is-not-older i noId (go (ℕ-discrete (i .clock) 0))
+  where
+    go : Dec (i .clock ≡ 0) → (0 < i .clock) ⊎ ((0 ≡ i .clock) × (0 ≤ i .txn))
+    go (yes e) = inr (sym e, omega arith)
+    go (no n) = inl (omega arith)

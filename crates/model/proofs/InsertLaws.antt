@@ -1,19 +1,19 @@
 -- Laws of `insert`, `padded` and `ascending` (specs/Lists), over plain lists.
-use Prim.Native.Nat.{ℕ, suc, _-_, _<_, _≤_, suc-le-suc}
+use Prim.Native.Nat.{ℕ, zero, suc, _-_, _<_, _≤_, suc-le-suc}
 use mathlib.Core.Path.{_≡_, refl, sym, ap, _∙_}
 use mathlib.Core.Logic.{_≢_, _⊎_, inl, inr, ⊎-elim}
 use mathlib.Core.Bool.{Bool, true, false, not, false≢true}
 use mathlib.Core.List.{List, [], _∷_, map, List·Memᴰ, List·Memᴰ·head, List·Memᴰ·tail, List·Memᴰ·not-nil, List·Memᴰ·cases-cons}
 use lib.Dec.{eqb, ltb, leb}
-use lib.ListN.{length, take, drop, replicate, length-append, length-replicate}
+use lib.ListN.{length, take, drop, getD, replicate, length-append, length-replicate}
 use lib.Seq.{take-append-seam, drop-append-seam}
-use native.Mathlib.Nat.{lt-irrefl, le-refl}
+use native.Mathlib.Nat.{lt-irrefl, le-refl, le-of-suc-le-suc, not-suc-le-zero}
 use native.Mathlib.Omega.{arith}
 use borrow.Author.Tests.{ltb-true, ltb-false, leb-true, leb-false, eqb-true, eqb-false, lt-ltb, le-leb, ne-eqb}
 use Rattle.model.specs.Lists.{_and_, all, any, insert, padded, member, ascending}
 use Rattle.model.specs.Ranges.{Every}
 use Rattle.model.proofs.Tests.{and-left, and-right, and-intro, and-second, not-of-false}
-use Rattle.model.proofs.ListLaws.{all-head, all-tail, all-cons, member-no, every-append, every-replicate}
+use Rattle.model.proofs.ListLaws.{all-head, all-tail, all-cons, member-no, member-at, every-append, every-replicate}
 
 -- ── ascending ──
 pub ascending-head : (lo hi n : ℕ) (ns : List ℕ) → ascending lo hi (n ∷ ns) ≡ true → (lo ≤ n) × (n < hi)
@@ -55,6 +55,15 @@ ascending-member lo hi k (n ∷ ns) h m = go (eqb k n) refl (ascending-member (s
     go : (b : Bool) → eqb k n ≡ b → (member k ns ≡ true → (suc n ≤ k) × (k < hi)) → (lo ≤ k) × (k < hi)
     go true e ih = rw (eqb-true k n e) r
     go false e ih = let q = ih (sym (member-no k n ns e) ∙ m) in (omega (arith, q .0, r .0), q .1)
+
+-- a later one is not less
+pub ascending-order : (lo hi : ℕ) (ns : List ℕ) → ascending lo hi ns ≡ true → (i j : ℕ) → i ≤ j → j < length ns → getD ns i 0 ≤ getD ns j 0
+ascending-order lo hi [] a i j o u = absurd (not-suc-le-zero u)
+ascending-order lo hi (n ∷ ns) a zero zero o u = omega arith
+ascending-order lo hi (n ∷ ns) a zero (suc j) o u =
+    let b = ascending-member (suc n) hi (getD ns j 0) ns (ascending-tail lo hi n ns a) (member-at ns j (le-of-suc-le-suc u)) in omega (arith, b .0)
+ascending-order lo hi (n ∷ ns) a (suc i) zero o u = absurd (not-suc-le-zero o)
+ascending-order lo hi (n ∷ ns) a (suc i) (suc j) o u = ascending-order (suc n) hi ns (ascending-tail lo hi n ns a) i j (le-of-suc-le-suc o) (le-of-suc-le-suc u)
 
 module _ {A : Type 0} (key : A → ℕ) (x : A) where
   -- ── insert ──

@@ -11,7 +11,7 @@ use lib.Seq.{getD-take}
 use native.Mathlib.Nat.{lt-irrefl, not-suc-le-zero}
 use native.Mathlib.Omega.{arith}
 use native.Mathlib.Numerals.{add-one}
-use borrow.Author.Tests.{leb-true, le-leb, lt-leb, eq-eqb, ne-eqb}
+use borrow.Author.Tests.{eqb-true, leb-true, le-leb, lt-leb, eq-eqb, ne-eqb}
 use Rattle.model.specs.declared.Id.{Id}
 use Rattle.model.specs.declared.Read.{Read}
 use Rattle.model.specs.declared.Live.{Live}
@@ -92,6 +92,14 @@ unfolding entryRight isNoEntry entryRules
 right-clock e h n z = ⊎-elim
     (λ x. n (ap (λ (i : Id). i .txn) (same-id _ _ (and-left _ _ (and-left _ _ x)))))
     (λ x. lt-irrefl 0 (omega (arith, z, leb-true 1 (e .id .clock) (and-right _ _ (and-left _ _ (and-left _ _ x))))))
+    (or-cases _ _ h)
+
+-- the keys of a right entry ascend
+pub right-ascending : (e : Entry) → entryRight e ≡ true → ascending 0 keys (keysOf e) ≡ true
+unfolding entryRight isNoEntry entryRules keysOf ascending
+right-ascending e h = ⊎-elim
+    (λ x. let z : e .count ≡ 0 = eqb-true (e .count) 0 (and-right _ _ (and-left _ _ x)) in rw z)
+    (λ x. and-right _ _ (and-left _ _ x))
     (or-cases _ _ h)
 
 -- whether it is right, by its count

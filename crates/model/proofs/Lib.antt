@@ -10,6 +10,7 @@ pub mod RecordLaws
 pub mod InsideLaws
 pub mod SlotLaws
 pub mod ScanLaws
+pub mod ConflictLaws
 pub mod ReadingLaws
 pub mod StationLaws
 pub mod GetLaws

@@ -1,9 +1,10 @@
 -- Laws of the searches and tests on lists (specs/Lists), over plain lists.
-use Prim.Native.Nat.{ℕ, zero, suc, _+_, _<_, _≤_, suc-le-suc}
+use Prim.Native.Nat.{ℕ, zero, suc, _+_, _<_, _≤_, min, suc-le-suc}
 use mathlib.Core.Path.{_≡_, refl, sym, ap, subst, _∙_}
 use mathlib.Core.Logic.{_≢_, _⊎_, inl, inr, ⊎-elim}
 use mathlib.Core.Bool.{Bool, true, false, true≢false, false≢true}
 use mathlib.Core.List.{List, [], _∷_, _++_, map, List·Memᴰ, List·Memᴰ·head, List·Memᴰ·tail, List·Memᴰ·not-nil, List·Memᴰ·cases-cons}
+use mathlib.Core.Option.{Option, some, none, Option·elim}
 use lib.Dec.{eqb}
 use lib.ListN.{length, take, drop, getD, replicate, set, length-set, List·getD-eq-default}
 use lib.Seq.{getD-set-same, getD-set-other}
@@ -11,7 +12,7 @@ use native.Mathlib.Nat.{le-of-suc-le-suc, not-suc-le-zero, zero-lt-suc, lt-irref
 use native.Mathlib.Decide.{ℕ-discrete, decLt}
 use native.Mathlib.Omega.{arith}
 use borrow.Author.Tests.{eqb-true, eq-eqb}
-use Rattle.model.specs.Lists.{all, any, first, count, from, member, anyBelow, greatestBelow}
+use Rattle.model.specs.Lists.{all, any, first, filter, count, from, member, least, anyBelow, greatestBelow}
 use Rattle.model.specs.Ranges.{Every}
 use Rattle.model.proofs.Tests.{or-cases}
 
@@ -346,3 +347,43 @@ module _ {A : Type 0} (P : A → Type 0) where
   pub every-map : {B : Type 0} (f : B → A) (Q : B → Type 0) → ((x : B) → Q x → P (f x)) → (xs : List B) → Every Q xs → Every P (map f xs)
   every-map f Q g [] h = tt
   every-map f Q g (x ∷ xs) h = (g x (h .0), every-map f Q g xs (h .1))
+
+-- ── what is made of those that pass ──
+module _ {A B : Type 0} (p : A → Bool) (f : A → B) where
+  pub kept-mem : (l : List A) (x : A) → List·Memᴰ x l → p x ≡ true → List·Memᴰ (f x) (map f (filter p l))
+  unfolding filter
+  kept-mem [] x m h = absurd (List·Memᴰ·not-nil m)
+  kept-mem (y ∷ ys) x m h = go (p y) refl (kept-mem ys x)
+    where
+      go : (b : Bool) → p y ≡ b → (List·Memᴰ x ys → p x ≡ true → List·Memᴰ (f x) (map f (filter p ys))) → List·Memᴰ (f x) (map f (filter p (y ∷ ys)))
+      go true e ih = rw (e, filter) (⊎-elim (λ q. List·Memᴰ·head (ap f q)) (λ m′. List·Memᴰ·tail (ih m′ h)) (List·Memᴰ·cases-cons m))
+      go false e ih = rw (e, filter) (⊎-elim (λ q. absurd (true≢false (sym h ∙ (ap p q ∙ e)))) (λ m′. ih m′ h) (List·Memᴰ·cases-cons m))
+
+  pub kept-from : (l : List A) (y : B) → List·Memᴰ y (map f (filter p l)) → (x : A) × List·Memᴰ x l × (p x ≡ true) × (y ≡ f x)
+  unfolding filter
+  kept-from [] y m = absurd (List·Memᴰ·not-nil m)
+  kept-from (x ∷ xs) y m = go (p x) refl (kept-from xs y)
+    where
+      go : (b : Bool) → p x ≡ b → (List·Memᴰ y (map f (filter p xs)) → (z : A) × List·Memᴰ z xs × (p z ≡ true) × (y ≡ f z))
+          → (z : A) × List·Memᴰ z (x ∷ xs) × (p z ≡ true) × (y ≡ f z)
+      go true e ih = ⊎-elim (λ q. (x, List·Memᴰ·head refl, e, q)) (λ m′. let r = ih m′ in (r .0, List·Memᴰ·tail (r .1), r .2, r .3))
+          (List·Memᴰ·cases-cons (rw (e, filter) at m))
+      go false e ih = let r = ih (rw (e, filter) at m) in (r .0, List·Memᴰ·tail (r .1), r .2, r .3)
+
+-- ── the least of a list: one of it, and none of it is less ──
+abbrev pub IsLeast : List ℕ → Option ℕ → Type 0
+IsLeast ns none = (n : ℕ) → List·Memᴰ n ns → ⊥
+IsLeast ns (some m) = List·Memᴰ m ns × ((n : ℕ) → List·Memᴰ n ns → m ≤ n)
+
+pub least-is : (ns : List ℕ) → IsLeast ns (least ns)
+unfolding least Option·elim
+least-is [] = λ n m. List·Memᴰ·not-nil m
+least-is (n ∷ ns) = go (least ns) (least-is ns)
+  where
+    go : (x : Option ℕ) → IsLeast ns x → IsLeast (n ∷ ns) (some (Option·elim x n (min n)))
+    go none f = (List·Memᴰ·head refl, λ j m. ⊎-elim (λ e. omega (arith, e)) (λ m′. absurd (f j m′)) (List·Memᴰ·cases-cons m))
+    go (some x) (h, f) = (one (decLt n x), λ j m. ⊎-elim (λ e. omega (arith, e)) (λ m′. omega (arith, f j m′)) (List·Memᴰ·cases-cons m))
+      where
+        one : Dec (n < x) → List·Memᴰ (min n x) (n ∷ ns)
+        one (yes o) = let e : min n x ≡ n = omega arith in List·Memᴰ·head e
+        one (no o) = let e : min n x ≡ x = omega arith in rw e (List·Memᴰ·tail h)

@@ -287,7 +287,7 @@ module _ (st : Station) (f : StationFits st) where
     unfolding noRoom answered
     answered-fits s k g u o (own v) e r = says-fits _ st f
     answered-fits s k g u o absent e r = says-fits _ st f
-    answered-fits s k g u o nofit e r = says-fits _ st f
+    answered-fits s k g u o (nofit x) e r = says-fits _ st f
     answered-fits s k g u o (version d) e r = relive _ _ _ (withRead-fits l g (st .entries) k _ u o (entry-fits d (version-entry st l k d e .0) .id) r (version-wrote st l k d e))
 
     stepped-fits : LiveFits l → Used (st .entries) l → EffectFits (stepped st i l (l .phase))

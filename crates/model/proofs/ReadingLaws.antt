@@ -1,10 +1,11 @@
--- Algorithm 1, over any list of entries and any list of reads: what is chosen, the paper's Theorem 1 and Corollary 1.1.
+-- Algorithm 1, over any list of entries and any list of reads: what is chosen, the key that nofit names, the paper's Theorem 1 and Corollary
+-- 1.1.
 use Prim.Native.Nat.{ℕ, zero, suc, _<_, suc-le-suc}
 use mathlib.Core.Path.{_≡_, refl, sym, ap, subst, _∙_}
 use mathlib.Core.Logic.{_⊎_, inl, inr, ⊎-elim}
-use mathlib.Core.Bool.{Bool, true, false, true≢false}
-use mathlib.Core.List.{List, [], _∷_, map, List·Memᴰ, List·Memᴰ·head, List·Memᴰ·tail, List·Memᴰ·not-nil, List·Memᴰ·cases-cons}
-use mathlib.Core.Option.{Option, some, none}
+use mathlib.Core.Bool.{Bool, true, false, not, true≢false}
+use mathlib.Core.List.{List, [], _∷_, map, List·Memᴰ, List·Memᴰ·cases-cons}
+use mathlib.Core.Option.{Option, some, none, Option·elim, Option·getD}
 use lib.ListN.{length, getD}
 use native.Mathlib.Nat.{le-of-suc-le-suc, not-suc-le-zero, zero-lt-suc}
 use native.Mathlib.Omega.{arith}
@@ -13,27 +14,14 @@ use Rattle.model.specs.declared.Id.{Id}
 use Rattle.model.specs.declared.Read.{Read}
 use Rattle.model.specs.declared.Entry.{Entry}
 use Rattle.model.specs.Lists.{_and_, any, filter}
-use Rattle.model.specs.Ids.{older, sameId}
+use Rattle.model.specs.Ids.{older, sameId, greatest}
 use Rattle.model.specs.Entries.{noEntry, wrote, wroteAs}
-use Rattle.model.specs.Reading.{lowerBound, conflictsWith, conflicts, passes, keepNewer, newest, absent, nofit, version, chosen, choose, Atomic}
+use Rattle.model.specs.Reading.{lowerBound, conflictsWith, lowestConflict, conflicts, newestWriter, keyInTheWay, passes, keepNewer, newest, absent, nofit, version, chosen, choose, Atomic}
 use Rattle.model.specs.Step.{step}
-use Rattle.model.proofs.Tests.{and-left, and-right, and-intro, and-second}
-use Rattle.model.proofs.ListLaws.{any-finds, any-at, any-none}
-use Rattle.model.proofs.IdLaws.{older-irrefl, older-asym, not-older-trans, older-total, same-id, id-same, greatest-above}
-
--- ── lists with those that pass ──
-filter-mem : {A : Type 0} (p : A → Bool) (l : List A) (x : A) → List·Memᴰ x l → p x ≡ true → List·Memᴰ x (filter p l)
-unfolding filter
-filter-mem p [] x m h = absurd (List·Memᴰ·not-nil m)
-filter-mem p (y ∷ ys) x m h = go (p y) refl (filter-mem p ys x)
-  where
-    go : (b : Bool) → p y ≡ b → (List·Memᴰ x ys → p x ≡ true → List·Memᴰ x (filter p ys)) → List·Memᴰ x (filter p (y ∷ ys))
-    go true e ih = rw (e, filter) (⊎-elim (λ q. List·Memᴰ·head q) (λ m′. List·Memᴰ·tail (ih m′ h)) (List·Memᴰ·cases-cons m))
-    go false e ih = rw (e, filter) (⊎-elim (λ q. absurd (true≢false (sym h ∙ (ap p q ∙ e)))) (λ m′. ih m′ h) (List·Memᴰ·cases-cons m))
-
-map-mem : {A B : Type 0} (f : A → B) (l : List A) (x : A) → List·Memᴰ x l → List·Memᴰ (f x) (map f l)
-map-mem f [] x m = absurd (List·Memᴰ·not-nil m)
-map-mem f (y ∷ ys) x m = ⊎-elim (λ e. List·Memᴰ·head (ap f e)) (λ m′. List·Memᴰ·tail (map-mem f ys x m′)) (List·Memᴰ·cases-cons m)
+use Rattle.model.proofs.Tests.{and-left, and-right, and-intro, and-second, not-of-false}
+use Rattle.model.proofs.ListLaws.{any-finds, any-at, any-none, kept-mem, kept-from}
+use Rattle.model.proofs.IdLaws.{older-irrefl, older-asym, not-older-trans, older-total, same-id, id-same, greatest-above, greatest-one, none-older}
+use Rattle.model.proofs.ConflictLaws.{ConflictsLowest, test-gives, conflicts-any}
 
 -- ── the newest that passes ──
 pub record IsNewest (p : Entry → Bool) (es : List Entry) (d : ℕ) : Type 0 where
@@ -85,39 +73,39 @@ pub newest-none : (p : Entry → Bool) (es : List Entry) → newest p es ≡ non
 newest-none p es h = newest-outcome p es none h
 
 -- ── what is chosen ──
-chosen-some : (b : Bool) (x : Option ℕ) (d : ℕ) → chosen b x ≡ version d → x ≡ some d
+chosen-some : (b : Bool) (x : Option ℕ) (y d : ℕ) → chosen b x y ≡ version d → x ≡ some d
 unfolding chosen
-chosen-some b (some c) d h = ap some (cc)
-chosen-some true none d h = let z : _≡_ {A = ℕ} 0 1 = cc in absurd (omega arith)
-chosen-some false none d h = let z : _≡_ {A = ℕ} 0 1 = cc in absurd (omega arith)
+chosen-some b (some c) y d h = ap some (cc)
+chosen-some true none y d h = let z : _≡_ {A = ℕ} 0 1 = cc in absurd (omega arith)
+chosen-some false none y d h = let z : _≡_ {A = ℕ} 0 1 = cc in absurd (omega arith)
 
-chosen-nofit : (b : Bool) (x : Option ℕ) → chosen b x ≡ nofit → (b ≡ true) × (x ≡ none)
+chosen-nofit : (b : Bool) (x : Option ℕ) (y n : ℕ) → chosen b x y ≡ nofit n → (b ≡ true) × (x ≡ none) × (y ≡ n)
 unfolding chosen
-chosen-nofit b (some c) h = let z : _≡_ {A = ℕ} 0 1 = cc in absurd (omega arith)
-chosen-nofit true none h = (refl, refl)
-chosen-nofit false none h = let z : _≡_ {A = ℕ} 0 1 = cc in absurd (omega arith)
+chosen-nofit b (some c) y n h = let z : _≡_ {A = ℕ} 0 1 = cc in absurd (omega arith)
+chosen-nofit true none y n h = (refl, refl, cc)
+chosen-nofit false none y n h = let z : _≡_ {A = ℕ} 0 1 = cc in absurd (omega arith)
 
-chosen-absent : (b : Bool) (x : Option ℕ) → chosen b x ≡ absent → b ≡ false
+chosen-absent : (b : Bool) (x : Option ℕ) (y : ℕ) → chosen b x y ≡ absent → b ≡ false
 unfolding chosen
-chosen-absent b (some c) h = let z : _≡_ {A = ℕ} 0 1 = cc in absurd (omega arith)
-chosen-absent true none h = let z : _≡_ {A = ℕ} 0 1 = cc in absurd (omega arith)
-chosen-absent false none h = refl
+chosen-absent b (some c) y h = let z : _≡_ {A = ℕ} 0 1 = cc in absurd (omega arith)
+chosen-absent true none y h = let z : _≡_ {A = ℕ} 0 1 = cc in absurd (omega arith)
+chosen-absent false none y h = refl
 
 module _ (es : List Entry) (rs : List Read) (k : ℕ) where
   -- a version: the newest entry that wrote the key, is not below the bound and conflicts with no read
   pub version-is : (d : ℕ) → choose es rs k ≡ version d → IsNewest (passes es rs k) es d
   unfolding choose
-  version-is d h = newest-is (passes es rs k) es d (chosen-some _ _ d h)
+  version-is d h = newest-is (passes es rs k) es d (chosen-some _ _ _ d h)
 
   -- nofit: some entry wrote the key, and none passes
-  pub nofit-is : choose es rs k ≡ nofit → (any (λ e. wrote e k) es ≡ true) × ((j : ℕ) → j < length es → passes es rs k (getD es j noEntry) ≡ false)
+  pub nofit-is : (n : ℕ) → choose es rs k ≡ nofit n → (any (λ e. wrote e k) es ≡ true) × ((j : ℕ) → j < length es → passes es rs k (getD es j noEntry) ≡ false)
   unfolding choose
-  nofit-is h = let r = chosen-nofit _ _ h in (r .0, newest-none (passes es rs k) es (r .1))
+  nofit-is n h = let r = chosen-nofit _ _ _ n h in (r .0, newest-none (passes es rs k) es (r .1))
 
   -- none: no entry wrote the key
   pub absent-is : choose es rs k ≡ absent → any (λ e. wrote e k) es ≡ false
   unfolding choose
-  absent-is h = chosen-absent _ _ h
+  absent-is h = chosen-absent _ _ _ h
 
   module _ (e : Entry) (h : passes es rs k e ≡ true) where
     pub passes-wrote : wrote e k ≡ true
@@ -129,12 +117,12 @@ module _ (es : List Entry) (rs : List Read) (k : ℕ) where
     unfolding passes lowerBound
     not-below r m w =
         not-older-trans (e .id) (lowerBound es rs k) (r .id) (not-true _ (and-right _ _ (and-left _ _ h)))
-        (greatest-above _ (r .id) (map-mem (λ (x : Read). x .id) (filter (λ x. wroteAs es (x .id) k) rs) r (filter-mem (λ x. wroteAs es (x .id) k) rs r m w)))
+        (greatest-above _ (r .id) (kept-mem (λ x. wroteAs es (x .id) k) (λ (x : Read). x .id) rs r m w))
 
     -- and no read of a key that it wrote is older than it
     pub no-conflict : (r : Read) → List·Memᴰ r rs → wrote e (r .key) ≡ true → older (r .id) (e .id) ≡ false
-    unfolding passes conflicts conflictsWith
-    no-conflict r m w = and-second _ _ (any-none (conflictsWith e) rs (not-true _ (and-right _ _ h)) r m) w
+    unfolding passes conflictsWith
+    no-conflict r m w = and-second _ _ (any-none (conflictsWith e) rs (sym (conflicts-any e rs) ∙ not-true _ (and-right _ _ h)) r m) w
 
 -- ── an id's transaction ──
 -- no two entries that wrote something have one id
@@ -149,6 +137,43 @@ wrote-as es i k h = let r = any-finds (λ e. sameId (e .id) i and wrote e k) es 
 pub as-wrote : (es : List Entry) (k d : ℕ) → d < length es → wrote (getD es d noEntry) k ≡ true → wroteAs es (getD es d noEntry .id) k ≡ true
 unfolding wroteAs
 as-wrote es k d o w = any-at (λ e. sameId (e .id) (getD es d noEntry .id) and wrote e k) es noEntry d o (and-intro _ _ (id-same (getD es d noEntry .id) (getD es d noEntry .id) refl) w)
+
+-- ── the key that nofit names (02 §1) ──
+-- the newest entry that wrote key k conflicts, on key n and on none lower
+pub record InTheWay (es : List Entry) (rs : List Read) (k n : ℕ) : Type 0 where
+  pub slot : ℕ
+  pub newest : IsNewest (λ e. wrote e k) es slot
+  pub conflict : ConflictsLowest (getD es slot noEntry) rs n
+
+module _ (es : List Entry) (rs : List Read) (k : ℕ) where
+  -- the newest that wrote the key is not below the bound: what was read and wrote the key is among the entries, and not newer
+  newest-not-below : (d : ℕ) → IsNewest (λ e. wrote e k) es d → older (getD es d noEntry .id) (lowerBound es rs k) ≡ false
+  unfolding lowerBound
+  newest-not-below d n = ⊎-elim (λ e. rw e (none-older (getD es d noEntry .id))) among (greatest-one _)
+    where
+      among : List·Memᴰ (greatest (map (λ (r : Read). r .id) (filter (λ r. wroteAs es (r .id) k) rs))) (map (λ (r : Read). r .id) (filter (λ r. wroteAs es (r .id) k) rs))
+          → older (getD es d noEntry .id) (greatest (map (λ (r : Read). r .id) (filter (λ r. wroteAs es (r .id) k) rs))) ≡ false
+      among m =
+          let r = kept-from (λ y. wroteAs es (y .id) k) (λ (y : Read). y .id) rs _ m in
+          let w = wrote-as es (r .0 .id) k (r .2) in
+          rw (r .3) (subst (λ (i : Id). older (getD es d noEntry .id) i ≡ false) (w .2) (n .newest (w .0) (w .1) (w .3)))
+
+  -- "Prove that a sound station always has one": every list of entries has, whatever was read. (A read whose entry is not among them sets no bound.)
+  pub nofit-has-key : (n : ℕ) → choose es rs k ≡ nofit n → InTheWay es rs k n
+  unfolding choose keyInTheWay newestWriter passes conflicts Option·elim
+  nofit-has-key n h = let r = chosen-nofit _ _ _ n h in writer (r .2) (newest (λ e. wrote e k) es) refl
+    where
+      writer : Option·getD (lowestConflict (Option·elim (newest (λ e. wrote e k) es) noEntry (λ d. getD es d noEntry)) rs) 0 ≡ n
+          → (x : Option ℕ) → newest (λ e. wrote e k) es ≡ x → InTheWay es rs k n
+      writer q none e = let f = any-finds (λ e. wrote e k) es noEntry (nofit-is es rs k n h .0) in absurd (true≢false (sym (f .2) ∙ newest-none (λ e. wrote e k) es e (f .0) (f .1)))
+      writer q (some d) e = test (rw e at q) (newest-is (λ e. wrote e k) es d e) (lowestConflict (getD es d noEntry) rs) refl
+        where
+          test : Option·getD (lowestConflict (getD es d noEntry) rs) 0 ≡ n → IsNewest (λ e. wrote e k) es d → (x : Option ℕ) → lowestConflict (getD es d noEntry) rs ≡ x → InTheWay es rs k n
+          test p w (some j) t = record { slot = d; newest = w; conflict = subst (ConflictsLowest (getD es d noEntry) rs) (rw t at p) (test-gives (getD es d noEntry) rs (some j) t) }
+          test p w none t = absurd (true≢false (sym pass ∙ nofit-is es rs k n h .1 d (w .low)))
+            where
+              pass : passes es rs k (getD es d noEntry) ≡ true
+              pass = and-intro _ _ (and-intro _ _ (w .passes) (not-of-false _ (newest-not-below d w))) (ap (λ (x : Option ℕ). not (Option·elim x false (λ j. true))) t)
 
 -- ── the paper's theorem and corollary ──
 module _ (es : List Entry) (rs : List Read) (k d : ℕ) (h : choose es rs k ≡ version d) where

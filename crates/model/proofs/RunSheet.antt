@@ -1,11 +1,12 @@
 -- 01 'The run sheet': its example. The fifteen calls, and the values a, b, c that the answers give; `cut` is a scan.
 use mathlib.Core.Path.{_≡_, refl}
 use mathlib.Core.List.{List, [], _∷_, map}
+use mathlib.Core.Option.{Option·elim}
 use lib.ListN.{replicate}
 use Rattle.model.specs.declared.Phase.the-variants.{Closing}
 use Rattle.model.specs.declared.Answer.{Answer}
 use Rattle.model.specs.declared.Answer.the-variants as A
-use Rattle.model.specs.Lists.{_and_, _or_, all, any, first, filter, count, insert, padded, from, member, ascending, distinct, same, anyBelow, greatestBelow}
+use Rattle.model.specs.Lists.{_and_, _or_, all, any, first, filter, count, insert, padded, from, member, least, ascending, distinct, same, anyBelow, greatestBelow}
 use Rattle.model.specs.Limits.{storeSize}
 use Rattle.model.specs.Ids.{older, sameId, newerOf, greatest}
 use Rattle.model.specs.Bytes.{bytes, number, idIn, headBytes}
@@ -15,7 +16,7 @@ use Rattle.model.specs.Stations.{emptyStation, liveAt, entryAt, setLive,
 use Rattle.model.specs.Records.{valueIn, versionRecord, zeroRecord, carriesVersion, recordAt, withRecord}
 use Rattle.model.specs.Slots.{versionsCarry, judged, seen}
 use Rattle.model.specs.Sound.{isNoWrite, isNoRead, isNoLive, zeroPastCounts, setsRight, names, inUse, closingRight, placeRight, entryRight, sound}
-use Rattle.model.specs.Reading.{lowerBound, conflictsWith, conflicts, passes, keepNewer, newest, chosen, choose}
+use Rattle.model.specs.Reading.{lowerBound, conflictsWith, lowestConflict, conflicts, passes, keepNewer, newest, newestWriter, keyInTheWay, chosen, choose}
 use Rattle.model.specs.Supersedence.{newerOn, superseded, isReadBy, isRead}
 use Rattle.model.specs.Effects.{stored, says, saysStoring, refusals, wrongLength, unsound}
 use Rattle.model.specs.Start.{opened, start}
@@ -46,7 +47,7 @@ sheetValues =
     ∷ values 1 0 0 ∷ values 0 0 0 ∷ values 40 100 5 ∷ values 0 0 0 ∷ values 0 100 5 ∷ values 15 0 0 ∷ values 0 0 0 ∷ []
 
 pub sheet-answers : answers sheetCalls emptyStation (replicate storeSize 0) ≡ sheetAnswers
-unfolding sheetCalls sheetAnswers _and_ _or_ all any first filter count insert padded from member ascending distinct same anyBelow greatestBelow older sameId newerOf greatest emptyStation writesOf readsOf keysOf wrote wroteAs hasWritten hasRead valueUnder isClosing closingSlot closingClock recordsStored liveAt entryAt setLive setEntry liveTxns heldTxns isLive isHeld placeOf slotOf holds slotMark closingSlots isFree bytes number idIn markIn entryIn valueIn headBytes commitRecord versionRecord zeroRecord entryRules commitRules carriesEntry carriesVersion recordAt withRecord recordOf versionsCarry judged seen isNoWrite isNoRead isNoEntry isNoLive zeroPastCounts setsRight names inUse closingRight placeRight entryRight sound lowerBound conflictsWith conflicts passes keepNewer newest chosen choose newerOn superseded isReadBy isRead stored says saysStoring refusals wrongLength unsound opened start withWrites withWrite put choiceOf withReads withRead versionAt noRoom notCarried answered get withPhase highestFree commit entryFor oneMore stepped step abort collect slotsSeen entrySeen isCommitted breaks lowestBroken scanned scan does answers
+unfolding sheetCalls sheetAnswers _and_ _or_ all any first filter count insert padded from member ascending distinct same anyBelow greatestBelow older sameId newerOf greatest emptyStation writesOf readsOf keysOf wrote wroteAs hasWritten hasRead valueUnder isClosing closingSlot closingClock recordsStored liveAt entryAt setLive setEntry liveTxns heldTxns isLive isHeld placeOf slotOf holds slotMark closingSlots isFree bytes number idIn markIn entryIn valueIn headBytes commitRecord versionRecord zeroRecord entryRules commitRules carriesEntry carriesVersion recordAt withRecord recordOf versionsCarry judged seen isNoWrite isNoRead isNoEntry isNoLive zeroPastCounts setsRight names inUse closingRight placeRight entryRight sound lowerBound conflictsWith least lowestConflict conflicts Option·elim passes keepNewer newest newestWriter keyInTheWay chosen choose newerOn superseded isReadBy isRead stored says saysStoring refusals wrongLength unsound opened start withWrites withWrite put choiceOf withReads withRead versionAt noRoom notCarried answered get withPhase highestFree commit entryFor oneMore stepped step abort collect slotsSeen entrySeen isCommitted breaks lowestBroken scanned scan does answers
 sheet-answers = refl
 
 pub sheet-values : map valuesOf sheetAnswers ≡ sheetValues

@@ -159,7 +159,7 @@ answered-sound : (st : Station) (s : List ℕ) (t k : ℕ) → sound st ≡ true
 unfolding noRoom answered
 answered-sound st s t k h a c o (own v) e r = says-keeps _ st h
 answered-sound st s t k h a c o absent e r = says-keeps _ st h
-answered-sound st s t k h a c o nofit e r = says-keeps _ st h
+answered-sound st s t k h a c o (nofit x) e r = says-keeps _ st h
 answered-sound st s t k h a c o (version d) e r = says-keeps _ _ (sound-of _ (get-sound st t k _ a c o r (version-wrote st _ k d e)))
 
 pub get-keeps : (st : Station) (s : List ℕ) (t k : ℕ) → sound st ≡ true → Keeps (get st s t k)

@@ -46,7 +46,7 @@ answered-stores-nothing : (st : Station) (s : List ℕ) (i k : ℕ) (ch : Choice
 unfolding answered
 answered-stores-nothing st s i k (own v) = says-stores-nothing _ _
 answered-stores-nothing st s i k absent = says-stores-nothing _ _
-answered-stores-nothing st s i k nofit = says-stores-nothing _ _
+answered-stores-nothing st s i k (nofit x) = says-stores-nothing _ _
 answered-stores-nothing st s i k (version d) = says-stores-nothing _ _
 
 pub get-stores-nothing : (st : Station) (s : List ℕ) (t k : ℕ) → get st s t k .stores ≡ []

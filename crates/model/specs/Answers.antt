@@ -12,7 +12,7 @@ refusedWith A.Kept = 0
 refusedWith (A.Own v) = 0
 refusedWith (A.Version v i) = 0
 refusedWith A.None = 0
-refusedWith A.Nofit = 0
+refusedWith (A.Nofit k) = 0
 refusedWith (A.Closing d) = 0
 refusedWith A.Empty = 0
 refusedWith (A.Done i) = 0
@@ -31,14 +31,15 @@ abbrev pub values : ℕ → ℕ → ℕ → Values
 values x y z = record { a = x; b = y; c = z }
 
 -- "Value is a for own and version; b and c are clock and ticket for version, done and collected; a is the key for stored, the drawer
--- for closing and slipped, the number of entries for found, the number for refused (b the drawer with 18). The rest are 0."
+-- for closing and slipped, the number of entries for found, the number for refused (b the drawer with 18). The rest are 0." 02 §1: "field
+-- a of nofit" is the key in the way.
 unfoldable pub valuesOf : Answer → Values
 valuesOf A.Started = values 0 0 0
 valuesOf A.Kept = values 0 0 0
 valuesOf (A.Own v) = values v 0 0
 valuesOf (A.Version v i) = values v (i .clock) (i .txn)
 valuesOf A.None = values 0 0 0
-valuesOf A.Nofit = values 0 0 0
+valuesOf (A.Nofit k) = values k 0 0
 valuesOf (A.Closing d) = values d 0 0
 valuesOf A.Empty = values 0 0 0
 valuesOf (A.Done i) = values 0 (i .clock) (i .txn)

@@ -31,21 +31,21 @@ versionAt st s k d = recordAt s d (recordOf (entryAt st d) k)
 unfoldable pub noRoom : Live → ℕ → Choice → Bool
 noRoom l k (own v) = false
 noRoom l k absent = false
-noRoom l k nofit = false
+noRoom l k (nofit x) = false
 noRoom l k (version d) = not (hasRead k l) and leb readLimit (l .«read_count»)
 
 -- row 17: "the slip to be read .. does not carry the entry's id .. so far as it has them"
 unfoldable pub notCarried : Station → List ℕ → ℕ → Choice → Bool
 notCarried st s k (own v) = false
 notCarried st s k absent = false
-notCarried st s k nofit = false
+notCarried st s k (nofit x) = false
 notCarried st s k (version d) = not (carriesVersion (versionAt st s k d) k (entryAt st d .id))
 
--- "The paper answers NULL to both; neither joins the read list."
+-- "The paper answers NULL to both; neither joins the read list." 02 §1: nofit carries the key in the way.
 unfoldable pub answered : Station → List ℕ → ℕ → ℕ → Choice → Effect
 answered st s i k (own v) = says (A.Own v) st
 answered st s i k absent = says A.None st
-answered st s i k nofit = says A.Nofit st
+answered st s i k (nofit x) = says (A.Nofit x) st
 answered st s i k (version d) =
     says (A.Version (valueIn (versionAt st s k d)) (entryAt st d .id)) (setLive st i (withRead k (entryAt st d .id) (liveAt st i)))
 

@@ -1,7 +1,8 @@
 -- Tests, and lists searched by a test: what the other definitions are written in.
-use Prim.Native.Nat.{ℕ, zero, suc, _-_}
+use Prim.Native.Nat.{ℕ, zero, suc, _-_, min}
 use mathlib.Core.Bool.{Bool, true, false, not}
 use mathlib.Core.List.{List, [], _∷_, _++_}
+use mathlib.Core.Option.{Option, some, none, Option·elim}
 use lib.Dec.{eqb, ltb, leb}
 use lib.ListN.{length, replicate}
 
@@ -61,6 +62,11 @@ module _ {A : Type 0} where
 
 unfoldable pub member : ℕ → List ℕ → Bool
 member n xs = any (eqb n) xs
+
+-- the least number of a list; none of the empty one
+unfoldable pub least : List ℕ → Option ℕ
+least [] = none
+least (n ∷ ns) = some (Option·elim (least ns) n (min n))
 
 -- strictly ascending, all at least lo and below hi
 unfoldable pub ascending : ℕ → ℕ → List ℕ → Bool

@@ -57,14 +57,14 @@ pub struct Station {
     pub entries: [Entry; Station::SLOTS],
 }
 
-// What a call answers; the variants are 01's output words. Refused holds the number and, with 18, the slot.
+// What a call answers; the variants are 01's output words. Nofit holds the key in the way; Refused the number and, with 18, the slot.
 pub enum Answer {
     Started,
     Kept,
     Own(u64),
     Version(u64, Id),
     None,
-    Nofit,
+    Nofit(u8),
     Closing(u8),
     Empty,
     Done(Id),

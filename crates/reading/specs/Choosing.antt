@@ -18,7 +18,7 @@ use Rattle.reading.specs.declared.Chosen.the-variants.{Version, Nofit, N
 unfoldable pub chosenAs : Choice → Chosen
 chosenAs (own v) = None
 chosenAs absent = None
-chosenAs nofit = Nofit
+chosenAs (nofit k) = Nofit k
 chosenAs (version d) = Version d
 
 -- a live transaction of a sound station that has these entries

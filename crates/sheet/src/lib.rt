@@ -255,7 +255,7 @@ fn word_part(answer: Answer) -> Part
         Answer::None => {
             return Part { at: 25, size: 5 };
         }
-        Answer::Nofit => {
+        Answer::Nofit(_) => {
             return Part { at: 30, size: 6 };
         }
         Answer::Closing(_) => {
@@ -337,6 +337,9 @@ pub fn values_in(answer: Answer) -> Values
         Answer::Refused(n, d) => {
             return three(n as u64, d as u64, 0);
         }
+        Answer::Nofit(in_the_way) => {
+            return three(in_the_way as u64, 0, 0);
+        }
         Answer::Started => {
             return three(0, 0, 0);
         }
@@ -344,9 +347,6 @@ pub fn values_in(answer: Answer) -> Values
             return three(0, 0, 0);
         }
         Answer::None => {
-            return three(0, 0, 0);
-        }
-        Answer::Nofit => {
             return three(0, 0, 0);
         }
         Answer::Empty => {

@@ -20,7 +20,7 @@ use Rattle.model.specs.Entries.{wrote}
 use Rattle.model.specs.Stations.{liveAt, entryAt, setLive, liveTxns, isLive, placeOf}
 use Rattle.model.specs.Records.{valueIn, carriesVersion}
 use Rattle.model.specs.Sound.{sound}
-use Rattle.model.specs.Reading.{passes, newest, Choice, own, absent, nofit, version, chosen, choose}
+use Rattle.model.specs.Reading.{passes, newest, keyInTheWay, Choice, own, absent, nofit, version, chosen, choose}
 use Rattle.model.specs.Effects.{Effect, says, _when_, refusals, wrongLength, unsound}
 use Rattle.model.specs.Get.{choiceOf, withRead, versionAt, noRoom, notCarried, answered, get}
 use Rattle.model.proofs.RefusalLaws.{refusals-none, skipped, hit}
@@ -36,24 +36,24 @@ pub chosen-version : (x : Choice) (d : ℕ) → chosenAs x ≡ Version d → x �
 unfolding chosenAs
 chosen-version (own v) d h = let y : _≡_ {A = ℕ} 0 1 = cc in absurd (omega arith)
 chosen-version absent d h = let y : _≡_ {A = ℕ} 0 1 = cc in absurd (omega arith)
-chosen-version nofit d h = let y : _≡_ {A = ℕ} 0 1 = cc in absurd (omega arith)
+chosen-version (nofit n) d h = let y : _≡_ {A = ℕ} 0 1 = cc in absurd (omega arith)
 chosen-version (version x) d h = cc
 
-pub chosen-nofit : (x : Choice) → chosenAs x ≡ Nofit → x ≡ nofit
+pub chosen-nofit : (x : Choice) (n : ℕ) → chosenAs x ≡ Nofit n → x ≡ nofit n
 unfolding chosenAs
-chosen-nofit (own v) h = let y : _≡_ {A = ℕ} 0 1 = cc in absurd (omega arith)
-chosen-nofit absent h = let y : _≡_ {A = ℕ} 0 1 = cc in absurd (omega arith)
-chosen-nofit nofit h = refl
-chosen-nofit (version x) h = let y : _≡_ {A = ℕ} 0 1 = cc in absurd (omega arith)
+chosen-nofit (own v) n h = let y : _≡_ {A = ℕ} 0 1 = cc in absurd (omega arith)
+chosen-nofit absent n h = let y : _≡_ {A = ℕ} 0 1 = cc in absurd (omega arith)
+chosen-nofit (nofit x) n h = cc
+chosen-nofit (version x) n h = let y : _≡_ {A = ℕ} 0 1 = cc in absurd (omega arith)
 
 pub chosen-none : (es : List Entry) (rs : List Read) (k : ℕ) → chosenAs (choose es rs k) ≡ None → choose es rs k ≡ absent
 unfolding choose chosen chosenAs
-chosen-none es rs k h = go (any (λ e. wrote e k) es) (newest (passes es rs k) es) h
+chosen-none es rs k h = go (any (λ e. wrote e k) es) (newest (passes es rs k) es) (keyInTheWay es rs k) h
   where
-    go : (b : Bool) (o : Option ℕ) → chosenAs (chosen b o) ≡ None → chosen b o ≡ absent
-    go b (some d) e = let y : _≡_ {A = ℕ} 0 1 = cc in absurd (omega arith)
-    go true none e = let y : _≡_ {A = ℕ} 0 1 = cc in absurd (omega arith)
-    go false none e = refl
+    go : (b : Bool) (o : Option ℕ) (x : ℕ) → chosenAs (chosen b o x) ≡ None → chosen b o x ≡ absent
+    go b (some d) x e = let y : _≡_ {A = ℕ} 0 1 = cc in absurd (omega arith)
+    go true none x e = let y : _≡_ {A = ℕ} 0 1 = cc in absurd (omega arith)
+    go false none x e = refl
 
 pub choice-own : (st : Station) (l : Live) (k v : ℕ) → v ≡ valueUnder k (writesOf l) → hasWritten k l ≡ true → choiceOf st l k ≡ own v
 unfolding choiceOf
@@ -102,9 +102,9 @@ module _ (st : Station) (s : List ℕ) (t k : ℕ) where
     unfolding noRoom notCarried answered refusals
     get-none h = chosen-rows absent h
 
-    pub get-nofit : choiceOf st l k ≡ nofit → get st s t k ≡ says A.Nofit st
+    pub get-nofit : (n : ℕ) → choiceOf st l k ≡ nofit n → get st s t k ≡ says (A.Nofit n) st
     unfolding noRoom notCarried answered refusals
-    get-nofit h = chosen-rows nofit h
+    get-nofit n h = chosen-rows (nofit n) h
 
     module _ (d : ℕ) (c : choiceOf st l k ≡ version d) where
       pub get-12 : noRoom l k (version d) ≡ true → get st s t k ≡ says (A.Refused 12 0) st

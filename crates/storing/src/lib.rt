@@ -138,7 +138,7 @@ pub fn get(station: Station, tested: bool, store: &[u8], txn: u32, key: u8) -> C
     let chosen = choose_version(entries, l, key);
     let d = match chosen {
         Chosen::None => return unchanged(station, Answer::None),
-        Chosen::Nofit => return unchanged(station, Answer::Nofit),
+        Chosen::Nofit(k) => return unchanged(station, Answer::Nofit(k)),
         Chosen::Version(slot) => slot as usize,
     };
     if no_read_room(l, key) {

@@ -121,65 +121,68 @@ returns-9 : tie.Need-returns-9
 unfolding valuesOf
 returns-9 c = rw (c .before .before .answer9 .given .1) (c .three9 .ensures)
 
-enum-told : tie.Need-enum-told
-enum-told c = search needs
+enum-known-answer-10 : tie.Need-enum-known-answer-10
+enum-known-answer-10 c = search needs
+
+cast-three-10 : tie.Need-cast-three-10
+cast-three-10 c = search needs
 
 three-requires-10 : tie.Need-three-requires-10
 three-requires-10 c κs = search needs
 
 returns-10 : tie.Need-returns-10
 unfolding valuesOf
-returns-10 c = rw (c .before .enum-told .given .1) (c .three10 .ensures)
+returns-10 c = rw (c .before .before .answer10 .given .1) (c .three10 .ensures)
 
-enum-told-2 : tie.Need-enum-told-2
-enum-told-2 c = search needs
+enum-told : tie.Need-enum-told
+enum-told c = search needs
 
 three-requires-11 : tie.Need-three-requires-11
 three-requires-11 c κs = search needs
 
 returns-11 : tie.Need-returns-11
 unfolding valuesOf
-returns-11 c = rw (c .before .enum-told2 .given .1) (c .three11 .ensures)
+returns-11 c = rw (c .before .enum-told .given .1) (c .three11 .ensures)
 
-enum-told-3 : tie.Need-enum-told-3
-enum-told-3 c = search needs
+enum-told-2 : tie.Need-enum-told-2
+enum-told-2 c = search needs
 
 three-requires-12 : tie.Need-three-requires-12
 three-requires-12 c κs = search needs
 
 returns-12 : tie.Need-returns-12
 unfolding valuesOf
-returns-12 c = rw (c .before .enum-told3 .given .1) (c .three12 .ensures)
+returns-12 c = rw (c .before .enum-told2 .given .1) (c .three12 .ensures)
 
-enum-told-4 : tie.Need-enum-told-4
-enum-told-4 c = search needs
+enum-told-3 : tie.Need-enum-told-3
+enum-told-3 c = search needs
 
 three-requires-13 : tie.Need-three-requires-13
 three-requires-13 c κs = search needs
 
 returns-13 : tie.Need-returns-13
 unfolding valuesOf
-returns-13 c = rw (c .before .enum-told4 .given .1) (c .three13 .ensures)
+returns-13 c = rw (c .before .enum-told3 .given .1) (c .three13 .ensures)
 
-enum-told-5 : tie.Need-enum-told-5
-enum-told-5 c = search needs
+enum-told-4 : tie.Need-enum-told-4
+enum-told-4 c = search needs
 
 three-requires-14 : tie.Need-three-requires-14
 three-requires-14 c κs = search needs
 
 returns-14 : tie.Need-returns-14
 unfolding valuesOf
-returns-14 c = rw (c .before .enum-told5 .given .1) (c .three14 .ensures)
+returns-14 c = rw (c .before .enum-told4 .given .1) (c .three14 .ensures)
 
-enum-told-6 : tie.Need-enum-told-6
-enum-told-6 c = search needs
+enum-told-5 : tie.Need-enum-told-5
+enum-told-5 c = search needs
 
 three-requires-15 : tie.Need-three-requires-15
 three-requires-15 c κs = search needs
 
 returns-15 : tie.Need-returns-15
 unfolding valuesOf
-returns-15 c = rw (c .before .enum-told6 .given .1) (c .three15 .ensures)
+returns-15 c = rw (c .before .enum-told5 .given .1) (c .three15 .ensures)
 
 pub values-in-spec : {M : Type 1} → statement M
 values-in-spec =
@@ -221,21 +224,22 @@ values-in-spec =
     cast-three-9
     three-requires-9
     returns-9
-    enum-told
+    enum-known-answer-10
+    cast-three-10
     three-requires-10
     returns-10
-    enum-told-2
+    enum-told
     three-requires-11
     returns-11
-    enum-told-3
+    enum-told-2
     three-requires-12
     returns-12
-    enum-told-4
+    enum-told-3
     three-requires-13
     returns-13
-    enum-told-5
+    enum-told-4
     three-requires-14
     returns-14
-    enum-told-6
+    enum-told-5
     three-requires-15
     returns-15)

@@ -91,19 +91,19 @@ told : (c : tie.After-choose-version) → chosenAs (chosen (c .before .before)) 
 told c = sym (c .choose-version .ensures)
 
 -- it chose the version in slot d: its entry wrote the key
-abbrev g₃ : tie.After-chosen → tie.Else3
+abbrev g₃ : tie.After-chosen2 → tie.Else3
 g₃ c = c .before .before .before .before
 
-abbrev hᵥ : tie.After-chosen → tie.After-live-at
+abbrev hᵥ : tie.After-chosen2 → tie.After-live-at
 hᵥ c = h₃ (g₃ c)
 
-abbrev d : tie.After-chosen → ℕ
-d c = c .chosen .given .0 .0
+abbrev d : tie.After-chosen2 → ℕ
+d c = c .chosen2 .given .0 .0
 
-choice : (c : tie.After-chosen) → choiceOf (st (hᵥ c .before)) (l (hᵥ c)) (k (hᵥ c .before)) ≡ version (d c)
-choice c = asked (g₃ c) ∙ chosen-version (chosen (g₃ c)) (d c) (told (c .before .before) ∙ c .chosen .given .1)
+choice : (c : tie.After-chosen2) → choiceOf (st (hᵥ c .before)) (l (hᵥ c)) (k (hᵥ c .before)) ≡ version (d c)
+choice c = asked (g₃ c) ∙ chosen-version (chosen (g₃ c)) (d c) (told (c .before .before) ∙ c .chosen2 .given .1)
 
-entry : (c : tie.After-chosen) → (d c < slots) × (wrote (entryAt (st (hᵥ c .before)) (d c)) (k (hᵥ c .before)) ≡ true)
+entry : (c : tie.After-chosen2) → (d c < slots) × (wrote (entryAt (st (hᵥ c .before)) (d c)) (k (hᵥ c .before)) ≡ true)
 entry c =
     let e = hᵥ c .before in
     let z : length (st e .entries) ≡ 64 = simp length-map at (start e .good .0 .1 .1 .1 .0 .1 .0 .1) in
@@ -111,7 +111,7 @@ entry c =
     (omega (arith, f .0, z), f .1)
 
 -- past row 12: its read set has room
-abbrev v₄ : tie.Else4 → tie.After-chosen
+abbrev v₄ : tie.Else4 → tie.After-chosen2
 v₄ c = c .before .before .before
 
 room : (c : tie.Else4) → noRoom (l (hᵥ (v₄ c))) (k (hᵥ (v₄ c) .before)) (version (d (v₄ c))) ≡ false
@@ -119,7 +119,7 @@ unfolding noRoom
 room c = sym (c .before .no-read-room .ensures) ∙ c .if4 .left
 
 -- whether its record carries the key and id
-abbrev vᵣ : tie.After-read-version → tie.After-chosen
+abbrev vᵣ : tie.After-read-version → tie.After-chosen2
 vᵣ c = v₄ (c .before .before .before)
 
 carried : (c : tie.After-read-version) → carriesVersion (versionAt (st (hᵥ (vᵣ c) .before)) (s (hᵥ (vᵣ c) .before)) (k (hᵥ (vᵣ c) .before)) (d (vᵣ c))) (k (hᵥ (vᵣ c) .before)) (entryAt (st (hᵥ (vᵣ c) .before)) (d (vᵣ c)) .id) ≡ c .read-version .result .carried
@@ -181,20 +181,21 @@ returns-4 c =
     let h = h₃ g in
     as-effect _ _ _ _ (get-none _ _ _ _ _ _ (comes h) (asked g ∙ chosen-none _ _ _ (told (c .before .before .before) ∙ c .before .enum-told .given .1))) (c .unchanged2 .ensures)
 
-enum-told-2 : tie.Need-enum-told-2
-enum-told-2 c = search needs
+enum-known-chosen : tie.Need-enum-known-chosen
+enum-known-chosen c = search needs
 
 unchanged-requires-3 : tie.Need-unchanged-requires-3
 unchanged-requires-3 c κs = tt
 
 returns-5 : tie.Need-returns-5
 returns-5 c =
-    let g = c .before .before .before .before .before in
+    let f = c .before .before in
+    let g = f .before .before .before .before in
     let h = h₃ g in
-    as-effect _ _ _ _ (get-nofit _ _ _ _ _ _ (comes h) (asked g ∙ chosen-nofit (chosen g) (told (c .before .before .before) ∙ c .before .enum-told2 .given .1))) (c .unchanged3 .ensures)
+    as-effect _ _ _ _ (get-nofit _ _ _ _ _ _ (comes h) _ (asked g ∙ chosen-nofit (chosen g) _ (told (f .before .before) ∙ f .chosen .given .1))) (c .unchanged3 .ensures)
 
-enum-known-chosen : tie.Need-enum-known-chosen
-enum-known-chosen c = search needs
+enum-known-chosen-2 : tie.Need-enum-known-chosen-2
+enum-known-chosen-2 c = search needs
 
 cast-d : tie.Need-cast-d
 cast-d c = search needs
@@ -276,10 +277,10 @@ get-spec =
     enum-told
     unchanged-requires-2
     returns-4
-    enum-told-2
+    enum-known-chosen
     unchanged-requires-3
     returns-5
-    enum-known-chosen
+    enum-known-chosen-2
     cast-d
     no-read-room-requires
     refused-requires-3
