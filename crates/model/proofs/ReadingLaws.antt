@@ -4,7 +4,7 @@ use Prim.Native.Nat.{ℕ, zero, suc, _<_, suc-le-suc}
 use mathlib.Core.Path.{_≡_, refl, sym, ap, subst, _∙_}
 use mathlib.Core.Logic.{_⊎_, inl, inr, ⊎-elim}
 use mathlib.Core.Bool.{Bool, true, false, not, true≢false}
-use mathlib.Core.List.{List, [], _∷_, map, List·Memᴰ, List·Memᴰ·cases-cons}
+use mathlib.Core.List.{List, [], _∷_, List·Memᴰ, List·Memᴰ·cases-cons}
 use mathlib.Core.Option.{Option, some, none, Option·elim, Option·getD}
 use lib.ListN.{length, getD}
 use native.Mathlib.Nat.{le-of-suc-le-suc, not-suc-le-zero, zero-lt-suc}
@@ -13,8 +13,8 @@ use borrow.Author.Tests.{not-true}
 use Rattle.model.specs.declared.Id.{Id}
 use Rattle.model.specs.declared.Read.{Read}
 use Rattle.model.specs.declared.Entry.{Entry}
-use Rattle.model.specs.Lists.{_and_, any, filter}
-use Rattle.model.specs.Ids.{older, sameId, greatest}
+use Rattle.model.specs.Lists.{_and_, any}
+use Rattle.model.specs.Ids.{older, sameId, noId}
 use Rattle.model.specs.Entries.{noEntry, wrote, wroteAs}
 use Rattle.model.specs.Reading.{lowerBound, conflictsWith, lowestConflict, conflicts, newestWriter, keyInTheWay, passes, keepNewer, newest, absent, nofit, version, chosen, choose, Atomic}
 use Rattle.model.specs.Step.{step}
@@ -146,17 +146,17 @@ pub record InTheWay (es : List Entry) (rs : List Read) (k n : ℕ) : Type 0 wher
   pub conflict : ConflictsLowest (getD es slot noEntry) rs n
 
 module _ (es : List Entry) (rs : List Read) (k : ℕ) where
-  -- the newest that wrote the key is not below the bound: what was read and wrote the key is among the entries, and not newer
-  newest-not-below : (d : ℕ) → IsNewest (λ e. wrote e k) es d → older (getD es d noEntry .id) (lowerBound es rs k) ≡ false
+  -- the bound is noId, or the id of a read whose transaction wrote the key
+  pub bound-is : (lowerBound es rs k ≡ noId) ⊎ ((r : Read) × List·Memᴰ r rs × (wroteAs es (r .id) k ≡ true) × (lowerBound es rs k ≡ r .id))
   unfolding lowerBound
-  newest-not-below d n = ⊎-elim (λ e. rw e (none-older (getD es d noEntry .id))) among (greatest-one _)
-    where
-      among : List·Memᴰ (greatest (map (λ (r : Read). r .id) (filter (λ r. wroteAs es (r .id) k) rs))) (map (λ (r : Read). r .id) (filter (λ r. wroteAs es (r .id) k) rs))
-          → older (getD es d noEntry .id) (greatest (map (λ (r : Read). r .id) (filter (λ r. wroteAs es (r .id) k) rs))) ≡ false
-      among m =
-          let r = kept-from (λ y. wroteAs es (y .id) k) (λ (y : Read). y .id) rs _ m in
-          let w = wrote-as es (r .0 .id) k (r .2) in
-          rw (r .3) (subst (λ (i : Id). older (getD es d noEntry .id) i ≡ false) (w .2) (n .newest (w .0) (w .1) (w .3)))
+  bound-is = ⊎-elim (λ e. inl e) (λ m. inr (kept-from (λ r. wroteAs es (r .id) k) (λ (r : Read). r .id) rs _ m)) (greatest-one _)
+
+  -- the newest that wrote the key is not below it: what was read and wrote the key is among the entries, and not newer
+  newest-not-below : (d : ℕ) → IsNewest (λ e. wrote e k) es d → older (getD es d noEntry .id) (lowerBound es rs k) ≡ false
+  newest-not-below d n = ⊎-elim
+      (λ e. rw e (none-older (getD es d noEntry .id)))
+      (λ b. let w = wrote-as es (b .0 .id) k (b .2) in rw (b .3) (subst (λ (i : Id). older (getD es d noEntry .id) i ≡ false) (w .2) (n .newest (w .0) (w .1) (w .3))))
+      bound-is
 
   -- "Prove that a sound station always has one": every list of entries has, whatever was read. (A read whose entry is not among them sets no bound.)
   pub nofit-has-key : (n : ℕ) → choose es rs k ≡ nofit n → InTheWay es rs k n

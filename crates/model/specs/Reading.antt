@@ -43,8 +43,8 @@ unfoldable pub newest : (Entry → Bool) → List Entry → Option ℕ
 newest p [] = none
 newest p (e ∷ es) = keepNewer (p e) e es (newest p es)
 
--- 02 §1: "Answer nofit with a key: the lowest on which the newest entry that wrote the wanted key conflicts." (0 were there none; there
--- always is one: nofit-has-key)
+-- 02 §1: "Answer nofit with a key: the lowest on which the newest entry that wrote the wanted key conflicts." (0 stands for none; a nofit
+-- always has one: nofit-has-key)
 unfoldable pub newestWriter : List Entry → ℕ → Entry
 newestWriter es k = Option·elim (newest (λ e. wrote e k) es) noEntry (λ d. getD es d noEntry)
 
