@@ -1,5 +1,6 @@
-/* A day at the desk, in C: a job is committed, power goes while the next one closes, and a scan starts the desk again; a reader is told which of its
- * reads is in the way. The host's disk is an array beside the store: each record goes there, 24 bytes at a time, when it is written and before the next request. */
+/* A day at the desk, in C: a job is committed, power goes while the next one closes, and a scan starts the desk again; a reader is told which
+ * of its reads is in the way. The host's disk is an array beside the store: each record goes there, 24 bytes at a time, when it is written and
+ * before the next request. */
 #include "gorehimu.h"
 #include <stdio.h>
 

@@ -25,29 +25,37 @@ module _ (e : Entry) (rs : List Read) where
     pub conflict : conflictsWith e read ≡ true
     pub lowest : (r : Read) → List·Memᴰ r rs → conflictsWith e r ≡ true → k ≤ r .key
 
-  abbrev pub Tested : Option ℕ → Type 0
-  Tested none = (r : Read) → List·Memᴰ r rs → conflictsWith e r ≡ false
-  Tested (some k) = ConflictsLowest k
+  -- what the test says: no read conflicts; or one of key k does, and none of a lower key
+  abbrev pub ConflictsAs : Option ℕ → Type 0
+  ConflictsAs none = (r : Read) → List·Memᴰ r rs → conflictsWith e r ≡ false
+  ConflictsAs (some k) = ConflictsLowest k
 
-  pub test-gives : (x : Option ℕ) → lowestConflict e rs ≡ x → Tested x
+  pub test-gives : (x : Option ℕ) → lowestConflict e rs ≡ x → ConflictsAs x
   unfolding lowestConflict
   test-gives x h = go x (subst (IsLeast (map readKey (filter (conflictsWith e) rs))) h (least-is (map readKey (filter (conflictsWith e) rs))))
     where
-      go : (y : Option ℕ) → IsLeast (map readKey (filter (conflictsWith e) rs)) y → Tested y
+      go : (y : Option ℕ) → IsLeast (map readKey (filter (conflictsWith e) rs)) y → ConflictsAs y
       go none f = λ r m. ⊎-elim (λ t. absurd (f _ (kept-mem (conflictsWith e) readKey rs r m t))) (λ n. n) (bool-cases (conflictsWith e r))
       go (some k) (m, f) =
           let from = kept-from (conflictsWith e) readKey rs k m in
           record { read = from .0; among = from .1; key = sym (from .3); conflict = from .2; lowest = λ r n t. f (r .key) (kept-mem (conflictsWith e) readKey rs r n t) }
 
-  pub lowest-is : (k : ℕ) → ConflictsLowest k → lowestConflict e rs ≡ some k
-  lowest-is k c = go (lowestConflict e rs) refl
+  -- and it says nothing else
+  pub test-is : (x : Option ℕ) → ConflictsAs x → lowestConflict e rs ≡ x
+  test-is x c = go x c (lowestConflict e rs) refl
     where
-      go : (x : Option ℕ) → lowestConflict e rs ≡ x → lowestConflict e rs ≡ some k
-      go none h = absurd (true≢false (sym (c .conflict) ∙ test-gives none h (c .read) (c .among)))
-      go (some j) h =
+      go : (x : Option ℕ) → ConflictsAs x → (y : Option ℕ) → lowestConflict e rs ≡ y → lowestConflict e rs ≡ x
+      go none f none h = h
+      go none f (some j) h = let t = test-gives (some j) h in absurd (true≢false (sym (t .conflict) ∙ f (t .read) (t .among)))
+      go (some k) c none h = absurd (true≢false (sym (c .conflict) ∙ test-gives none h (c .read) (c .among)))
+      go (some k) c (some j) h =
           let t = test-gives (some j) h in
           let u : j ≡ k = omega (arith, t .lowest (c .read) (c .among) (c .conflict), c .key, c .lowest (t .read) (t .among) (t .conflict), t .key) in
           h ∙ ap some u
+
+  pub none-conflicts : lowestConflict e rs ≡ none → conflicts e rs ≡ false
+  unfolding conflicts Option·elim
+  none-conflicts h = rw h
 
   pub some-conflicts : (k : ℕ) → lowestConflict e rs ≡ some k → conflicts e rs ≡ true
   unfolding conflicts Option·elim
@@ -55,12 +63,11 @@ module _ (e : Entry) (rs : List Read) where
 
   -- so "conflicts with no read" is what it was when the test said yes or no, and every answer but nofit's key
   pub conflicts-any : conflicts e rs ≡ any (conflictsWith e) rs
-  unfolding conflicts Option·elim
   conflicts-any = go (lowestConflict e rs) refl
     where
-      go : (x : Option ℕ) → lowestConflict e rs ≡ x → Option·elim x false (λ k. true) ≡ any (conflictsWith e) rs
-      go none h = sym (any-none-of (conflictsWith e) rs noRead (λ i o. test-gives none h (getD rs i noRead) (getD-mem rs i noRead o)))
+      go : (x : Option ℕ) → lowestConflict e rs ≡ x → conflicts e rs ≡ any (conflictsWith e) rs
+      go none h = none-conflicts h ∙ sym (any-none-of (conflictsWith e) rs noRead (λ i o. test-gives none h (getD rs i noRead) (getD-mem rs i noRead o)))
       go (some k) h =
           let t = test-gives (some k) h in
           let m = mem-getD rs (t .read) noRead (t .among) in
-          sym (any-at (conflictsWith e) rs noRead (m .0) (m .1) (ap (conflictsWith e) (m .2) ∙ t .conflict))
+          some-conflicts k h ∙ sym (any-at (conflictsWith e) rs noRead (m .0) (m .1) (ap (conflictsWith e) (m .2) ∙ t .conflict))

@@ -3,7 +3,7 @@
 use Prim.Native.Nat.{ℕ, zero, suc, _<_, suc-le-suc}
 use mathlib.Core.Path.{_≡_, refl, sym, ap, subst, _∙_}
 use mathlib.Core.Logic.{_⊎_, inl, inr, ⊎-elim}
-use mathlib.Core.Bool.{Bool, true, false, not, true≢false}
+use mathlib.Core.Bool.{Bool, true, false, true≢false}
 use mathlib.Core.List.{List, [], _∷_, List·Memᴰ, List·Memᴰ·cases-cons}
 use mathlib.Core.Option.{Option, some, none, Option·elim, Option·getD}
 use lib.ListN.{length, getD}
@@ -21,7 +21,7 @@ use Rattle.model.specs.Step.{step}
 use Rattle.model.proofs.Tests.{and-left, and-right, and-intro, and-second, not-of-false}
 use Rattle.model.proofs.ListLaws.{any-finds, any-at, any-none, kept-mem, kept-from}
 use Rattle.model.proofs.IdLaws.{older-irrefl, older-asym, not-older-trans, older-total, same-id, id-same, greatest-above, greatest-one, none-older}
-use Rattle.model.proofs.ConflictLaws.{ConflictsLowest, test-gives, conflicts-any}
+use Rattle.model.proofs.ConflictLaws.{ConflictsLowest, test-gives, none-conflicts, conflicts-any}
 
 -- ── the newest that passes ──
 pub record IsNewest (p : Entry → Bool) (es : List Entry) (d : ℕ) : Type 0 where
@@ -160,7 +160,7 @@ module _ (es : List Entry) (rs : List Read) (k : ℕ) where
 
   -- "Prove that a sound station always has one": every list of entries has, whatever was read. (A read whose entry is not among them sets no bound.)
   pub nofit-has-key : (n : ℕ) → choose es rs k ≡ nofit n → InTheWay es rs k n
-  unfolding choose keyInTheWay newestWriter passes conflicts Option·elim
+  unfolding choose keyInTheWay newestWriter passes Option·elim
   nofit-has-key n h = let r = chosen-nofit _ _ _ n h in writer (r .2) (newest (λ e. wrote e k) es) refl
     where
       writer : Option·getD (lowestConflict (Option·elim (newest (λ e. wrote e k) es) noEntry (λ d. getD es d noEntry)) rs) 0 ≡ n
@@ -173,7 +173,7 @@ module _ (es : List Entry) (rs : List Read) (k : ℕ) where
           test p w none t = absurd (true≢false (sym pass ∙ nofit-is es rs k n h .1 d (w .low)))
             where
               pass : passes es rs k (getD es d noEntry) ≡ true
-              pass = and-intro _ _ (and-intro _ _ (w .passes) (not-of-false _ (newest-not-below d w))) (ap (λ (x : Option ℕ). not (Option·elim x false (λ j. true))) t)
+              pass = and-intro _ _ (and-intro _ _ (w .passes) (not-of-false _ (newest-not-below d w))) (not-of-false _ (none-conflicts (getD es d noEntry) rs t))
 
 -- ── the paper's theorem and corollary ──
 module _ (es : List Entry) (rs : List Read) (k d : ℕ) (h : choose es rs k ≡ version d) where
