@@ -23,7 +23,8 @@ use Rattle.model.specs.Stations.{emptyStation, liveAt, entryAt, setLive,
 use Rattle.model.specs.Records.{valueIn, versionRecord, zeroRecord, carriesVersion, recordAt, withRecord}
 use Rattle.model.specs.Slots.{versionsCarry, judged, seen}
 use Rattle.model.specs.Sound.{isNoWrite, isNoRead, isNoLive, zeroPastCounts, setsRight, names, inUse, closingRight, placeRight, entryRight, sound}
-use Rattle.model.specs.Reading.{lowerBound, conflictsWith, lowestConflict, conflicts, passes, keepNewer, newest, newestWriter, keyInTheWay, Choice, nofit, chosen, choose}
+use Rattle.model.specs.Orders.{keepFirst, foremost, newest}
+use Rattle.model.specs.Reading.{lowerBound, conflictsWith, lowestConflict, conflicts, passes, newestWriter, keyInTheWay, Choice, nofit, chosen, choose}
 use Rattle.model.specs.Supersedence.{newerOn, superseded, isReadBy, isRead}
 use Rattle.model.specs.Effects.{stored, says, saysStoring, refusals, wrongLength, unsound}
 use Rattle.model.specs.Start.{opened, start}
@@ -136,7 +137,7 @@ table = starred ++ slipsOfThought ++ nofitNames
 
 -- The claim: every line of every case is answered as the table says.
 pub bench-holds : map given table ≡ map expected table
-unfolding puts versions begun slipped whole readBeforeC starred slipsOfThought nofitNames given expected table _and_ _or_ all any first filter count insert padded from member ascending distinct same anyBelow greatestBelow older sameId newerOf greatest emptyStation writesOf readsOf keysOf wrote wroteAs hasWritten hasRead valueUnder isClosing closingSlot closingClock recordsStored liveAt entryAt setLive setEntry liveTxns heldTxns isLive isHeld placeOf slotOf holds slotMark closingSlots isFree bytes number idIn markIn entryIn valueIn headBytes commitRecord versionRecord zeroRecord entryRules commitRules carriesEntry carriesVersion recordAt withRecord recordOf versionsCarry judged seen isNoWrite isNoRead isNoEntry isNoLive zeroPastCounts setsRight names inUse closingRight placeRight entryRight sound lowerBound conflictsWith least lowestConflict conflicts Option·elim passes keepNewer newest newestWriter keyInTheWay chosen choose newerOn superseded isReadBy isRead stored says saysStoring refusals wrongLength unsound opened start withWrites withWrite put choiceOf withReads withRead versionAt noRoom notCarried answered get withPhase highestFree commit entryFor oneMore stepped step abort collect slotsSeen entrySeen isCommitted breaks lowestBroken scanned scan does answers
+unfolding puts versions begun slipped whole readBeforeC starred slipsOfThought nofitNames given expected table _and_ _or_ all any first filter count insert padded from member ascending distinct same anyBelow greatestBelow older sameId newerOf greatest emptyStation writesOf readsOf keysOf wrote wroteAs hasWritten hasRead valueUnder isClosing closingSlot closingClock recordsStored liveAt entryAt setLive setEntry liveTxns heldTxns isLive isHeld placeOf slotOf holds slotMark closingSlots isFree bytes number idIn markIn entryIn valueIn headBytes commitRecord versionRecord zeroRecord entryRules commitRules carriesEntry carriesVersion recordAt withRecord recordOf versionsCarry judged seen isNoWrite isNoRead isNoEntry isNoLive zeroPastCounts setsRight names inUse closingRight placeRight entryRight sound lowerBound conflictsWith least lowestConflict conflicts Option·elim passes keepFirst foremost newest newestWriter keyInTheWay chosen choose newerOn superseded isReadBy isRead stored says saysStoring refusals wrongLength unsound opened start withWrites withWrite put choiceOf withReads withRead versionAt noRoom notCarried answered get withPhase highestFree commit entryFor oneMore stepped step abort collect slotsSeen entrySeen isCommitted breaks lowestBroken scanned scan does answers
 bench-holds = refl
 
 -- ── Algorithm 1 alone, on entries and reads as no history makes them ──
@@ -161,5 +162,5 @@ choices =
     ∷ []
 
 pub choices-hold : map (λ (x : List Entry × List Read × ℕ × Choice). choose (x .0) (x .1) (x .2)) choices ≡ map (λ (x : List Entry × List Read × ℕ × Choice). x .3) choices
-unfolding choices choose chosen newest keepNewer newestWriter keyInTheWay passes conflicts lowestConflict least Option·elim conflictsWith lowerBound greatest newerOf wroteAs wrote keysOf member any filter sameId older _and_ _or_
+unfolding choices choose chosen newest foremost keepFirst newestWriter keyInTheWay passes conflicts lowestConflict least Option·elim conflictsWith lowerBound greatest newerOf wroteAs wrote keysOf member any filter sameId older _and_ _or_
 choices-hold = refl

@@ -11,12 +11,15 @@ pub mod InsideLaws
 pub mod SlotLaws
 pub mod ScanLaws
 pub mod ConflictLaws
+pub mod OrderLaws
 pub mod ReadingLaws
 pub mod StationLaws
 pub mod GetLaws
+pub mod CollectionLaws
 pub mod SoundLaws
 pub mod SoundFacts
 pub mod SoundKept
+pub mod SweepLaws
 pub mod RangesKept
 pub mod ReadYourWrites
 pub mod BenchTable

@@ -1,6 +1,7 @@
 -- A station within its types stays so under every call, and a store of bytes stays one of bytes.
 use Prim.Native.Nat.{ℕ, zero, suc, _+_, _*_, _/_, _^_, _<_, _≤_}
 use mathlib.Core.Path.{_≡_, refl, sym, _∙_}
+use mathlib.Core.Logic.{_⊎_, inl, inr}
 use mathlib.Core.Bool.{Bool, true, false, not}
 use mathlib.Core.List.{List, [], _∷_, map}
 use lib.Dec.{eqb, ltb, leb, lit<}
@@ -26,7 +27,7 @@ use Rattle.model.specs.Stations.{idleStation, emptyStation, liveAt, entr
 use Rattle.model.specs.Records.{versionRecord, zeroRecord, recordPlace, recordAt, withRecord}
 use Rattle.model.specs.Slots.{judged, seen}
 use Rattle.model.specs.Reading.{Choice, own, absent, nofit, version}
-use Rattle.model.specs.Effects.{RecordWrite, Effect, stored, says, saysStoring, Row, _when_, refusals, wrongLength, unsound}
+use Rattle.model.specs.Effects.{RecordWrite, Effect, stored, says, saysStoring, saysStoringAll, Row, _when_, refusals, wrongLength, unsound}
 use Rattle.model.specs.Start.{opened, start}
 use Rattle.model.specs.Put.{withWrite, put}
 use Rattle.model.specs.Get.{choiceOf, withRead, noRoom, answered, get}
@@ -36,7 +37,8 @@ use Rattle.model.specs.Abort.{abort}
 use Rattle.model.specs.Collect.{collect}
 use Rattle.model.specs.Scan.{slotsSeen, entrySeen, lowestBroken, scanned, scan}
 use Rattle.model.specs.Ranges.{Every, IsByte, IdFits, WriteFits, ReadFits, PhaseFits, LiveFits, EntryFits, StationFits}
-use Rattle.model.specs.Calls.{Call, Start, Put, Get, Commit, Step, Abort, Collect, Scan, does, txnOf, numberOf, IsTyped}
+use Rattle.model.specs.Sweep.{collections, stationAfter, recordsOf, sweep}
+use Rattle.model.specs.Calls.{Call, Start, Put, Get, Commit, Step, Abort, Collect, Scan, Sweep, does, txnOf, numberOf, IsTyped}
 use Rattle.model.proofs.Tests.{and-first, and-second, not-of-false}
 use Rattle.model.proofs.ListLaws.{greatest-below, every-at, every-everywhere, every-set, every-take, every-drop, every-append, every-replicate, every-from, every-map}
 use Rattle.model.proofs.InsertLaws.{every-insert, padded-length, every-padded}
@@ -46,6 +48,7 @@ use Rattle.model.proofs.StationLaws.{place-hit}
 use Rattle.model.proofs.GetLaws.{version-entry, version-wrote}
 use Rattle.model.proofs.SoundLaws.{Used, write-limit, read-limit, used-withWrite, used-withRead}
 use Rattle.model.proofs.SoundFacts.{live-facts}
+use Rattle.model.proofs.CollectionLaws.{Ends, Goes, ends-or-goes, ends, nextStation, nextStore, goes}
 
 -- ── bytes ──
 pub bytes-are : (n x : ℕ) → Every IsByte (bytes n x)
@@ -255,6 +258,30 @@ free-low : (st : Station) → anyBelow (isFree st) slots ≡ true → highestFre
 unfolding highestFree
 free-low st h = greatest-below (isFree st) slots h .0
 
+-- a row of refusals hands back the station unaltered
+fits-row : (st : Station) → StationFits st → (n : ℕ) (b : Bool) (rs : List Row) (e : Effect) → (b ≡ false → EffectFits (refusals rs st e)) → EffectFits (refusals (n when b ∷ rs) st e)
+fits-row st f n b rs e g = guard EffectFits n b rs st e (says-fits _ st f) g
+
+-- a collect, and a sweep's collects
+collect-fits : (st : Station) → StationFits st → (s : List ℕ) (d : ℕ) → EffectFits (collect st s d)
+unfolding collect zeroRecord
+collect-fits st f s d =
+    fits-row st f 1 _ _ _ λ h1. fits-row st f 2 _ _ _ λ h2. fits-row st f 14 _ _ _ λ h14. fits-row st f 15 _ _ _ λ h15. fits-row st f 16 _ _ _ λ h16. fits-row st f 17 _ _ _ λ h17.
+    unguarded EffectFits st _ (stores-fits _ _ _ _ _ (setEntry-fits st f d noEntry noEntry-fits) (bytes-zeros recordSize))
+
+collections-fit : (n : ℕ) (st : Station) (s : List ℕ) → StationFits st → (a : Answer) → EffectFits (saysStoringAll a (stationAfter (collections n st s) st) (recordsOf (collections n st s)))
+unfolding collections stationAfter recordsOf
+collections-fit zero st s f a = record { handed = f; writes = tt }
+collections-fit (suc n) st s f a = go (ends-or-goes st s) (λ st₁ s₁ f₁. collections-fit n st₁ s₁ f₁ a)
+  where
+    go : Ends st s ⊎ Goes st s → ((st₁ : Station) (s₁ : List ℕ) → StationFits st₁ → EffectFits (saysStoringAll a (stationAfter (collections n st₁ s₁) st₁) (recordsOf (collections n st₁ s₁))))
+        → EffectFits (saysStoringAll a (stationAfter (collections (suc n) st s) st) (recordsOf (collections (suc n) st s)))
+    go (inl e) ih = rw (ends st s e (suc n)) (record { handed = f; writes = tt })
+    go (inr g) ih =
+        let c = collect-fits st f s (g .slot) in
+        let r = ih (nextStation st s g) (nextStore st s g) (c .handed) in
+        rw (goes st s g n) (record { handed = r .handed; writes = every-append ContentFits (collect st s (g .slot) .stores) _ (c .writes) (r .writes) })
+
 module _ (st : Station) (f : StationFits st) where
   entry-fits : (d : ℕ) → d < length (st .entries) → EntryFits (entryAt st d)
   unfolding entryAt
@@ -268,9 +295,8 @@ module _ (st : Station) (f : StationFits st) where
   unfolding unsound
   live-used t h2 h3 h8 = live-facts st (not-false _ h2) (placeOf t st) (λ e. eqb-false t 0 h3 (sym (place-hit st t (not-false _ h8) .1) ∙ e))
 
-  -- a row of refusals hands back the station unaltered
   row : (n : ℕ) (b : Bool) (rs : List Row) (e : Effect) → (b ≡ false → EffectFits (refusals rs st e)) → EffectFits (refusals (n when b ∷ rs) st e)
-  row n b rs e g = guard EffectFits n b rs st e (says-fits _ st f) g
+  row = fits-row st f
 
   -- another transaction at a place, and nothing stored
   relive : (a : Answer) (i : ℕ) (l : Live) → LiveFits l → EffectFits (says a (setLive st i l))
@@ -303,7 +329,7 @@ module _ (st : Station) (f : StationFits st) where
         more o = setLive-fits st f i _ (withPhase-fits l g _ (oneMore-fits (l .phase) (g .phase) (omega (arith, o, write-limit l (u .sets)))))
 
   call-fits : (c : Call) (s : List ℕ) → IsTyped c → Every IsByte s → EffectFits (does c st s)
-  unfolding does txnOf numberOf start put get commit step abort collect zeroRecord
+  unfolding does txnOf numberOf start put get commit step abort sweep
   call-fits (Start t) s y h = row 2 _ _ _ λ h2. row 3 _ _ _ λ h3. row 6 _ _ _ λ h6. row 7 _ _ _ λ h7. unguarded EffectFits st _ (relive _ _ _ (opened-fits t (y .0 .0)))
   call-fits (Put t k v) s y h = row 2 _ _ _ λ h2. row 3 _ _ _ λ h3. row 4 _ _ _ λ h4. row 8 _ _ _ λ h8. row 9 _ _ _ λ h9. row 11 _ _ _ λ h11.
       unguarded EffectFits st _ (relive _ _ _ (withWrite-fits _ (live-fits t h8) (st .entries) k v (live-used t h2 h3 h8) (leb-false keys k h4) (y .0 .1) h11))
@@ -317,9 +343,9 @@ module _ (st : Station) (f : StationFits st) where
       relive _ _ _ (withPhase-fits _ (live-fits t (and-first _ _ h8 (not-of-false _ nh))) _ (closing-fits _ c (free-low st (not-false _ (and-second _ _ h13 (le-leb _ _ w)))) (y .0 .1))))
   call-fits (Step t) s y h = row 1 _ _ _ λ h1. row 2 _ _ _ λ h2. row 3 _ _ _ λ h3. row 8 _ _ _ λ h8. row 10 _ _ _ λ h10. unguarded EffectFits st _ (stepped-fits t (live-fits t h8) (live-used t h2 h3 h8))
   call-fits (Abort t) s y h = row 2 _ _ _ λ h2. row 3 _ _ _ λ h3. row 8 _ _ _ λ h8. row 9 _ _ _ λ h9. unguarded EffectFits st _ (relive _ _ _ noLive-fits)
-  call-fits (Collect d) s y h = row 1 _ _ _ λ h1. row 2 _ _ _ λ h2. row 14 _ _ _ λ h14. row 15 _ _ _ λ h15. row 16 _ _ _ λ h16. row 17 _ _ _ λ h17.
-      unguarded EffectFits st _ (stores-fits _ _ _ _ _ (setEntry-fits st f d noEntry noEntry-fits) (bytes-zeros recordSize))
+  call-fits (Collect d) s y h = collect-fits st f s d
   call-fits Scan s y h = scan-fits s h
+  call-fits (Sweep n) s y h = row 1 _ _ _ λ h1. row 2 _ _ _ λ h2. row 20 _ _ _ λ h20. unguarded EffectFits st _ (collections-fit n st s f _)
 
 -- records of bytes stored
 stored-bytes : (ws : List RecordWrite) (s : List ℕ) → Every ContentFits ws → Every IsByte s → Every IsByte (stored ws s)

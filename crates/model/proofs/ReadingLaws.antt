@@ -16,61 +16,13 @@ use Rattle.model.specs.declared.Entry.{Entry}
 use Rattle.model.specs.Lists.{_and_, any}
 use Rattle.model.specs.Ids.{older, sameId, noId}
 use Rattle.model.specs.Entries.{noEntry, wrote, wroteAs}
-use Rattle.model.specs.Reading.{lowerBound, conflictsWith, lowestConflict, conflicts, newestWriter, keyInTheWay, passes, keepNewer, newest, absent, nofit, version, chosen, choose, Atomic}
-use Rattle.model.specs.Step.{step}
+use Rattle.model.specs.Reading.{lowerBound, conflictsWith, lowestConflict, conflicts, newestWriter, keyInTheWay, passes, absent, nofit, version, chosen, choose, Atomic}
+use Rattle.model.specs.Orders.{newest}
 use Rattle.model.proofs.Tests.{and-left, and-right, and-intro, and-second, not-of-false}
 use Rattle.model.proofs.ListLaws.{any-finds, any-at, any-none, kept-mem, kept-from}
 use Rattle.model.proofs.IdLaws.{older-irrefl, older-asym, not-older-trans, older-total, same-id, id-same, greatest-above, greatest-one, none-older}
+use Rattle.model.proofs.OrderLaws.{IsNewest, newest-is, newest-none}
 use Rattle.model.proofs.ConflictLaws.{ConflictsLowest, test-gives, none-conflicts, conflicts-any}
-
--- ── the newest that passes ──
-pub record IsNewest (p : Entry → Bool) (es : List Entry) (d : ℕ) : Type 0 where
-  pub low : d < length es
-  pub passes : p (getD es d noEntry) ≡ true
-  pub newest : (j : ℕ) → j < length es → p (getD es j noEntry) ≡ true → older (getD es d noEntry .id) (getD es j noEntry .id) ≡ false
-
-abbrev Outcome : (Entry → Bool) → List Entry → Option ℕ → Type 0
-Outcome p es none = (j : ℕ) → j < length es → p (getD es j noEntry) ≡ false
-Outcome p es (some d) = IsNewest p es d
-
-newest-outcome : (p : Entry → Bool) (es : List Entry) → (x : Option ℕ) → newest p es ≡ x → Outcome p es x
-unfolding newest
-newest-outcome p [] x h = subst (Outcome p []) h (λ j o. absurd (not-suc-le-zero o))
-newest-outcome p (e ∷ es) x h = subst (Outcome p (e ∷ es)) h (step (p e) refl (newest p es) (newest-outcome p es (newest p es) refl))
-  where
-    at-zero : p e ≡ false → ((j : ℕ) → j < length es → p (getD es j noEntry) ≡ false) → (j : ℕ) → j < suc (length es) → p (getD (e ∷ es) j noEntry) ≡ false
-    at-zero q f zero o = q
-    at-zero q f (suc j) o = f j (le-of-suc-le-suc o)
-
-    later : (d : ℕ) → IsNewest p es d → (p e ≡ true → older (getD es d noEntry .id) (e .id) ≡ false) → IsNewest p (e ∷ es) (suc d)
-    later d n f = record { low = suc-le-suc (n .low); passes = n .passes; newest = cases }
-      where
-        cases : (j : ℕ) → j < suc (length es) → p (getD (e ∷ es) j noEntry) ≡ true → older (getD es d noEntry .id) (getD (e ∷ es) j noEntry .id) ≡ false
-        cases zero o q = f q
-        cases (suc j) o q = n .newest j (le-of-suc-le-suc o) q
-
-    here : p e ≡ true → ((j : ℕ) → j < length es → p (getD es j noEntry) ≡ true → older (e .id) (getD es j noEntry .id) ≡ false) → IsNewest p (e ∷ es) 0
-    here q f = record { low = zero-lt-suc _; passes = q; newest = cases }
-      where
-        cases : (j : ℕ) → j < suc (length es) → p (getD (e ∷ es) j noEntry) ≡ true → older (e .id) (getD (e ∷ es) j noEntry .id) ≡ false
-        cases zero o r = older-irrefl (e .id)
-        cases (suc j) o r = f j (le-of-suc-le-suc o) r
-
-    compared : (d : ℕ) → IsNewest p es d → p e ≡ true → (c : Bool) → older (e .id) (getD es d noEntry .id) ≡ c → Outcome p (e ∷ es) (keepNewer true e es (some d))
-    compared d n q true c = unfold keepNewer in (rw c (later d n (λ r. older-asym _ _ c)))
-    compared d n q false c = unfold keepNewer in (rw c (here q (λ j o r. not-older-trans _ _ _ c (n .newest j o r))))
-
-    step : (b : Bool) → p e ≡ b → (y : Option ℕ) → Outcome p es y → Outcome p (e ∷ es) (keepNewer (p e) e es y)
-    step false q none f = rw q (unfold keepNewer in at-zero q f)
-    step false q (some d) n = rw q (unfold keepNewer in later d n (λ r. absurd (true≢false (sym r ∙ q))))
-    step true q none f = rw q (unfold keepNewer in here q (λ j o r. absurd (true≢false (sym r ∙ f j o))))
-    step true q (some d) n = rw q (compared d n q (older (e .id) (getD es d noEntry .id)) refl)
-
-pub newest-is : (p : Entry → Bool) (es : List Entry) (d : ℕ) → newest p es ≡ some d → IsNewest p es d
-newest-is p es d h = newest-outcome p es (some d) h
-
-pub newest-none : (p : Entry → Bool) (es : List Entry) → newest p es ≡ none → (j : ℕ) → j < length es → p (getD es j noEntry) ≡ false
-newest-none p es h = newest-outcome p es none h
 
 -- ── what is chosen ──
 chosen-some : (b : Bool) (x : Option ℕ) (y d : ℕ) → chosen b x y ≡ version d → x ≡ some d
@@ -155,7 +107,7 @@ module _ (es : List Entry) (rs : List Read) (k : ℕ) where
   newest-not-below : (d : ℕ) → IsNewest (λ e. wrote e k) es d → older (getD es d noEntry .id) (lowerBound es rs k) ≡ false
   newest-not-below d n = ⊎-elim
       (λ e. rw e (none-older (getD es d noEntry .id)))
-      (λ b. let w = wrote-as es (b .0 .id) k (b .2) in rw (b .3) (subst (λ (i : Id). older (getD es d noEntry .id) i ≡ false) (w .2) (n .newest (w .0) (w .1) (w .3))))
+      (λ b. let w = wrote-as es (b .0 .id) k (b .2) in rw (b .3) (subst (λ (i : Id). older (getD es d noEntry .id) i ≡ false) (w .2) (n .first (w .0) (w .1) (w .3))))
       bound-is
 
   -- "Prove that a sound station always has one": every list of entries has, whatever was read. (A read whose entry is not among them sets no bound.)

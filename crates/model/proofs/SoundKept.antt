@@ -37,7 +37,9 @@ use Rattle.model.specs.Step.{oneMore, stepped, step}
 use Rattle.model.specs.Abort.{abort}
 use Rattle.model.specs.Collect.{collect}
 use Rattle.model.specs.Scan.{slotsSeen, entrySeen, scan}
-use Rattle.model.specs.Calls.{Call, Start, Put, Get, Commit, Step, Abort, Collect, Scan, does}
+use Rattle.model.specs.Sweep.{sweep}
+use Rattle.model.specs.Calls.{Call, Start, Put, Get, Commit, Step, Abort, Collect, Scan, Sweep, does}
+use Rattle.model.proofs.CollectionLaws.{collections-keep}
 use Rattle.model.proofs.Tests.{and-left, and-right, and-intro, and-second, or-left, or-right, not-of-false, and-none-left, and-none-right, and-first}
 use Rattle.model.proofs.ListLaws.{all-cons, all-replicate, any-none, getD-mem, greatest-below}
 use Rattle.model.proofs.DistinctLaws.{distinct-of, member-never}
@@ -467,6 +469,15 @@ scan-keeps s = go (ℕ-discrete (length s) storeSize)
     go (no n) = rw (scan-length s n) (says-keeps _ _ sound-empty)
     go (yes l) = ⊎-elim (λ k. rw (scan-finds s l k) (says-keeps _ _ (found-sound s k))) (λ r. rw (r .2) (says-keeps _ _ sound-empty)) (scan-or s l)
 
+-- ── sweep ──
+pub sweep-keeps : (st : Station) (s : List ℕ) (n : ℕ) → sound st ≡ true → Keeps (sweep st s n)
+unfolding sweep Keeps
+sweep-keeps st s n h =
+    row 1 _ _ st _ h λ h1.
+    row 2 _ _ st _ h λ h2.
+    row 20 _ _ st _ h λ h20.
+    unguarded Keeps st _ (collections-keep (λ x _. sound x ≡ true) (λ x z d k c. collect-keeps x z d k) n st s h)
+
 -- ── every call ──
 pub sound-scan : (s : List ℕ) → sound ((scan s) .station) ≡ true
 unfolding Keeps
@@ -482,3 +493,4 @@ sound-kept (Step t) st s h = step-keeps st s t h
 sound-kept (Abort t) st s h = abort-keeps st t h
 sound-kept (Collect d) st s h = collect-keeps st s d h
 sound-kept Scan st s h = scan-keeps s
+sound-kept (Sweep n) st s h = sweep-keeps st s n h

@@ -1,4 +1,4 @@
--- The eight calls as one type, and what each does: 01's column 'By' and its section 'Calls'.
+-- The calls as one type, and what each does: 01's column 'By' and its section 'Calls'; and 02's.
 use Prim.Native.Nat.{ℕ, _<_}
 use mathlib.Core.Bool.{Bool, true, false}
 use mathlib.Core.List.{List, [], _∷_}
@@ -15,6 +15,7 @@ use Rattle.model.specs.Step.{step}
 use Rattle.model.specs.Abort.{abort}
 use Rattle.model.specs.Collect.{collect}
 use Rattle.model.specs.Scan.{scan}
+use Rattle.model.specs.Sweep.{sweep}
 
 pub data Call : Type 0 where
   Start : ℕ → Call
@@ -25,6 +26,7 @@ pub data Call : Type 0 where
   Abort : ℕ → Call
   Collect : ℕ → Call
   Scan : Call
+  Sweep : ℕ → Call
 
 unfoldable pub does : Call → Station → List ℕ → Effect
 does (Start t) st s = start st t
@@ -35,6 +37,7 @@ does (Step t) st s = step st s t
 does (Abort t) st s = abort st t
 does (Collect d) st s = collect st s d
 does Scan st s = scan s
+does (Sweep n) st s = sweep st s n
 
 -- the call that needs no station
 unfoldable pub isScan : Call → Bool
@@ -46,8 +49,21 @@ isScan (Step t) = false
 isScan (Abort t) = false
 isScan (Collect d) = false
 isScan Scan = true
+isScan (Sweep n) = false
 
--- what a call was handed: transaction, key (or slot), number (value or clock); 0 where it takes none
+-- the call that is several collects
+unfoldable pub isSweep : Call → Bool
+isSweep (Start t) = false
+isSweep (Put t k v) = false
+isSweep (Get t k) = false
+isSweep (Commit t c) = false
+isSweep (Step t) = false
+isSweep (Abort t) = false
+isSweep (Collect d) = false
+isSweep Scan = false
+isSweep (Sweep n) = true
+
+-- what a call was handed: transaction, key (or slot), number (value, clock or limit); 0 where it takes none
 unfoldable pub txnOf : Call → ℕ
 txnOf (Start t) = t
 txnOf (Put t k v) = t
@@ -57,6 +73,7 @@ txnOf (Step t) = t
 txnOf (Abort t) = t
 txnOf (Collect d) = 0
 txnOf Scan = 0
+txnOf (Sweep n) = 0
 
 unfoldable pub keyOf : Call → ℕ
 keyOf (Start t) = 0
@@ -67,6 +84,7 @@ keyOf (Step t) = 0
 keyOf (Abort t) = 0
 keyOf (Collect d) = d
 keyOf Scan = 0
+keyOf (Sweep n) = 0
 
 unfoldable pub numberOf : Call → ℕ
 numberOf (Start t) = 0
@@ -77,6 +95,7 @@ numberOf (Step t) = 0
 numberOf (Abort t) = 0
 numberOf (Collect d) = 0
 numberOf Scan = 0
+numberOf (Sweep n) = n
 
 -- transaction and number are in 01's ranges (a key or slot may be any number: what is too great is refused); all three in their types'
 abbrev pub InRange : Call → Type 0

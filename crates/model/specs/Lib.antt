@@ -9,6 +9,7 @@ pub mod Ranges
 pub mod Records
 pub mod Slots
 pub mod Sound
+pub mod Orders
 pub mod Reading
 pub mod Supersedence
 pub mod Effects
@@ -20,5 +21,6 @@ pub mod Step
 pub mod Abort
 pub mod Collect
 pub mod Scan
-pub mod Calls
 pub mod Answers
+pub mod Sweep
+pub mod Calls

@@ -19,6 +19,10 @@ writeLimit = 8
 abbrev pub readLimit : ℕ
 readLimit = 16
 
+-- 02 §2: "20: limit 0 or above 64"
+abbrev pub sweepLimit : ℕ
+sweepLimit = 64
+
 -- "64 drawers of 9 slips of 24 bytes": a commit record, and a version record for each key of a write set
 abbrev pub recordSize : ℕ
 recordSize = 24

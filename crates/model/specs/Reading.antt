@@ -1,5 +1,5 @@
 -- 01 'Calls', get: Algorithm 1 of the paper, over any list of entries es and any list of reads rs; and 02 §1, the key that nofit names.
-use Prim.Native.Nat.{ℕ, suc}
+use Prim.Native.Nat.{ℕ}
 use mathlib.Core.Path.{_≡_}
 use mathlib.Core.Bool.{Bool, true, false, not, cond}
 use mathlib.Core.List.{List, [], _∷_, map, List·Memᴰ}
@@ -12,6 +12,7 @@ use Rattle.model.specs.Lists.{_and_, any, filter, least}
 use Rattle.model.specs.Ids.{older, greatest}
 use Rattle.model.specs.Lives.{readKey}
 use Rattle.model.specs.Entries.{noEntry, wrote, wroteAs}
+use Rattle.model.specs.Orders.{newest}
 
 -- "The lower bound is the greatest id in the read list whose transaction wrote this key, or none."
 unfoldable pub lowerBound : List Entry → List Read → ℕ → Id
@@ -31,17 +32,6 @@ conflicts e rs = Option·elim (lowestConflict e rs) false (λ k. true)
 -- "wrote the key, is not below the bound, and conflicts with no read"
 unfoldable pub passes : List Entry → List Read → ℕ → Entry → Bool
 passes es rs k e = wrote e k and not (older (e .id) (lowerBound es rs k)) and not (conflicts e rs)
-
--- "the newest entry that ..": the position of the newest of those that pass, of equal ids the first
-unfoldable pub keepNewer : Bool → Entry → List Entry → Option ℕ → Option ℕ
-keepNewer false e es none = none
-keepNewer false e es (some d) = some (suc d)
-keepNewer true e es none = some 0
-keepNewer true e es (some d) = cond (older (e .id) (getD es d noEntry .id)) (some (suc d)) (some 0)
-
-unfoldable pub newest : (Entry → Bool) → List Entry → Option ℕ
-newest p [] = none
-newest p (e ∷ es) = keepNewer (p e) e es (newest p es)
 
 -- 02 §1: "Answer nofit with a key: the lowest on which the newest entry that wrote the wanted key conflicts." (0 stands for none; a nofit
 -- always has one: nofit-has-key)

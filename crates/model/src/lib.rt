@@ -57,7 +57,8 @@ pub struct Station {
     pub entries: [Entry; Station::SLOTS],
 }
 
-// What a call answers; the variants are 01's output words. Nofit holds the key in the way; Refused the number and, with 18, the slot.
+// What a call answers; the variants are 01's output words, and Swept, with how many entries a sweep has collected. Nofit holds the key in the way;
+// Refused the number and, with 18, the slot.
 pub enum Answer {
     Started,
     Kept,
@@ -74,6 +75,7 @@ pub enum Answer {
     Collected(Id),
     Found(u8),
     Refused(u8, u8),
+    Swept(u8),
 }
 
 // What a call hands back beside the store: its answer, and the station.
@@ -93,6 +95,9 @@ impl Station {
     pub const READS: usize = 16;
 
     pub const KEYS: usize = 64;
+
+    // The entries that one sweep collects, at most.
+    pub const SWEEP: usize = 64;
 
     // The last place and slot; the limits of a write set, a read set and a key as the bytes that these are counted in.
     pub const LAST_PLACE: usize = Station::LIVE - 1;
