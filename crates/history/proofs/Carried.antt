@@ -8,11 +8,10 @@ use Rattle.model.specs.declared.Station.{Station}
 use Rattle.model.specs.Limits.{storeSize}
 use Rattle.model.specs.Ranges.{Every, IsByte, StationFits}
 use Rattle.model.specs.Effects.{RecordWrite, outcomeOf, stored}
-use Rattle.model.specs.Calls.{Call, Start, Put, Get, Commit, Step, Abort, Collect, Scan, does, isScan, txnOf, keyOf, numberOf, IsTyped}
+use Rattle.model.specs.Calls.{Call, Start, Put, Get, Commit, Step, Abort, Collect, Scan, Sweep, does, isScan, txnOf, keyOf, numberOf, IsTyped}
 use Rattle.model.proofs.StoreLaws.{start-stores-nothing, put-stores-nothing, get-stores-nothing, commit-stores-nothing, abort-stores-nothing, scan-stores-nothing}
 use Rattle.model.proofs.RangesKept.{fits-empty, bytes-zeros, fits-kept, bytes-kept, bytes-kept-all}
-use Rattle.history.specs.Ledger.{feed}
-use Rattle.history.specs.Histories.{Event, called, cut, Node, running, down, World, begin, handed, afterCall, afterCut, next, run, callIn, AllInRange}
+use Rattle.history.specs.Histories.{Event, called, cut, Node, running, down, World, begin, handed, reports, fed, afterCall, afterCut, next, run, callIn, AllInRange}
 use Rattle.history.specs.CutRule.{CutRule}
 use Rattle.history.specs.Contracts.{Functions, Meets, returned, afterReturn, nextBy, runBy, AllTyped}
 use Rattle.history.proofs.DraftLaws.{some-inj}
@@ -38,6 +37,7 @@ handed-fits (Step t) down st f e = absurd (Option·none-ne-some st e)
 handed-fits (Abort t) down st f e = absurd (Option·none-ne-some st e)
 handed-fits (Collect d) down st f e = absurd (Option·none-ne-some st e)
 handed-fits Scan down st f e = subst StationFits (some-inj e) fits-empty
+handed-fits (Sweep n) down st f e = absurd (Option·none-ne-some st e)
 
 typed-next : (v : Event) (w : World) → IsTyped (callIn v) → Typed w → Typed (next v w)
 unfolding next callIn
@@ -80,6 +80,7 @@ module _ (f : Functions) (m : Meets f) where
   returned-is (Abort t) st s r o b = (m .abort st t o (r .0 .0), none-stored _ s (abort-stores-nothing st t))
   returned-is (Collect d) st s r o b = m .collect st s d o b (r .1)
   returned-is Scan st s r o b = (m .scan s b, none-stored _ s (scan-stores-nothing s))
+  returned-is (Sweep n) st s r o b = m .sweep st s n o b (r .0 .1)
 
   next-is : (v : Event) (w : World) → IsTyped (callIn v) → Typed w → nextBy f v w ≡ next v w
   unfolding nextBy next callIn
@@ -89,7 +90,7 @@ module _ (f : Functions) (m : Meets f) where
       go none e = unfold afterReturn afterCall in refl
       go (some st) e =
           let p = returned-is c st (w .store) r (handed-fits c (w .node) st (tw .node) e) (tw .store) in
-          unfold afterReturn afterCall outcomeOf in λ i. record { node = running (p .0 i .station); store = p .1 i; ledger = feed (p .0 i .answer) c (w .ledger) }
+          unfold afterReturn afterCall outcomeOf in λ i. record { node = running (p .0 i .station); store = p .1 i; ledger = fed (reports c (p .0 i .answer) st (w .store)) (w .ledger) }
   next-is (cut c n) w r tw = refl
 
   run-is : (vs : List Event) (w : World) → AllTyped vs → Typed w → runBy f vs w ≡ run vs w

@@ -5,8 +5,7 @@ use mathlib.Core.Logic.{_≢_, ⊎-elim}
 use mathlib.Core.Bool.{Bool, true, false, cond, false≢true}
 use mathlib.Core.List.{List, [], _∷_, _++_, List·Memᴰ, Memᴰ·append-right}
 use mathlib.Core.Option.{Option, some, none}
-use lib.Dec.{eqb, ltb, leb}
-use lib.ListN.{length}
+use lib.Dec.{eqb, ltb}
 use native.Mathlib.Omega.{arith}
 use borrow.Author.Tests.{ltb-false, eqb-false, not-false}
 use Rattle.model.specs.declared.Id.{Id}
@@ -35,7 +34,7 @@ use Rattle.model.proofs.StationLaws.{slot-hit, entry-in}
 use Rattle.model.proofs.GetLaws.{version-entry, get-version}
 use Rattle.model.proofs.SoundFacts.{wrote-held}
 use Rattle.history.specs.Ledger.{Draft, Committed, Ledger, draftOf, withDrafts, committedFrom, feed}
-use Rattle.history.specs.Histories.{Event, called, cut, running, World, begin, handed, afterCall, fedAfter, afterCut, next, run, AllInRange}
+use Rattle.history.specs.Histories.{Event, called, cut, running, World, begin, handed, Report, fed, afterCall, afterCut, next, run, AllInRange}
 use Rattle.history.specs.CutRule.{committedIn, Wrote}
 use Rattle.history.proofs.Invariant.{Prepared, Inv}
 use Rattle.history.proofs.CommittedLaws.{stands, wrote-committed, committed-id, stands-once}
@@ -84,6 +83,12 @@ past-fed A.Dropped c b j m = m
 past-fed (A.Collected i) c b j m = m
 past-fed (A.Found n) c b j m = m
 past-fed (A.Refused n d) c b j m = m
+past-fed (A.Swept n) c b j m = m
+
+past-all : (rs : List Report) (b : Ledger) (j : Committed) → List·Memᴰ j (b .past) → List·Memᴰ j (fed rs b .past)
+unfolding fed
+past-all [] b j m = m
+past-all (r ∷ rs) b j m = past-all rs _ j (past-fed (r .answer) (r .call) b j m)
 
 past-next : (v : Event) (w : World) (j : Committed) → List·Memᴰ j (w .ledger .past) → List·Memᴰ j (next v w .ledger .past)
 unfolding next
@@ -91,16 +96,12 @@ past-next (called c) w j m = go (handed c (w .node))
   where
     go : (x : Option Station) → List·Memᴰ j (afterCall x c w .ledger .past)
     go none = unfold afterCall in m
-    go (some st) = unfold afterCall in past-fed _ c (w .ledger) j m
+    go (some st) = unfold afterCall in past-all _ (w .ledger) j m
 past-next (cut c n) w j m = go (handed c (w .node))
   where
-    fed : (e : Effect) (y : Bool) → List·Memᴰ j (cond y (feed (e .answer) c (w .ledger)) (w .ledger) .past)
-    fed e true = past-fed _ c (w .ledger) j m
-    fed e false = m
-
     go : (x : Option Station) → List·Memᴰ j (afterCut x c n w .ledger .past)
     go none = unfold afterCut in m
-    go (some st) = unfold afterCut fedAfter in fed (does c st (w .store)) (leb (length (does c st (w .store) .stores)) n)
+    go (some st) = unfold afterCut in past-all _ (w .ledger) j m
 
 past-run : (us : List Event) (w : World) (j : Committed) → List·Memᴰ j (w .ledger .past) → List·Memᴰ j (run us w .ledger .past)
 unfolding run

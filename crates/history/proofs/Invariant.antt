@@ -7,6 +7,7 @@ use mathlib.Core.List.{List, [], _∷_, map, List·Permᴰ, List·Memᴰ}
 use lib.ListN.{length, take, getD}
 use native.Mathlib.Nat.{not-suc-le-zero}
 use native.Mathlib.Omega.{arith}
+use borrow.Author.Tests.{le-leb, lt-leb}
 use mathlib.Core.Option.{Option, some}
 use Rattle.model.specs.declared.Read.{Read}
 use Rattle.model.specs.declared.Write.{Write}
@@ -28,7 +29,7 @@ use Rattle.model.specs.Scan.{slotsSeen, entrySeen}
 use Rattle.model.specs.Calls.{Call}
 use Rattle.model.proofs.RefusalLaws.{guard, unguarded, cond-rule}
 use Rattle.history.specs.Ledger.{Draft, Committed, Ledger, draftOf, feed}
-use Rattle.history.specs.Histories.{fedAfter}
+use Rattle.history.specs.Histories.{Report, fed, givenAfter}
 use Rattle.history.specs.CutRule.{committedFound, Wrote, Newer}
 use Rattle.history.specs.Matches.{Correspond}
 
@@ -100,12 +101,29 @@ pub record Inv (st : Station) (s : List ℕ) (b : Ledger) : Type 0 where
   pub reads : AtomicReads st
   pub ranges : (i : ℕ) → Ranges (liveAt st i)
 
--- ── what a call owes: the invariant afterwards, and after each prefix of its stores, when the station is lost, what lasts ──
+-- ── what a call owes that reports with its last store: the invariant afterwards, and before that store, when the station is lost, what lasts ──
 pub record Good (s : List ℕ) (b : Ledger) (c : Call) (e : Effect) : Type 0 where
   pub after : Inv (e .station) (stored (e .stores) s) (feed (e .answer) c b)
-  pub before : (n : ℕ) → n < length (e .stores) → Lasting (stored (take n (e .stores)) s) (fedAfter n c e b)
+  pub before : (n : ℕ) → n < length (e .stores) → Lasting (stored (take n (e .stores)) s) b
+
+-- what any call owes: the same after each prefix of its stores, with the ledger as far as it is fed
+pub record Reported (s : List ℕ) (b : Ledger) (rs : List Report) (e : Effect) : Type 0 where
+  pub after : Inv (e .station) (stored (e .stores) s) (fed rs b)
+  pub before : (n : ℕ) → n < length (e .stores) → Lasting (stored (take n (e .stores)) s) (fed (givenAfter n rs) b)
+  pub complete : (n : ℕ) → length (e .stores) ≤ n → givenAfter n rs ≡ rs
 
 module _ (s : List ℕ) (b : Ledger) (c : Call) where
+  abbrev alone : Effect → List Report
+  alone e = record { call = c; answer = e .answer; stores = length (e .stores) } ∷ []
+
+  pub good-reported : (e : Effect) → Good s b c e → Reported s b (alone e) e
+  unfolding fed
+  good-reported e g = record {
+    after = g .after;
+    before = λ n o. unfold givenAfter in (rw (lt-leb (length (e .stores)) n o) (g .before n o));
+    complete = λ n o. unfold givenAfter in (rw (le-leb (length (e .stores)) n o));
+  }
+
   -- an answer with nothing stored
   pub good-says : (a : Answer) (st : Station) → Inv st s (feed a c b) → Good s b c (says a st)
   unfolding says stored
@@ -113,7 +131,7 @@ module _ (s : List ℕ) (b : Ledger) (c : Call) where
 
   -- with one record stored: before it store and ledger are as they were
   pub good-stores : (a : Answer) (st : Station) (d n : ℕ) (r : List ℕ) → Lasting s b → Inv st (withRecord s d n r) (feed a c b) → Good s b c (saysStoring a st d n r)
-  unfolding saysStoring stored fedAfter
+  unfolding saysStoring stored
   good-stores a st d n r old inv = record { after = inv; before = λ m o. let z : m ≡ 0 = omega arith in rw z old }
 
   -- a refusal alters nothing, and where the row does not apply the rest counts

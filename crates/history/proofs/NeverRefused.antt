@@ -15,7 +15,7 @@ use Rattle.model.specs.Lives.{recordsStored}
 use Rattle.model.specs.Stations.{liveAt, entryAt, isHeld, placeOf}
 use Rattle.model.specs.Sound.{sound}
 use Rattle.model.specs.Reading.{Choice, own, absent, nofit, version}
-use Rattle.model.specs.Effects.{Effect, says, saysStoring, Row, _when_, refusals, wrongLength, unsound}
+use Rattle.model.specs.Effects.{RecordWrite, Effect, says, saysStoring, saysStoringAll, Row, _when_, refusals, wrongLength, unsound}
 use Rattle.model.specs.Start.{start}
 use Rattle.model.specs.Put.{put}
 use Rattle.model.specs.Get.{choiceOf, versionAt, notCarried, answered, get}
@@ -23,7 +23,8 @@ use Rattle.model.specs.Commit.{commit}
 use Rattle.model.specs.Step.{stepped, step}
 use Rattle.model.specs.Abort.{abort}
 use Rattle.model.specs.Collect.{collect}
-use Rattle.model.specs.Calls.{Call, Start, Put, Get, Commit, Step, Abort, Collect, Scan, does}
+use Rattle.model.specs.Sweep.{sweep}
+use Rattle.model.specs.Calls.{Call, Start, Put, Get, Commit, Step, Abort, Collect, Scan, Sweep, does}
 use Rattle.model.specs.Answers.{refusedWith}
 use Rattle.model.proofs.Tests.{or-right, not-of-true}
 use Rattle.model.proofs.RefusalLaws.{guard, unguarded, cond-rule, skipped}
@@ -51,6 +52,10 @@ calm-says a st h = h
 calm-stores : (a : Answer) (st : Station) (d n : ℕ) (r : List ℕ) → member (refusedWith a) faults ≡ false → Calm (saysStoring a st d n r)
 unfolding Calm saysStoring
 calm-stores a st d n r h = h
+
+calm-stores-all : (a : Answer) (st : Station) (ws : List RecordWrite) → member (refusedWith a) faults ≡ false → Calm (saysStoringAll a st ws)
+unfolding Calm
+calm-stores-all a st ws h = h
 
 -- a row with another number
 row : (n : ℕ) (b : Bool) (rs : List Row) (st : Station) (e : Effect) → member n faults ≡ false → (b ≡ false → Calm (refusals rs st e)) → Calm (refusals (n when b ∷ rs) st e)
@@ -81,7 +86,7 @@ module _ (st : Station) (s : List ℕ) (b : Ledger) (h : sound st ≡ true) (inv
       not-of-true _ (committed-version s d (entryAt st d) (inv .slots .entered d (wrote-held st h d k (r .1))) k (r .1))
 
   calm : (c : Call) → Calm (does c st s)
-  unfolding does start put get commit step abort collect stepped answered member any refusedWith
+  unfolding does start put get commit step abort collect sweep stepped answered member any refusedWith
   calm (Start t) = off 2 _ _ st _ off2 (row 3 _ _ st _ refl λ h3. row 6 _ _ st _ refl λ h6. row 7 _ _ st _ refl λ h7. unguarded Calm st _ (calm-says _ _ refl))
   calm (Put t k v) = off 2 _ _ st _ off2 (row 3 _ _ st _ refl λ h3. row 4 _ _ st _ refl λ h4. row 8 _ _ st _ refl λ h8. row 9 _ _ st _ refl λ h9. row 11 _ _ st _ refl λ h11. unguarded Calm st _ (calm-says _ _ refl))
   calm (Get t k) = off 1 _ _ st _ off1 (off 2 _ _ st _ off2 (row 3 _ _ st _ refl λ h3. row 4 _ _ st _ refl λ h4. row 8 _ _ st _ refl λ h8. row 9 _ _ st _ refl λ h9. row 12 _ _ st _ refl λ h12.
@@ -100,6 +105,7 @@ module _ (st : Station) (s : List ℕ) (b : Ledger) (h : sound st ≡ true) (inv
   calm (Abort t) = off 2 _ _ st _ off2 (row 3 _ _ st _ refl λ h3. row 8 _ _ st _ refl λ h8. row 9 _ _ st _ refl λ h9. unguarded Calm st _ (calm-says _ _ refl))
   calm (Collect d) = off 1 _ _ st _ off1 (off 2 _ _ st _ off2 (row 14 _ _ st _ refl λ h14. row 15 _ _ st _ refl λ h15. row 16 _ _ st _ refl λ h16.
       off 17 _ _ st _ (not-of-true _ (committed-carries s d (entryAt st d) (inv .slots .entered d (held-txn st d (not-false _ (or-right _ _ h14)))))) (unguarded Calm st _ (calm-stores _ _ _ _ _ refl))))
+  calm (Sweep n) = off 1 _ _ st _ off1 (off 2 _ _ st _ off2 (row 20 _ _ st _ refl λ h20. unguarded Calm st _ (calm-stores-all _ _ _ refl)))
   calm Scan = rw (scan-is s (b .standing) (b .past) (inv .core)) (calm-says _ _ refl)
 
 pub never-refused : (vs : List Event) → AllInRange vs → (st : Station) → run vs begin .node ≡ running st → (c : Call) → member (refusedWith (does c st (run vs begin .store) .answer)) faults ≡ false

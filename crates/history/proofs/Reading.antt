@@ -23,7 +23,8 @@ use Rattle.model.specs.Get.{choiceOf, withRead, answered, get}
 use Rattle.model.specs.Calls.{Get, txnOf, keyOf}
 use Rattle.model.proofs.ListLaws.{all-mem}
 use Rattle.model.proofs.InsertLaws.{insert-has, insert-mem, insert-keeps}
-use Rattle.model.proofs.ReadingLaws.{IsNewest, version-is, IdsDiffer, theorem-1, corollary-1-1}
+use Rattle.model.proofs.OrderLaws.{IsNewest}
+use Rattle.model.proofs.ReadingLaws.{version-is, IdsDiffer, theorem-1, corollary-1-1}
 use Rattle.model.proofs.StationLaws.{place-hit, entry-get, not-closing}
 use Rattle.model.proofs.GetLaws.{choice-version}
 use Rattle.model.proofs.SoundLaws.{readsOf-withReads}

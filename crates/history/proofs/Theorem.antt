@@ -8,7 +8,6 @@ use lib.ListN.{length, take, replicate, length-replicate, getD-replicate}
 use lib.Seq.{take-all}
 use native.Mathlib.Decide.{decLt}
 use native.Mathlib.Omega.{arith}
-use borrow.Author.Tests.{le-leb}
 use Rattle.model.specs.declared.Station.{Station}
 use Rattle.model.specs.Limits.{slots, storeSize}
 use Rattle.model.specs.Entries.{noEntry}
@@ -17,14 +16,14 @@ use Rattle.model.specs.Slots.{free, seen}
 use Rattle.model.specs.Sound.{sound}
 use Rattle.model.specs.Effects.{Effect, stored}
 use Rattle.model.specs.Scan.{entrySeen}
-use Rattle.model.specs.Calls.{Call, Start, Put, Get, Commit, Step, Abort, Collect, Scan, does, isScan, txnOf, numberOf, InRange}
+use Rattle.model.specs.Calls.{Call, Start, Put, Get, Commit, Step, Abort, Collect, Scan, Sweep, does, isScan, isSweep, txnOf, numberOf, InRange}
 use Rattle.model.proofs.SlotLaws.{committed≢free, free≢damaged, zeros-free}
 use Rattle.model.proofs.SoundKept.{sound-empty, sound-scan, sound-kept}
 use Rattle.history.specs.Ledger.{Ledger, emptyLedger}
-use Rattle.history.specs.Histories.{Event, called, cut, Node, running, down, World, begin, handed, afterCall, fedAfter, afterCut, next, run, callIn, AllInRange}
+use Rattle.history.specs.Histories.{Event, called, cut, Node, running, down, World, begin, handed, Report, reports, fed, givenAfter, afterCall, afterCut, next, run, callIn, AllInRange}
 use Rattle.history.specs.CutRule.{Demand3}
 use Rattle.history.specs.Matches.{Correspond}
-use Rattle.history.proofs.Invariant.{Core, Lasting, draftIn, Inv, Good}
+use Rattle.history.proofs.Invariant.{Core, Lasting, draftIn, Inv, Reported, good-reported}
 use Rattle.history.proofs.DraftLaws.{some-inj}
 use Rattle.history.proofs.Lasting.{lasting}
 use Rattle.history.proofs.Opening.{start-keeps, put-keeps, abort-keeps}
@@ -33,6 +32,7 @@ use Rattle.history.proofs.Reading.{get-keeps}
 use Rattle.history.proofs.CommittedLaws.{holds-free, slotsHold, hold-none, hold-more, in-store}
 use Rattle.history.proofs.Storing.{step-keeps}
 use Rattle.history.proofs.Collecting.{collect-keeps}
+use Rattle.history.proofs.Sweeping.{sweep-keeps}
 use Rattle.history.proofs.Recovering.{scan-keeps, idle-inv, cut-rule-of}
 
 -- ── at the beginning ──
@@ -61,16 +61,21 @@ begin-inv = idle-inv (replicate slots noEntry) zeros [] [] (length-replicate slo
     (λ d o. unfold entryAt entrySeen in (getD-replicate slots d noEntry _ o ∙ ap entrySeen (sym (zeros-free storeSize d)))) zeros-core
 
 -- ── a call ──
-pub call-keeps : (c : Call) (st : Station) (s : List ℕ) (b : Ledger) → InRange c → sound st ≡ true → Inv st s b → Good s b c (does c st s)
-unfolding does txnOf numberOf
-call-keeps (Start t) st s b f h inv = start-keeps st s b t inv h (f .0)
-call-keeps (Put t k v) st s b f h inv = put-keeps st s b t k v inv h (f .1)
-call-keeps (Get t k) st s b f h inv = get-keeps st s b t k inv h
-call-keeps (Commit t c) st s b f h inv = commit-keeps st s b t c inv h (f .1)
-call-keeps (Step t) st s b f h inv = step-keeps st s b t inv h
-call-keeps (Abort t) st s b f h inv = abort-keeps st s b t inv h
-call-keeps (Collect d) st s b f h inv = collect-keeps st s b d inv h
-call-keeps Scan st s b f h inv = scan-keeps s b (inv .core)
+-- what the ledger is fed for it
+abbrev pub Owed : Call → Station → List ℕ → Ledger → Type 0
+Owed c st s b = Reported s b (reports c (does c st s .answer) st s) (does c st s)
+
+pub call-keeps : (c : Call) (st : Station) (s : List ℕ) (b : Ledger) → InRange c → sound st ≡ true → Inv st s b → Owed c st s b
+unfolding does txnOf numberOf reports isSweep
+call-keeps (Start t) st s b f h inv = good-reported s b (Start t) _ (start-keeps st s b t inv h (f .0))
+call-keeps (Put t k v) st s b f h inv = good-reported s b (Put t k v) _ (put-keeps st s b t k v inv h (f .1))
+call-keeps (Get t k) st s b f h inv = good-reported s b (Get t k) _ (get-keeps st s b t k inv h)
+call-keeps (Commit t c) st s b f h inv = good-reported s b (Commit t c) _ (commit-keeps st s b t c inv h (f .1))
+call-keeps (Step t) st s b f h inv = good-reported s b (Step t) _ (step-keeps st s b t inv h)
+call-keeps (Abort t) st s b f h inv = good-reported s b (Abort t) _ (abort-keeps st s b t inv h)
+call-keeps (Collect d) st s b f h inv = good-reported s b (Collect d) _ (collect-keeps st s b d inv h)
+call-keeps Scan st s b f h inv = good-reported s b Scan _ (scan-keeps s b (inv .core))
+call-keeps (Sweep n) st s b f h inv = sweep-keeps st s b n inv h
 
 -- ── a history ──
 -- what holds of a world: what lasts, and of a running station that it is sound, and the invariant
@@ -83,8 +88,8 @@ pub record State (w : World) : Type 0 where
   pub runs : Running (w .node) (w .store) (w .ledger)
 
 -- the one call of a station that is down
-down-scan : (c : Call) (s : List ℕ) (b : Ledger) (st : Station) → Core s (b .standing) (b .past) → handed c down ≡ some st → Good s b c (does c st s) × (sound (does c st s .station) ≡ true)
-unfolding handed isScan does
+down-scan : (c : Call) (s : List ℕ) (b : Ledger) (st : Station) → Core s (b .standing) (b .past) → handed c down ≡ some st → Owed c st s b × (sound (does c st s .station) ≡ true)
+unfolding handed isScan does reports isSweep
 down-scan (Start t) s b st core e = absurd (Option·none-ne-some st e)
 down-scan (Put t k v) s b st core e = absurd (Option·none-ne-some st e)
 down-scan (Get t k) s b st core e = absurd (Option·none-ne-some st e)
@@ -92,14 +97,15 @@ down-scan (Commit t c) s b st core e = absurd (Option·none-ne-some st e)
 down-scan (Step t) s b st core e = absurd (Option·none-ne-some st e)
 down-scan (Abort t) s b st core e = absurd (Option·none-ne-some st e)
 down-scan (Collect d) s b st core e = absurd (Option·none-ne-some st e)
-down-scan Scan s b st core e = (scan-keeps s b core, sound-scan s)
+down-scan Scan s b st core e = (good-reported s b Scan _ (scan-keeps s b core), sound-scan s)
+down-scan (Sweep n) s b st core e = absurd (Option·none-ne-some st e)
 
 -- a call that is handed a station does what it owes
 pub handed-keeps : (c : Call) (s : List ℕ) (b : Ledger) (k : Node) (st : Station) → InRange c → Core s (b .standing) (b .past) → Running k s b → handed c k ≡ some st
-    → Good s b c (does c st s) × (sound (does c st s .station) ≡ true)
+    → Owed c st s b × (sound (does c st s .station) ≡ true)
 unfolding handed
 handed-keeps c s b (running st₀) st f core r e =
-    subst (λ (x : Station). Good s b c (does c x s) × (sound (does c x s .station) ≡ true)) (some-inj e) (call-keeps c st₀ s b f (r .0) (r .1), sound-kept c st₀ s (r .0))
+    subst (λ (x : Station). Owed c x s b × (sound (does c x s .station) ≡ true)) (some-inj e) (call-keeps c st₀ s b f (r .0) (r .1), sound-kept c st₀ s (r .0))
 handed-keeps c s b down st f core r e = unfold handed in down-scan c s b st core e
 
 pub called-keeps : (c : Call) (w : World) → InRange c → State w → State (next (called c) w)
@@ -117,16 +123,16 @@ pub cut-keeps : (c : Call) (n : ℕ) (w : World) → InRange c → State w → S
 unfolding next
 cut-keeps c n w f sw = go (handed c (w .node)) refl
   where
-    prefix : (e : Effect) → Good (w .store) (w .ledger) c e → sound (e .station) ≡ true → Dec (n < length (e .stores)) → Lasting (stored (take n (e .stores)) (w .store)) (fedAfter n c e (w .ledger))
-    prefix e good h (yes y) = good .before n y
-    prefix e good h (no y) =
-        unfold fedAfter in rw (le-leb (length (e .stores)) n (omega arith), take-all n (e .stores) (omega arith)) (lasting _ _ _ h (good .after))
+    prefix : (rs : List Report) (e : Effect) → Reported (w .store) (w .ledger) rs e → sound (e .station) ≡ true → Dec (n < length (e .stores))
+        → Lasting (stored (take n (e .stores)) (w .store)) (fed (givenAfter n rs) (w .ledger))
+    prefix rs e good h (yes y) = good .before n y
+    prefix rs e good h (no y) = rw (good .complete n (omega arith), take-all n (e .stores) (omega arith)) (lasting _ _ _ h (good .after))
 
     go : (x : Option Station) → handed c (w .node) ≡ x → State (afterCut x c n w)
     go none e = unfold afterCut in sw
     go (some st) e =
         let g = handed-keeps c (w .store) (w .ledger) (w .node) st f (sw .lasts .core) (sw .runs) e in
-        unfold afterCut in record { lasts = prefix (does c st (w .store)) (g .0) (g .1) (decLt n (length (does c st (w .store) .stores))); runs = tt }
+        unfold afterCut in record { lasts = prefix _ (does c st (w .store)) (g .0) (g .1) (decLt n (length (does c st (w .store) .stores))); runs = tt }
 
 pub next-keeps : (v : Event) (w : World) → InRange (callIn v) → State w → State (next v w)
 unfolding callIn

@@ -17,17 +17,17 @@ use Rattle.model.specs.Step as Step
 use Rattle.model.specs.Abort as Abort
 use Rattle.model.specs.Collect as Collect
 use Rattle.model.specs.Scan as Scan
+use Rattle.model.specs.Sweep as Sweep
 use Rattle.model.specs.Calls as C
 use Rattle.model.specs.Calls.{Call, IsTyped}
-use Rattle.history.specs.Ledger.{feed}
-use Rattle.history.specs.Histories.{Event, called, cut, running, World, handed, next, callIn}
+use Rattle.history.specs.Histories.{Event, called, cut, running, World, handed, reports, fed, next, callIn}
 
 -- what a call hands back, and the store afterwards
 pub record Returned : Type 0 where
   pub outcome : Outcome
   pub store : List ℕ
 
--- eight functions, as crates calls and recovery have them
+-- nine functions, as crates calls and recovery have them
 pub record Functions : Type 0 where
   pub start : Station → ℕ → Outcome
   pub put : Station → ℕ → ℕ → ℕ → Outcome
@@ -37,6 +37,7 @@ pub record Functions : Type 0 where
   pub abort : Station → ℕ → Outcome
   pub collect : Station → List ℕ → ℕ → Returned
   pub scan : List ℕ → Outcome
+  pub sweep : Station → List ℕ → ℕ → Returned
 
 -- the contracts, word for word: what they say of values within their types
 pub record Meets (f : Functions) : Type 0 where
@@ -50,6 +51,8 @@ pub record Meets (f : Functions) : Type 0 where
   pub collect : (st : Station) (s : List ℕ) (d : ℕ) → StationFits st → Every IsByte s → IsByte d
       → (f .collect st s d .outcome ≡ outcomeOf (Collect.collect st s d)) × (f .collect st s d .store ≡ stored (Collect.collect st s d .stores) s)
   pub scan : (s : List ℕ) → Every IsByte s → f .scan s ≡ outcomeOf (Scan.scan s)
+  pub sweep : (st : Station) (s : List ℕ) (n : ℕ) → StationFits st → Every IsByte s → n < numberRange
+      → (f .sweep st s n .outcome ≡ outcomeOf (Sweep.sweep st s n)) × (f .sweep st s n .store ≡ stored (Sweep.sweep st s n .stores) s)
 
 -- a call of one of them: a call that is lent no store, or lent it to read, leaves it
 unfoldable pub returned : Functions → Call → Station → List ℕ → Returned
@@ -61,13 +64,14 @@ returned f (C.Step t) st s = f .step st s t
 returned f (C.Abort t) st s = record { outcome = f .abort st t; store = s }
 returned f (C.Collect d) st s = f .collect st s d
 returned f C.Scan st s = record { outcome = f .scan s; store = s }
+returned f (C.Sweep n) st s = f .sweep st s n
 
 -- ── histories run by them ──
 unfoldable pub afterReturn : Functions → Option Station → Call → World → World
 afterReturn f none c w = w
 afterReturn f (some st) c w =
     let r : Returned = returned f c st (w .store) in
-    record { node = running (r .outcome .station); store = r .store; ledger = feed (r .outcome .answer) c (w .ledger) }
+    record { node = running (r .outcome .station); store = r .store; ledger = fed (reports c (r .outcome .answer) st (w .store)) (w .ledger) }
 
 -- a contract speaks of a call that returns. Of one cut short, the first n of the records that its definition stores are written: a call writes
 -- them in that order, each whole, and no other byte

@@ -1,7 +1,7 @@
 -- Histories: lists of calls and cuts, from the empty station and the zero store.
-use Prim.Native.Nat.{ℕ}
+use Prim.Native.Nat.{ℕ, _-_}
 use mathlib.Core.Bool.{cond}
-use mathlib.Core.List.{List, [], _∷_}
+use mathlib.Core.List.{List, [], _∷_, map}
 use mathlib.Core.Option.{Option, some, none}
 use lib.Dec.{leb}
 use lib.ListN.{length, take, replicate}
@@ -9,7 +9,11 @@ use Rattle.model.specs.declared.Station.{Station}
 use Rattle.model.specs.Limits.{storeSize}
 use Rattle.model.specs.Stations.{emptyStation}
 use Rattle.model.specs.Effects.{Effect, stored}
-use Rattle.model.specs.Calls.{Call, does, isScan, InRange}
+use Rattle.model.specs.declared.Phase.the-variants.{Closing}
+use Rattle.model.specs.declared.Answer.{Answer}
+use Rattle.model.specs.declared.Answer.the-variants as A
+use Rattle.model.specs.Sweep.{Collection, collections}
+use Rattle.model.specs.Calls.{Call, Collect, does, isScan, isSweep, InRange}
 use Rattle.history.specs.Ledger.{Ledger, emptyLedger, feed}
 
 pub data Event : Type 0 where
@@ -37,23 +41,63 @@ unfoldable pub handed : Call → Node → Option Station
 handed c (running st) = some st
 handed c down = cond (isScan c) (some emptyStation) none
 
+-- ── what the ledger is fed ──
+-- a call with its answer, and how many stores that answer reports
+pub record Report : Type 0 where
+  pub call : Call
+  pub answer : Answer
+  pub stores : ℕ
+
+-- 02 §2: "The book takes a sweep as those collects with their answers"
+unfoldable pub reportOf : Collection → Report
+reportOf x = record { call = Collect (x .slot); answer = x .effect .answer; stores = length (x .effect .stores) }
+
+-- how many collects an answer counts
+unfoldable pub sweptIn : Answer → ℕ
+sweptIn (A.Swept n) = n
+sweptIn A.Started = 0
+sweptIn A.Kept = 0
+sweptIn (A.Own v) = 0
+sweptIn (A.Version v i) = 0
+sweptIn A.None = 0
+sweptIn (A.Nofit k) = 0
+sweptIn (A.Closing d) = 0
+sweptIn A.Empty = 0
+sweptIn (A.Done i) = 0
+sweptIn (A.Stored k) = 0
+sweptIn (A.Slipped d) = 0
+sweptIn A.Dropped = 0
+sweptIn (A.Collected i) = 0
+sweptIn (A.Found n) = 0
+sweptIn (A.Refused n d) = 0
+
+-- "The book is fed each call with its answer.": a sweep as the collects that its answer counts, any other call as itself. It reports with its
+-- last store, or stores nothing
+unfoldable pub reports : Call → Answer → Station → List ℕ → List Report
+reports c a st s = cond (isSweep c) (map reportOf (collections (sweptIn a) st s)) (record { call = c; answer = a; stores = length (does c st s .stores) } ∷ [])
+
+unfoldable pub fed : List Report → Ledger → Ledger
+fed [] b = b
+fed (r ∷ rs) b = fed rs (feed (r .answer) (r .call) b)
+
+-- 01 'Words': "the answer that reports a write counts as given with it": those that report no more than the first n stores
+unfoldable pub givenAfter : ℕ → List Report → List Report
+givenAfter n [] = []
+givenAfter n (r ∷ rs) = cond (leb (r .stores) n) (r ∷ givenAfter (n - r .stores) rs) []
+
+-- ── a call, and a call cut short ──
 unfoldable pub afterCall : Option Station → Call → World → World
 afterCall none c w = w
 afterCall (some st) c w =
     let e : Effect = does c st (w .store) in
-    record { node = running (e .station); store = stored (e .stores) (w .store); ledger = feed (e .answer) c (w .ledger) }
-
--- 01 'Words': "the answer that reports a write counts as given with it": what the ledger is after the first n stores of a call. Every
--- call here reports with its last store, or stores nothing
-unfoldable pub fedAfter : ℕ → Call → Effect → Ledger → Ledger
-fedAfter n c e b = cond (leb (length (e .stores)) n) (feed (e .answer) c b) b
+    record { node = running (e .station); store = stored (e .stores) (w .store); ledger = fed (reports c (e .answer) st (w .store)) (w .ledger) }
 
 -- "a cut falls only between such writes, those before it standing whole and the cut call's later ones never begun". The station is lost
 unfoldable pub afterCut : Option Station → Call → ℕ → World → World
 afterCut none c n w = w
 afterCut (some st) c n w =
     let e : Effect = does c st (w .store) in
-    record { node = down; store = stored (take n (e .stores)) (w .store); ledger = fedAfter n c e (w .ledger) }
+    record { node = down; store = stored (take n (e .stores)) (w .store); ledger = fed (givenAfter n (reports c (e .answer) st (w .store))) (w .ledger) }
 
 unfoldable pub next : Event → World → World
 next (called c) w = afterCall (handed c (w .node)) c w

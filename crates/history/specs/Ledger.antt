@@ -108,3 +108,5 @@ feed A.None c b = b
 feed (A.Nofit k) c b = b
 feed (A.Stored k) c b = b
 feed (A.Refused n d) c b = b
+-- (a sweep is fed as its collects: Histories, `reports`)
+feed (A.Swept n) c b = b

@@ -123,3 +123,14 @@ collections-keep P f (suc n) st s h = go (ends-or-goes st s) (λ st₁ s₁ h₁
 -- the store's length
 pub collect-length : (st : Station) (s : List ℕ) (d : ℕ) → length s ≡ storeSize → Collected st s d → length (stored (collect st s d .stores) s) ≡ storeSize
 collect-length st s d l c = ap length (collected-store st s d c) ∙ (with-length s d 0 zeroRecord l (c .low) (omega arith) length-zero ∙ l)
+
+-- as many as there are, are all
+pub collections-count : (n : ℕ) (st : Station) (s : List ℕ) → collections (length (collections n st s)) st s ≡ collections n st s
+collections-count zero st s = unfold collections in refl
+collections-count (suc n) st s = go (ends-or-goes st s) (λ st₁ s₁. collections-count n st₁ s₁)
+  where
+    go : Ends st s ⊎ Goes st s → ((st₁ : Station) (s₁ : List ℕ) → collections (length (collections n st₁ s₁)) st₁ s₁ ≡ collections n st₁ s₁)
+        → collections (length (collections (suc n) st s)) st s ≡ collections (suc n) st s
+    go (inl e) ih = rw (ends st s e (suc n)) (unfold collections in refl)
+    go (inr g) ih = rw (goes st s g n, goes st s g (length (collections n (nextStation st s g) (nextStore st s g))))
+        (ap (λ (x : List Collection). record { slot = g .slot; effect = collect st s (g .slot) } ∷ x) (ih (nextStation st s g) (nextStore st s g)))

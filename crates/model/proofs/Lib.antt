@@ -23,4 +23,5 @@ pub mod SweepLaws
 pub mod RangesKept
 pub mod ReadYourWrites
 pub mod BenchTable
+pub mod SweepTable
 pub mod RunSheet

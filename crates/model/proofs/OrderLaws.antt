@@ -112,6 +112,14 @@ module _ (p : Entry → Bool) (es : List Entry) where
   unfolding newest
   newest-none = foremost-none older by-age p es
 
+  pub newest-eq : (d : ℕ) → IsNewest p es d → ((j : ℕ) → j < length es → p (getD es j noEntry) ≡ true → getD es j noEntry .id ≡ getD es d noEntry .id → j ≡ d) → newest p es ≡ some d
+  unfolding newest
+  newest-eq = foremost-eq older by-age p es
+
+  pub newest-not : ((j : ℕ) → j < length es → p (getD es j noEntry) ≡ false) → newest p es ≡ none
+  unfolding newest
+  newest-not = foremost-not older by-age p es
+
 -- ── the oldest: none that passes is older ──
 abbrev pub IsOldest : (Entry → Bool) → List Entry → ℕ → Type 0
 IsOldest = IsForemost newer

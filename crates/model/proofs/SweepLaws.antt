@@ -8,9 +8,10 @@ use mathlib.Core.Option.{Option, some, none}
 use lib.Dec.{eqb, leb, ltb}
 use lib.ListN.{length, getD, set, length-set, length-append}
 use lib.Seq.{getD-set-same, getD-set-other}
+use native.Mathlib.Nat.{lt-irrefl}
 use native.Mathlib.Decide.{ℕ-discrete}
 use native.Mathlib.Omega.{arith}
-use borrow.Author.Tests.{not-true, not-false, eq-eqb, ne-eqb, le-ltb, lt-leb}
+use borrow.Author.Tests.{not-true, not-false, eq-eqb, ne-eqb, le-ltb, lt-ltb, lt-leb}
 use Rattle.model.specs.declared.Entry.{Entry}
 use Rattle.model.specs.declared.Station.{Station}
 use Rattle.model.specs.declared.Answer.{Answer}
@@ -27,7 +28,7 @@ use Rattle.model.specs.Effects.{RecordWrite, Effect, stored, says, saysS
 use Rattle.model.specs.Collect.{collect}
 use Rattle.model.specs.Answers.{refusedWith}
 use Rattle.model.specs.Sweep.{mayCollect, oldestToCollect, Collection, collections, stationAfter, recordsOf, sweep}
-use Rattle.model.proofs.Tests.{and-left, and-right, and-intro, or-none, not-of-true, not-of-false, bool-cases}
+use Rattle.model.proofs.Tests.{and-left, and-right, and-intro, or-none, or-intro-left, or-intro-right, not-of-true, not-of-false, bool-cases}
 use Rattle.model.proofs.ListLaws.{any-finds, any-at, any-none-of, all-at, member-finds}
 use Rattle.model.proofs.IdLaws.{older-irrefl, older-trans}
 use Rattle.model.proofs.OrderLaws.{IsOldest, oldest-is, oldest-none}
@@ -162,3 +163,146 @@ module _ (st : Station) (s : List ℕ) (l : length s ≡ storeSize) (h : sound s
       go : (b : Bool) → carriesEntry (recordAt s d 0) (entryAt st d) ≡ b → collect st s d .answer ≡ A.Refused 17 0
       go true e = absurd (n (ap (λ (x : Effect). refusedWith (x .answer)) (upto ∙ (skipped 17 _ _ st _ (not-of-true _ e) ∙ refusals-none st _)) ∙ (unfold saysStoring in unfold refusedWith in refl)))
       go false e = ap (λ (x : Effect). x .answer) (upto ∙ hit 17 _ _ st _ (not-of-false _ e)) ∙ (unfold says in refl)
+
+-- the collects from any number on: their slots, their effects, and why there are no more
+pub record AreCollects (st : Station) (s : List ℕ) (n : ℕ) (cs : List Collection) : Type 0 where
+  pub slots : List ℕ
+  pub long : length slots ≡ length cs
+  pub collects : Collects slots st s (stationAfter cs st) (stored (recordsOf cs) s)
+  pub ended : (length slots ≡ n) ⊎ (NoneLeft (stationAfter cs st) ⊎ StoppedBy17 (stationAfter cs st) (stored (recordsOf cs) s))
+
+are-collects : (n : ℕ) (st : Station) (s : List ℕ) → length s ≡ storeSize → sound st ≡ true → length (st .entries) ≡ slots → AreCollects st s n (collections n st s)
+unfolding Collects stationAfter recordsOf stored
+are-collects zero st s l h w = unfold collections in record { slots = []; long = refl; collects = (refl, refl); ended = inl refl }
+are-collects (suc n) st s l h w = go (ends-or-goes st s) (λ st₁ s₁ l₁ h₁ w₁. are-collects n st₁ s₁ l₁ h₁ w₁)
+  where
+    stop : Ends st s → NoneLeft st ⊎ StoppedBy17 st s
+    stop (inl e) = inl (unfold oldestToCollect in oldest-none (mayCollect st) (st .entries) e)
+    stop (inr x) = let is = oldest-is (mayCollect st) (st .entries) (x .0) (unfold oldestToCollect in x .1) in inr (x .0, is, only-17 st s l h w (x .0) is (x .2))
+
+    go : Ends st s ⊎ Goes st s
+        → ((st₁ : Station) (s₁ : List ℕ) → length s₁ ≡ storeSize → sound st₁ ≡ true → length (st₁ .entries) ≡ slots → AreCollects st₁ s₁ n (collections n st₁ s₁))
+        → AreCollects st s (suc n) (collections (suc n) st s)
+    go (inl e) ih = rw (ends st s e (suc n)) (record { slots = []; long = refl; collects = (refl, refl); ended = inr (stop e) })
+    go (inr g) ih =
+        let d = g .slot in
+        let r = ih (nextStation st s g) (nextStore st s g) (collect-length st s d l (g .taken)) (unfold Keeps in collect-keeps st s d h)
+              (ap (λ (x : Station). length (x .entries)) (collected-station st s d (g .taken)) ∙ (setEntry-length st d noEntry ∙ w)) in
+        let a : collect st s d .answer ≡ A.Collected (entryAt st d .id) = ap (λ (x : Effect). x .answer) (g .taken .comes-to) ∙ (unfold saysStoring in refl) in
+        let q = sym (stored-append (collect st s d .stores) (recordsOf (collections n (nextStation st s g) (nextStore st s g))) s) in
+        let k = collections n (nextStation st s g) (nextStore st s g) in
+        rw (goes st s g n) (record {
+          slots = d ∷ r .slots;
+          long = ap suc (r .long);
+          collects = (
+            oldest-is (mayCollect st) (st .entries) d (unfold oldestToCollect in g .chosen),
+            a,
+            subst (λ (y : List ℕ). Collects (r .slots) (nextStation st s g) (nextStore st s g) (stationAfter k (nextStation st s g)) y) q (r .collects),
+          );
+          ended = ⊎-elim (λ e. inl (ap suc e)) (λ x. inr (subst (λ (y : List ℕ). NoneLeft (stationAfter k (nextStation st s g)) ⊎ StoppedBy17 (stationAfter k (nextStation st s g)) y) q x)) (r .ended);
+        })
+
+-- ── sweep, its rows passed ──
+pub sweep-on : (st : Station) (s : List ℕ) (n : ℕ) → length s ≡ storeSize → sound st ≡ true → 1 ≤ n → n ≤ sweepLimit
+    → sweep st s n ≡ saysStoringAll (A.Swept (length (collections n st s))) (stationAfter (collections n st s) st) (recordsOf (collections n st s))
+unfolding sweep wrongLength unsound
+sweep-on st s n l h o m =
+    skipped 1 _ _ st _ (not-of-true _ (eq-eqb (length s) storeSize l))
+    ∙ (skipped 2 _ _ st _ (not-of-true _ h)
+    ∙ (skipped 20 _ _ st _ (or-none _ _ (ne-eqb n 0 (λ z. lt-irrefl 0 (omega arith))) (le-ltb sweepLimit n m))
+    ∙ refusals-none st _))
+
+-- (a) a sweep is c collects, c its answer, each answered collected, each of the least id that may be collected at its time; and c is the limit, or
+-- none may be collected then, or the least that may is one whose record 17 names
+pub sweep-is-collects : (st : Station) (s : List ℕ) (n : ℕ) → length s ≡ storeSize → sound st ≡ true → length (st .entries) ≡ slots → 1 ≤ n → n ≤ sweepLimit → IsSweep st s n (sweep st s n)
+sweep-is-collects st s n l h w o m =
+    let r = are-collects n st s l h w in
+    rw (sweep-on st s n l h o m) (record { slots = r .slots; collects = r .collects; count = ap A.Swept (sym (r .long)); ended = r .ended })
+
+-- ── sweeps add ──
+zero-add : (n : ℕ) → 0 + n ≡ n
+zero-add n = omega arith
+
+suc-add : (m n : ℕ) → suc m + n ≡ suc (m + n)
+suc-add m n = omega arith
+
+pub collections-split : (m n : ℕ) (st : Station) (s : List ℕ)
+    → collections (m + n) st s ≡ collections m st s ++ collections n (stationAfter (collections m st s) st) (stored (recordsOf (collections m st s)) s)
+unfolding stationAfter recordsOf stored
+collections-split zero n st s = unfold collections in ap (λ (x : ℕ). collections x st s) (zero-add n)
+collections-split (suc m) n st s = go (ends-or-goes st s) (λ st₁ s₁. collections-split m n st₁ s₁)
+  where
+    go : Ends st s ⊎ Goes st s
+        → ((st₁ : Station) (s₁ : List ℕ) → collections (m + n) st₁ s₁ ≡ collections m st₁ s₁ ++ collections n (stationAfter (collections m st₁ s₁) st₁) (stored (recordsOf (collections m st₁ s₁)) s₁))
+        → collections (suc m + n) st s ≡ collections (suc m) st s ++ collections n (stationAfter (collections (suc m) st s) st) (stored (recordsOf (collections (suc m) st s)) s)
+    go (inl e) ih = rw (ends st s e (suc m + n), ends st s e (suc m), ends st s e n)
+    go (inr g) ih = rw (suc-add m n, goes st s g (m + n), goes st s g m, stored-append (collect st s (g .slot) .stores) (recordsOf (collections m (nextStation st s g) (nextStore st s g))) s)
+        (ap (λ (x : List Collection). record { slot = g .slot; effect = collect st s (g .slot) } ∷ x) (ih (nextStation st s g) (nextStore st s g)))
+
+station-append : (cs us : List Collection) (st : Station) → stationAfter (cs ++ us) st ≡ stationAfter us (stationAfter cs st)
+unfolding stationAfter
+station-append [] us st = refl
+station-append (c ∷ cs) us st = station-append cs us (c .effect .station)
+
+records-append : (cs us : List Collection) → recordsOf (cs ++ us) ≡ recordsOf cs ++ recordsOf us
+unfolding recordsOf
+records-append [] us = refl
+records-append (c ∷ cs) us = ap (λ (ws : List RecordWrite). c .effect .stores ++ ws) (records-append cs us) ∙ sym (append-assoc (c .effect .stores) (recordsOf cs) (recordsOf us))
+
+-- (b) "A call with limit m and then one with n leave what one with m + n leaves, m + n at most 64.", and the counts add
+pub record Adds (st : Station) (s : List ℕ) (one two both : Effect) : Type 0 where
+  pub station : two .station ≡ both .station
+  pub bytes : stored (two .stores) (stored (one .stores) s) ≡ stored (both .stores) s
+  pub counts : (a b : ℕ) → one .answer ≡ A.Swept a → two .answer ≡ A.Swept b → both .answer ≡ A.Swept (a + b)
+
+module _ (st : Station) (s : List ℕ) where
+  pub sweep-1 : length s ≢ storeSize → (n : ℕ) → sweep st s n ≡ says (A.Refused 1 0) st
+  unfolding sweep wrongLength
+  sweep-1 l n = hit 1 _ _ st _ (not-of-false _ (ne-eqb _ _ l))
+
+  pub sweep-2 : length s ≡ storeSize → sound st ≡ false → (n : ℕ) → sweep st s n ≡ says (A.Refused 2 0) st
+  unfolding sweep wrongLength unsound
+  sweep-2 l h n = skipped 1 _ _ st _ (not-of-true _ (eq-eqb (length s) storeSize l)) ∙ hit 2 _ _ st _ (not-of-false _ h)
+
+  pub sweep-20 : length s ≡ storeSize → sound st ≡ true → (n : ℕ) → (n ≡ 0) ⊎ (sweepLimit < n) → sweep st s n ≡ says (A.Refused 20 0) st
+  unfolding sweep wrongLength unsound
+  sweep-20 l h n x =
+      skipped 1 _ _ st _ (not-of-true _ (eq-eqb (length s) storeSize l)) ∙ (skipped 2 _ _ st _ (not-of-true _ h)
+      ∙ hit 20 _ _ st _ (⊎-elim (λ z. or-intro-left _ _ (eq-eqb n 0 z)) (λ z. or-intro-right _ _ (lt-ltb sweepLimit n z)) x))
+
+  module _ (m n : ℕ) (om : 1 ≤ m) (on : 1 ≤ n) (o : m + n ≤ sweepLimit) where
+    -- both are refused alike
+    refused-add : (x : ℕ) → ((k : ℕ) → sweep st s k ≡ says (A.Refused x 0) st) → Adds st s (sweep st s m) (sweep (sweep st s m .station) (stored (sweep st s m .stores) s) n) (sweep st s (m + n))
+    unfolding says stored
+    refused-add x p = rw (p m, p n, p (m + n)) (record { station = refl; bytes = refl; counts = λ a b e f. let z : _≡_ {A = ℕ} 0 1 = cc in absurd (omega arith) })
+
+    collects-add : length s ≡ storeSize → sound st ≡ true → Adds st s (sweep st s m) (sweep (sweep st s m .station) (stored (sweep st s m .stores) s) n) (sweep st s (m + n))
+    collects-add l h =
+        rw (sweep-on st s m l h om (omega arith), sweep-on st₁ s₁ n l₁ h₁ on (omega arith), sweep-on st s (m + n) l h (omega arith) o) (record {
+          station = sym (ap (λ (cs : List Collection). stationAfter cs st) split ∙ station-append (collections m st s) (collections n st₁ s₁) st);
+          bytes = sym (ap (λ (cs : List Collection). stored (recordsOf cs) s) split ∙ (ap (λ (ws : List RecordWrite). stored ws s) (records-append (collections m st s) (collections n st₁ s₁)) ∙ stored-append (recordsOf (collections m st s)) (recordsOf (collections n st₁ s₁)) s));
+          counts = λ a b e f. let ea : length (collections m st s) ≡ a = cc in let eb : length (collections n st₁ s₁) ≡ b = cc in
+              ap A.Swept (ap length split ∙ (length-append (collections m st s) (collections n st₁ s₁) ∙ (λ i. ea i + eb i)));
+        })
+      where
+        st₁ : Station
+        st₁ = stationAfter (collections m st s) st
+
+        s₁ : List ℕ
+        s₁ = stored (recordsOf (collections m st s)) s
+
+        l₁ : length (stored (recordsOf (collections m st s)) s) ≡ storeSize
+        l₁ = collections-keep (λ _ x. length x ≡ storeSize) (λ x z d k c. collect-length x z d k c) m st s l
+
+        h₁ : sound (stationAfter (collections m st s) st) ≡ true
+        h₁ = collections-keep (λ x _. sound x ≡ true) (λ x z d k c. unfold Keeps in collect-keeps x z d k) m st s h
+
+        split : collections (m + n) st s ≡ collections m st s ++ collections n (stationAfter (collections m st s) st) (stored (recordsOf (collections m st s)) s)
+        split = collections-split m n st s
+
+    pub sweep-adds : Adds st s (sweep st s m) (sweep (sweep st s m .station) (stored (sweep st s m .stores) s) n) (sweep st s (m + n))
+    sweep-adds = by-length (ℕ-discrete (length s) storeSize)
+      where
+        by-length : Dec (length s ≡ storeSize) → Adds st s (sweep st s m) (sweep (sweep st s m .station) (stored (sweep st s m .stores) s) n) (sweep st s (m + n))
+        by-length (no l) = refused-add 1 (sweep-1 l)
+        by-length (yes l) = ⊎-elim (λ h. collects-add l h) (λ h. refused-add 2 (sweep-2 l h)) (bool-cases (sound st))
