@@ -187,7 +187,7 @@ are-collects (suc n) st s l h w = go (ends-or-goes st s) (λ st₁ s₁ l₁ h�
     go (inr g) ih =
         let d = g .slot in
         let r = ih (nextStation st s g) (nextStore st s g) (collect-length st s d l (g .taken)) (unfold Keeps in collect-keeps st s d h)
-              (ap (λ (x : Station). length (x .entries)) (collected-station st s d (g .taken)) ∙ (setEntry-length st d noEntry ∙ w)) in
+        (ap (λ (x : Station). length (x .entries)) (collected-station st s d (g .taken)) ∙ (setEntry-length st d noEntry ∙ w)) in
         let a : collect st s d .answer ≡ A.Collected (entryAt st d .id) = ap (λ (x : Effect). x .answer) (g .taken .comes-to) ∙ (unfold saysStoring in refl) in
         let q = sym (stored-append (collect st s d .stores) (recordsOf (collections n (nextStation st s g) (nextStore st s g))) s) in
         let k = collections n (nextStation st s g) (nextStore st s g) in

@@ -109,4 +109,3 @@ rows =
 pub sweeps-hold : map (λ (r : Row). ran (map (λ (l : Call × (Answer × List Bool)). l .0) (r .lines)) (r .station) (r .store)) rows ≡ map (λ (r : Row). map (λ (l : Call × (Answer × List Bool)). l .1) (r .lines)) rows
 unfolding held storing records damaged readBy9 ran four mixed rows _and_ _or_ all any first filter padded from member ascending distinct same older sameId writesOf readsOf keysOf wrote wroteAs liveAt entryAt setLive setEntry liveTxns heldTxns holds slotMark closingSlots bytes number idIn markIn entryIn headBytes commitRecord zeroRecord entryRules carriesEntry recordAt withRecord isNoWrite isNoRead isNoEntry isNoLive zeroPastCounts setsRight names inUse placeRight entryRight sound withReads Option·elim keepFirst foremost newer oldest newerOn superseded isReadBy isRead stored says saysStoring refusals wrongLength unsound collect mayCollect oldestToCollect refusedWith collections stationAfter recordsOf sweep does
 sweeps-hold = refl
-

@@ -97,7 +97,7 @@ impl Station {
     pub const KEYS: usize = 64;
 
     // The entries that one sweep collects, at most.
-    pub const SWEEP: usize = 64;
+    pub const SWEEP: u64 = 64;
 
     // The last place and slot; the limits of a write set, a read set and a key as the bytes that these are counted in.
     pub const LAST_PLACE: usize = Station::LIVE - 1;

@@ -20,7 +20,8 @@ use Rattle.model.specs.Entries.{wrote}
 use Rattle.model.specs.Stations.{liveAt, entryAt, setLive, liveTxns, isLive, placeOf}
 use Rattle.model.specs.Records.{valueIn, carriesVersion}
 use Rattle.model.specs.Sound.{sound}
-use Rattle.model.specs.Reading.{passes, newest, keyInTheWay, Choice, own, absent, nofit, version, chosen, choose}
+use Rattle.model.specs.Orders.{newest}
+use Rattle.model.specs.Reading.{passes, keyInTheWay, Choice, own, absent, nofit, version, chosen, choose}
 use Rattle.model.specs.Effects.{Effect, says, _when_, refusals, wrongLength, unsound}
 use Rattle.model.specs.Get.{choiceOf, withRead, versionAt, noRoom, notCarried, answered, get}
 use Rattle.model.proofs.RefusalLaws.{refusals-none, skipped, hit}

@@ -73,7 +73,7 @@ fn store_commit(store: &mut [u8], slot: usize, e: Entry)
 }
 
 // Zeros over the commit record: the slot is free.
-fn store_zero(store: &mut [u8], slot: usize)
+pub fn store_zero(store: &mut [u8], slot: usize)
     requires { ⌜ length (now store) ≡ storeSize ⌝ }
     requires { ⌜ slot < slots ⌝ }
     ensures { λ _. ⌜ now (store .exit) ≡ withRecord (now (store .entry)) slot 0 zeroRecord ⌝ }
