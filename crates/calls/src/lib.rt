@@ -1,5 +1,6 @@
-// The store's eight public calls and their types, under one name. Each takes whatever comes: any numbers, any station, any store bytes. All
-// but scan (crate recovery) test the station's soundness; what they then come to is decided in the crates transactions and storing.
+// The store's nine public calls and their types, under one name. Each takes whatever comes: any numbers, any station, any store bytes. All
+// but scan (crate recovery) test the station's soundness; what they then come to is decided in the crates transactions and storing,
+// a sweep in crate sweeping.
 ghost use mathlib.Core.Path.{_≡_};
 ghost use Rattle.model.specs.Effects.{outcomeOf, stored};
 ghost use Rattle.model.specs.Start.{start};
@@ -9,6 +10,7 @@ ghost use Rattle.model.specs.Commit.{commit};
 ghost use Rattle.model.specs.Step.{step};
 ghost use Rattle.model.specs.Abort.{abort};
 ghost use Rattle.model.specs.Collect.{collect};
+ghost use Rattle.model.specs.Sweep.{sweep};
 pub use model::Answer;
 pub use model::Entry;
 pub use model::Id;
@@ -83,4 +85,12 @@ pub fn collect(station: Station, store: &mut [u8], slot: u8) -> Outcome
     let tested = is_sound(station);
     let change = storing::collect(station, tested, store, slot);
     changed(station, change)
+}
+
+// Collects the oldest entries that may be collected, at most so many, and answers how many: as that many collects one after the other.
+pub fn sweep(station: Station, store: &mut [u8], limit: u64) -> Outcome
+    ensures { λ r. ⌜ (r ≡ outcomeOf (sweep station (now (store .entry)) limit)) × (now (store .exit) ≡ stored (sweep station (now (store .entry)) limit .stores) (now (store .entry))) ⌝ }
+{
+    let tested = is_sound(station);
+    sweeping::sweep(station, tested, store, limit)
 }

@@ -20,7 +20,8 @@ use Rattle.model.specs.Step.{step}
 use Rattle.model.specs.Abort.{abort}
 use Rattle.model.specs.Collect.{collect}
 use Rattle.model.specs.Scan.{scan}
-use Rattle.model.specs.Calls.{Call, Start, Put, Get, Commit, Step, Abort, Collect, Scan, does, isScan}
+use Rattle.model.specs.Sweep.{sweep}
+use Rattle.model.specs.Calls.{Call, Start, Put, Get, Commit, Step, Abort, Collect, Scan, Sweep, does, isScan, isSweep}
 use Rattle.model.proofs.RefusalLaws.{guard, hit}
 use Rattle.model.proofs.SoundKept.{sound-kept, sound-scan}
 use Rattle.model.proofs.StoreLaws.{scan-stores-nothing}
@@ -33,7 +34,7 @@ use Rattle.sheet.specs.declared.Command.the-variants as C
 use Rattle.sheet.specs.Commands.{commandOf}
 use Rattle.sheet.specs.Sheets.{lineEffect}
 use Rattle.desk.specs.declared.Request.{Request}
-use Rattle.desk.specs.Acts.{callOf, asksScan, effectOf, acted, kept}
+use Rattle.desk.specs.Acts.{callOf, asksScan, asksSweep, effectOf, acted, kept}
 
 -- ── a request made of a call, or of none ──
 call-of-command : (c : Option Call) → callOf (commandOf c) ≡ c
@@ -47,6 +48,7 @@ call-of-command (some (Step t)) = refl
 call-of-command (some (Abort t)) = refl
 call-of-command (some (Collect d)) = refl
 call-of-command (some Scan) = refl
+call-of-command (some (Sweep n)) = refl
 
 module _ (q : Request) (x : Option Call) (e : q .command ≡ commandOf x) where
   pub call-is : callOf (q .command) ≡ x
@@ -106,13 +108,14 @@ scan-only (Step t) h = absurd (true≢false (sym h))
 scan-only (Abort t) h = absurd (true≢false (sym h))
 scan-only (Collect d) h = absurd (true≢false (sym h))
 scan-only Scan h = refl
+scan-only (Sweep n) h = absurd (true≢false (sym h))
 
 scan-asked : (c : Option Call) → asksScan c ≡ true → c ≡ some Scan
 unfolding asksScan
 scan-asked none h = absurd (true≢false (sym h))
 scan-asked (some c) h = ap some (scan-only c h)
 
-pub not-scan : (c : Command) → OneOf (0 ∷ 1 ∷ 2 ∷ 3 ∷ 4 ∷ 5 ∷ 6 ∷ 8 ∷ []) (denote.Enum.Declared.tagOf Rattle.sheet.proofs.Command.the-type c) → asksScan (callOf c) ≡ false
+pub not-scan : (c : Command) → OneOf (0 ∷ 1 ∷ 2 ∷ 3 ∷ 4 ∷ 5 ∷ 6 ∷ 8 ∷ 9 ∷ []) (denote.Enum.Declared.tagOf Rattle.sheet.proofs.Command.the-type c) → asksScan (callOf c) ≡ false
 unfolding callOf asksScan isScan
 not-scan (C.Start t) h = refl
 not-scan (C.Put t k v) h = refl
@@ -121,8 +124,29 @@ not-scan (C.Commit t c) h = refl
 not-scan (C.Step t) h = refl
 not-scan (C.Abort t) h = refl
 not-scan (C.Collect d) h = refl
-not-scan C.Cut h = absurd (miss (0 ∷ 1 ∷ 2 ∷ 3 ∷ 4 ∷ 5 ∷ 6 ∷ 8 ∷ []) 7 tt h)
+not-scan C.Cut h = absurd (miss (0 ∷ 1 ∷ 2 ∷ 3 ∷ 4 ∷ 5 ∷ 6 ∷ 8 ∷ 9 ∷ []) 7 tt h)
 not-scan C.Malformed h = refl
+not-scan (C.Sweep n) h = refl
+
+-- ── a sweep, told by its command ──
+pub not-sweep : (c : Command) → OneOf (0 ∷ 1 ∷ 2 ∷ 3 ∷ 4 ∷ 5 ∷ 6 ∷ 7 ∷ 8 ∷ []) (denote.Enum.Declared.tagOf Rattle.sheet.proofs.Command.the-type c) → asksSweep (callOf c) ≡ false
+unfolding callOf asksSweep isSweep
+not-sweep (C.Start t) h = refl
+not-sweep (C.Put t k v) h = refl
+not-sweep (C.Get t k) h = refl
+not-sweep (C.Commit t c) h = refl
+not-sweep (C.Step t) h = refl
+not-sweep (C.Abort t) h = refl
+not-sweep (C.Collect d) h = refl
+not-sweep C.Cut h = refl
+not-sweep C.Malformed h = refl
+not-sweep (C.Sweep n) h = absurd (miss (0 ∷ 1 ∷ 2 ∷ 3 ∷ 4 ∷ 5 ∷ 6 ∷ 7 ∷ 8 ∷ []) 9 tt h)
+
+pub sweep-acts : (st : Station) (s : List ℕ) (q : Request) (n : ℕ) → q .command ≡ C.Sweep n → (o : Outcome) → o ≡ outcomeOf (sweep st s n) → (s′ : List ℕ) → s′ ≡ stored (sweep st s n .stores) s → (o ≡ acted st s q) × (s′ ≡ kept st s q)
+unfolding acted does callOf
+sweep-acts st s q n c o e s′ k =
+    let j : callOf (q .command) ≡ some (Sweep n) = ap callOf c in
+    (e ∙ ap outcomeOf (is-call st s q (Sweep n) j), call-kept st s q (Sweep n) j s′ k)
 
 pub scan-acts : (st : Station) (s : List ℕ) (q : Request) → asksScan (callOf (q .command)) ≡ true → (o : Outcome) → o ≡ outcomeOf (scan s) → (o ≡ acted st s q) × (s ≡ kept st s q)
 unfolding acted does
@@ -145,7 +169,7 @@ module _ (st : Station) (u : sound st ≡ false) where
   row-1-2 b rs e = guard (Barred st) 1 b _ st e (record { number = 1; one-or-two = inl refl; refused-so = refl }) λ h. row-2 rs e
 
   pub call-barred : (c : Call) (s : List ℕ) → isScan c ≡ false → Barred st (does c st s)
-  unfolding isScan does start put get commit step abort collect
+  unfolding isScan does start put get commit step abort collect sweep
   call-barred (Start t) s n = row-2 _ _
   call-barred (Put t k v) s n = row-2 _ _
   call-barred (Get t k) s n = row-1-2 _ _ _
@@ -154,6 +178,7 @@ module _ (st : Station) (u : sound st ≡ false) where
   call-barred (Abort t) s n = row-2 _ _
   call-barred (Collect d) s n = row-1-2 _ _ _
   call-barred Scan s n = absurd (true≢false n)
+  call-barred (Sweep l) s n = row-1-2 _ _ _
 
 -- ── soundness: a scan's station is sound, and no other call alters what a test says ──
 module _ (st : Station) (s : List ℕ) where

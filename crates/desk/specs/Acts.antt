@@ -6,7 +6,7 @@ use mathlib.Core.Option.{Option, some, none}
 use Rattle.model.specs.declared.Station.{Station}
 use Rattle.model.specs.declared.Outcome.{Outcome}
 use Rattle.model.specs.Effects.{Effect, stored, outcomeOf}
-use Rattle.model.specs.Calls.{Call, Start, Put, Get, Commit, Step, Abort, Collect, Scan, isScan}
+use Rattle.model.specs.Calls.{Call, Start, Put, Get, Commit, Step, Abort, Collect, Scan, Sweep, isScan, isSweep}
 use Rattle.sheet.specs.declared.Command.{Command}
 use Rattle.sheet.specs.declared.Command.the-variants as C
 use Rattle.sheet.specs.Sheets.{lineEffect}
@@ -23,11 +23,17 @@ callOf (C.Abort t) = some (Abort t)
 callOf (C.Collect d) = some (Collect d)
 callOf C.Cut = some Scan
 callOf C.Malformed = none
+callOf (C.Sweep n) = some (Sweep n)
 
 -- whether a scan is asked, which a sheet calls a cut
 unfoldable pub asksScan : Option Call → Bool
 asksScan none = false
 asksScan (some c) = isScan c
+
+-- whether a sweep is asked, which a sheet has no verb for
+unfoldable pub asksSweep : Option Call → Bool
+asksSweep none = false
+asksSweep (some c) = isSweep c
 
 unfoldable pub effectOf : Station → List ℕ → Request → Effect
 effectOf st s q = lineEffect (callOf (q .command)) st s

@@ -10,6 +10,7 @@ use stations::refused;
 use storing::collect;
 use storing::get;
 use storing::step;
+use sweeping::sweep;
 use transactions::abort;
 use transactions::commit;
 use transactions::put;
@@ -19,7 +20,7 @@ ghost use mathlib.Core.Bool.{false};
 ghost use Rattle.model.specs.Lists.{_or_};
 ghost use Rattle.model.specs.Sound.{sound};
 ghost use Rattle.stations.specs.Changes.{IsChange};
-ghost use Rattle.desk.specs.Acts.{callOf, asksScan, effectOf, acted, kept};
+ghost use Rattle.desk.specs.Acts.{callOf, asksScan, asksSweep, effectOf, acted, kept};
 
 // A command as it was read, and what the soundness test says of the station.
 pub struct Request {
@@ -37,9 +38,9 @@ pub fn asks_scan(command: Command) -> bool
     }
 }
 
-// The change that a request comes to: its call's, or 19 where the line was malformed. A cut is no change but a station read anew.
+// The change that a request comes to: its call's, or 19 where the line was malformed. A cut is no change but a station read anew, and a sweep many.
 pub fn decide(station: Station, store: &mut [u8], request: Request) -> Change
-    requires { ⌜ (request .tested ≡ sound station) × (asksScan (callOf (request .command)) ≡ false) ⌝ }
+    requires { ⌜ (request .tested ≡ sound station) × (asksScan (callOf (request .command)) ≡ false) × (asksSweep (callOf (request .command)) ≡ false) ⌝ }
     ensures { λ r. ⌜ (IsChange station (effectOf station (now (store .entry)) request) r) × (now (store .exit) ≡ kept station (now (store .entry)) request) ⌝ }
 {
     let tested = request.tested;
@@ -55,6 +56,8 @@ pub fn decide(station: Station, store: &mut [u8], request: Request) -> Change
         // not asked
         Command::Cut => refused(station, 19),
         Command::Malformed => refused(station, 19),
+        // not asked
+        Command::Sweep(_) => refused(station, 19),
     }
 }
 
@@ -77,6 +80,9 @@ pub fn act(station: Station, store: &mut [u8], request: Request) -> Outcome
     let command = request.command;
     if asks_scan(command) {
         return scan(store);
+    }
+    if let Command::Sweep(limit) = command {
+        return sweep(station, request.tested, store, limit);
     }
     let change = decide(station, store, request);
     changed(station, change)

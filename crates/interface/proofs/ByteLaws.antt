@@ -1,6 +1,6 @@
 -- The bytes of a request and of an answer.
 use Prim.Native.Nat.{ℕ, zero, suc}
-use mathlib.Core.Path.{_≡_, refl, ap₂, _∙_}
+use mathlib.Core.Path.{_≡_, refl, sym, ap, ap₂, _∙_}
 use mathlib.Core.Logic.{_≢_}
 use mathlib.Core.Bool.{Bool, true, false}
 use mathlib.Core.List.{List, _++_}
@@ -8,16 +8,17 @@ use mathlib.Core.Option.{Option, some, none}
 use lib.Dec.{eqb}
 use lib.ListN.{length, getD}
 use native.Mathlib.Omega.{arith}
-use borrow.Author.Tests.{eq-eqb}
+use borrow.Author.Tests.{eq-eqb, ne-eqb}
 use borrow.Rule.Slice.PartMut.{midOf, putMid, same-len-mid}
 use Rattle.model.specs.declared.Id.{Id}
 use Rattle.model.specs.Lists.{_and_, _or_}
 use Rattle.model.specs.Bytes.{bytes, idIn}
+use Rattle.model.specs.Calls.{Sweep}
 use Rattle.sheet.specs.Words.{Verb}
-use Rattle.sheet.specs.Lines.{ofFields}
+use Rattle.sheet.specs.Lines.{ifUnused, ofFields}
 use Rattle.image.proofs.RowLaws.{spread-all}
 use Rattle.image.proofs.PartLaws.{number-written}
-use Rattle.interface.specs.Exchange.{answerSize, verbNumbered, requestCall}
+use Rattle.interface.specs.Exchange.{answerSize, verbNumbered, sweepVerb, asked, requestCall}
 
 -- ── a request ──
 pub verb-unknown : (n : ℕ) → n ≢ 1 → n ≢ 2 → n ≢ 3 → n ≢ 4 → n ≢ 5 → n ≢ 6 → n ≢ 7 → n ≢ 8 → none ≡ verbNumbered n
@@ -38,11 +39,19 @@ module _ (q : List ℕ) where
   unfolding requestCall
   no-zero h = rw h
 
-  pub two-zeros : getD q 2 0 ≡ 0 → getD q 3 0 ≡ 0 → (i : Id) → i ≡ idIn q → (v : Option Verb) → v ≡ verbNumbered (getD q 0 0)
-      → ofFields v (some (i .txn)) (some (getD q 1 0)) (some (i .clock)) ≡ requestCall q
-  unfolding requestCall _and_
-  two-zeros a b i e v f = rw (eq-eqb (getD q 2 0) 0 a, eq-eqb (getD q 3 0) 0 b)
-      (ap₂ (λ (w : Option Verb) (j : Id). ofFields w (some (j .txn)) (some (getD q 1 0)) (some (j .clock))) f e)
+  module _ (a : getD q 2 0 ≡ 0) (b : getD q 3 0 ≡ 0) (i : Id) (e : i ≡ idIn q) where
+    both-zero : requestCall q ≡ asked (getD q 0 0) (i .txn) (getD q 1 0) (i .clock)
+    unfolding requestCall _and_
+    both-zero = rw (eq-eqb (getD q 2 0) 0 a, eq-eqb (getD q 3 0) 0 b) (ap (λ (j : Id). asked (getD q 0 0) (j .txn) (getD q 1 0) (j .clock)) (sym e))
+
+    -- a sweep, and a verb of a sheet
+    pub asks-sweep : getD q 0 0 ≡ sweepVerb → ifUnused (eqb (i .txn) 0 and eqb (getD q 1 0) 0) (Sweep (i .clock)) ≡ requestCall q
+    unfolding asked
+    asks-sweep f = sym (both-zero ∙ (rw (eq-eqb (getD q 0 0) sweepVerb f)))
+
+    pub asks-verb : getD q 0 0 ≢ sweepVerb → (v : Option Verb) → v ≡ verbNumbered (getD q 0 0) → ofFields v (some (i .txn)) (some (getD q 1 0)) (some (i .clock)) ≡ requestCall q
+    unfolding asked
+    asks-verb f v g = sym (both-zero ∙ ((rw (ne-eqb (getD q 0 0) sweepVerb f)) ∙ ap (λ (w : Option Verb). ofFields w (some (i .txn)) (some (getD q 1 0)) (some (i .clock))) (sym g)))
 
 pub or-false : (b : Bool) → (b or false) ≡ b
 unfolding _or_

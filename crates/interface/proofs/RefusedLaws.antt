@@ -22,7 +22,8 @@ use Rattle.model.specs.Commit.{commit}
 use Rattle.model.specs.Step.{stepped, step}
 use Rattle.model.specs.Abort.{abort}
 use Rattle.model.specs.Collect.{collect}
-use Rattle.model.specs.Calls.{Call, Start, Put, Get, Commit, Step, Abort, Collect, Scan, does, isScan}
+use Rattle.model.specs.Sweep.{sweep}
+use Rattle.model.specs.Calls.{Call, Start, Put, Get, Commit, Step, Abort, Collect, Scan, Sweep, does, isScan}
 use Rattle.model.specs.Answers.{refusedWith}
 use Rattle.model.proofs.RefusalLaws.{cond-rule}
 use Rattle.sheet.specs.Sheets.{lineEffect}
@@ -70,7 +71,7 @@ rows [] st e h = record { keeps = λ r. absurd (r (h .accepts)) }
 rows (n ∷ rs) st e h = cond-rule (Kept st) (n .applies) _ _ (λ _. record { keeps = λ _. record { station-same = refl; none-stored = refl } }) (λ _. rows rs st e h)
 
 call-kept : (c : Option Call) (st : Station) (s : List ℕ) → asksScan c ≡ false → Kept st (lineEffect c st s)
-unfolding asksScan isScan lineEffect does start put get commit step abort collect refusedWith
+unfolding asksScan isScan lineEffect does start put get commit step abort collect sweep refusedWith
 call-kept none st s n = unfold says in record { keeps = λ _. record { station-same = refl; none-stored = refl } }
 call-kept (some (Start t)) st s n = rows _ st _ (said A.Started _ refl)
 call-kept (some (Put t k v)) st s n = rows _ st _ (said A.Kept _ refl)
@@ -80,6 +81,7 @@ call-kept (some (Step t)) st s n = rows _ st _ (stepped-on st _ _ _)
 call-kept (some (Abort t)) st s n = rows _ st _ (said A.Dropped _ refl)
 call-kept (some (Collect d)) st s n = rows _ st _ (said-storing (A.Collected _) _ _ _ _ refl)
 call-kept (some Scan) st s n = absurd (true≢false n)
+call-kept (some (Sweep l)) st s n = rows _ st _ (record { accepts = refl })
 
 pub refused-unaltered : (c : Option Call) (st : Station) (s : List ℕ) → asksScan c ≡ false → refusedWith (lineEffect c st s .answer) ≢ 0 → Unaltered st (lineEffect c st s)
 refused-unaltered c st s n = call-kept c st s n .keeps

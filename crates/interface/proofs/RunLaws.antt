@@ -7,20 +7,25 @@ use lib.ListN.{length, take, drop}
 use lib.Seq.{take-all}
 use native.Mathlib.Omega.{arith}
 use borrow.Rule.Slice.PartMut.{putMid}
+use Rattle.model.specs.declared.Station.{Station}
 use Rattle.model.specs.declared.Outcome.{Outcome}
 use Rattle.model.specs.Lists.{_or_}
 use Rattle.model.specs.Sound.{sound}
-use Rattle.model.specs.Effects.{outcomeOf}
+use Rattle.model.specs.Effects.{stored, outcomeOf}
+use Rattle.model.specs.Sweep.{sweep}
+use Rattle.model.specs.Calls.{isScan}
 use Rattle.model.specs.Scan.{scan}
 use Rattle.model.proofs.Tests.{or-intro-right}
 use Rattle.stations.specs.declared.Change.{Change}
 use Rattle.stations.specs.Changes.{changedBy, IsChange}
 use Rattle.stations.proofs.Changes.{comes-to}
+use Rattle.sheet.specs.declared.Command.{Command}
+use Rattle.sheet.specs.declared.Command.the-variants as C
 use Rattle.sheet.specs.Commands.{commandOf}
 use Rattle.sheet.specs.Sheets.{lineEffect}
 use Rattle.desk.specs.declared.Request.{Request}
 use Rattle.desk.specs.Acts.{callOf, asksScan, effectOf, acted, kept}
-use Rattle.desk.proofs.ActLaws.{call-is, acted-is, kept-is, scan-acts, acted-tested}
+use Rattle.desk.proofs.ActLaws.{call-is, acted-is, kept-is, scan-acts, sweep-acts, acted-tested}
 use Rattle.image.specs.Layout.{parts}
 use Rattle.image.specs.Images.{stationBytes, stationIn, isImage}
 use Rattle.image.proofs.PartLaws.{next-place, part-is, parts-next, put-front}
@@ -60,6 +65,28 @@ module _ (q : List ℕ) (h : Current) (s : List ℕ) (r : Request) (e : r .comma
     pub scan-answered : answerBytes (scan s .answer) ≡ answerBytes (requestEffect q (heldOf h s) .answer)
     unfolding outcomeOf
     scan-answered = request-answered _ scan-is
+
+  -- a sweep, and its station
+  module _ (n : ℕ) (c : r .command ≡ C.Sweep n) where
+    no-scan : asksScan (callOf (r .command)) ≡ false
+    unfolding callOf asksScan isScan
+    no-scan = ap (λ (x : Command). asksScan (callOf x)) c
+
+    sweep-is : outcomeOf (sweep (h .station) s n) ≡ acted (h .station) s r
+    sweep-is = sweep-acts (h .station) s r n c _ refl _ refl .0
+
+    pub sweep-run : (t : Bool) (st : Station) → st ≡ sweep (h .station) s n .station → (s′ : List ℕ) → s′ ≡ stored (sweep (h .station) s n .stores) s
+        → heldOf (record { whole = h .whole; tested = t; station = st }) s′ ≡ afterRequest q (heldOf h s)
+    unfolding outcomeOf
+    sweep-run t st g s′ k = request-run _ sweep-is _ (sym (ap (λ (b : Bool). h .whole or b) (sym scan-of ∙ no-scan) ∙ or-false (h .whole))) g s′ (sweep-acts (h .station) s r n c _ refl s′ k .1)
+
+    pub sweep-answered : answerBytes (sweep (h .station) s n .answer) ≡ answerBytes (requestEffect q (heldOf h s) .answer)
+    unfolding outcomeOf
+    sweep-answered = request-answered _ sweep-is
+
+    pub sweep-tested : h .tested ≡ sound (h .station) → (st : Station) → st ≡ sweep (h .station) s n .station → h .tested ≡ sound st
+    unfolding _or_ outcomeOf
+    sweep-tested t st g = t ∙ sym (acted-tested (h .station) s r ∙ ap (λ (b : Bool). b or sound (h .station)) no-scan) ∙ ap (λ (x : Outcome). sound (x .station)) (sym sweep-is) ∙ ap sound (sym g)
 
   -- any other request: a change
   module _ (n : asksScan (callOf (r .command)) ≡ false) (c : Change) (d : IsChange (h .station) (effectOf (h .station) s r) c) where

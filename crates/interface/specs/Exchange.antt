@@ -14,10 +14,10 @@ use Rattle.model.specs.Ids.{noId}
 use Rattle.model.specs.Bytes.{bytes, idIn}
 use Rattle.model.specs.Stations.{emptyStation, setEntry}
 use Rattle.model.specs.Effects.{Effect, stored}
-use Rattle.model.specs.Calls.{Call}
+use Rattle.model.specs.Calls.{Call, Sweep}
 use Rattle.model.specs.Answers.{valuesOf}
 use Rattle.sheet.specs.Words.{Verb, isStart, isPut, isGet, isCommit, isStep, isAbort, isCollect, isCut}
-use Rattle.sheet.specs.Lines.{ofFields}
+use Rattle.sheet.specs.Lines.{ifUnused, ofFields}
 use Rattle.sheet.specs.Sheets.{lineEffect}
 use Rattle.desk.specs.Acts.{asksScan}
 use Rattle.image.specs.Layout.{imageSize, parts}
@@ -30,8 +30,8 @@ requestSize = 16
 abbrev pub answerSize : ℕ
 answerSize = 32
 
--- ── a request: verb, key (or slot), two zeros, transaction 4, number 8 (value or clock) ──
--- 1 start, 2 put, 3 get, 4 commit, 5 step, 6 abort, 7 collect, 8 scan, which a sheet calls cut
+-- ── a request: verb, key (or slot), two zeros, transaction 4, number 8 (value, clock or limit) ──
+-- the verbs of a sheet: 1 start, 2 put, 3 get, 4 commit, 5 step, 6 abort, 7 collect, 8 scan, which a sheet calls cut
 unfoldable pub verbNumbered : ℕ → Option Verb
 verbNumbered n =
     getD (
@@ -47,10 +47,17 @@ verbNumbered n =
     ∷ []
     ) n none
 
+-- and 9 sweep, which a sheet has not: its limit is the number
+abbrev pub sweepVerb : ℕ
+sweepVerb = 9
+
+-- what a verb asks with a transaction, a key and a number
+unfoldable pub asked : ℕ → ℕ → ℕ → ℕ → Option Call
+asked v t k n = cond (eqb v sweepVerb) (ifUnused (eqb t 0 and eqb k 0) (Sweep n)) (ofFields (verbNumbered v) (some t) (some k) (some n))
+
 -- the call; none where the verb is unknown, or one of the two zeros or a field that the call does not use is not 0
 unfoldable pub requestCall : List ℕ → Option Call
-requestCall q =
-    cond (eqb (getD q 2 0) 0 and eqb (getD q 3 0) 0) (ofFields (verbNumbered (getD q 0 0)) (some (idIn q .txn)) (some (getD q 1 0)) (some (idIn q .clock))) none
+requestCall q = cond (eqb (getD q 2 0) 0 and eqb (getD q 3 0) 0) (asked (getD q 0 0) (idIn q .txn) (getD q 1 0) (idIn q .clock)) none
 
 -- ── an answer: its kind, then a, b and c as a sheet prints them, 8 bytes each ──
 unfoldable pub kindOf : Answer → ℕ
@@ -69,6 +76,7 @@ kindOf A.Dropped = 12
 kindOf (A.Collected i) = 13
 kindOf (A.Found n) = 14
 kindOf (A.Refused n d) = 15
+kindOf (A.Swept n) = 16
 
 unfoldable pub answerBytes : Answer → List ℕ
 answerBytes x = bytes 8 (kindOf x) ++ (bytes 8 (valuesOf x .a) ++ (bytes 8 (valuesOf x .b) ++ bytes 8 (valuesOf x .c)))

@@ -16,10 +16,16 @@ use sheet::Word;
 use sheet::command_for;
 use sheet::values_in;
 use soundness::is_sound;
+use sweeping::sweep;
 ghost use mathlib.Core.Path.{_≡_};
 ghost use mathlib.Core.Bool.{true, cond};
 ghost use Prim.Native.Nat.{_*_, _/_, _%_};
 ghost use lib.Dec.{eqb};
+ghost use Rattle.model.specs.Lists.{_and_};
+ghost use Rattle.model.specs.Effects.{stored};
+ghost use Rattle.model.specs.Sweep.{sweep};
+ghost use Rattle.model.specs.Calls.{Sweep};
+ghost use Rattle.sheet.specs.Lines.{ifUnused};
 ghost use lib.ListN.{length};
 ghost use Rattle.model.specs.Stations.{emptyStation};
 ghost use Rattle.model.specs.Sound.{sound};
@@ -36,6 +42,9 @@ const REQUEST: usize = 16;
 
 const ANSWER: usize = 32;
 
+// The verb that a sheet has not.
+const SWEEP: u8 = 9;
+
 // The station between two requests, what the soundness test says of it, and whether the image is to be its own.
 struct Current {
     whole: bool,
@@ -43,7 +52,7 @@ struct Current {
     station: Station,
 }
 
-// The verb of a request.
+// The verb of a request, where it is one of a sheet's.
 fn word_for(verb: u8) -> Word
     ensures { λ r. ⌜ verbOf r ≡ verbNumbered verb ⌝ }
 {
@@ -60,6 +69,19 @@ fn word_for(verb: u8) -> Word
     }
 }
 
+// A sweep with this limit; its transaction and key are 0.
+fn sweep_for(t: u32, k: u8, n: u64) -> Command
+    ensures { λ r. ⌜ r ≡ commandOf (ifUnused (eqb t 0 and eqb k 0) (Sweep n)) ⌝ }
+{
+    if t != 0 {
+        return Command::Malformed;
+    }
+    if k != 0 {
+        return Command::Malformed;
+    }
+    Command::Sweep(n)
+}
+
 // What a request asks, whatever its bytes are.
 pub fn command_in(request: &[u8]) -> Command
     requires { ⌜ length (now request) ≡ requestSize ⌝ }
@@ -72,7 +94,11 @@ pub fn command_in(request: &[u8]) -> Command
         return Command::Malformed;
     }
     let id = id_in(request);
-    let word = word_for(request[0]);
+    let verb = request[0];
+    if verb == SWEEP {
+        return sweep_for(id.txn, request[1], id.clock);
+    }
+    let word = word_for(verb);
     command_for(word, id.txn, request[1], id.clock)
 }
 
@@ -96,6 +122,7 @@ fn kind_of(answer: Answer) -> u64
         Answer::Collected(_) => 13,
         Answer::Found(_) => 14,
         Answer::Refused(_, _) => 15,
+        Answer::Swept(_) => 16,
     }
 }
 
@@ -128,6 +155,18 @@ fn run_scan(store: &[u8], out: &mut [u8]) -> Current
     }
 }
 
+// A sweep answered: the station afterwards.
+fn run_sweep(station: Station, tested: bool, store: &mut [u8], limit: u64, out: &mut [u8]) -> Station
+    requires { ⌜ (tested ≡ sound station) × (length (now out) ≡ answerSize) ⌝ }
+    ensures { λ r. ⌜ (r ≡ sweep station (now (store .entry)) limit .station) × (now (store .exit) ≡ stored (sweep station (now (store .entry)) limit .stores) (now (store .entry))) × (now (out .exit) ≡ answerBytes (sweep station (now (store .entry)) limit .answer)) ⌝ }
+{
+    let swept = sweep(station, tested, store, limit);
+    let said = swept.answer;
+    let next = swept.station;
+    write_answer(out, said);
+    next
+}
+
 // Requests one after the other. The station is changed in place. Its soundness was tested once: no call but a scan alters what the test says.
 fn run_requests(first: Current, store: &mut [u8], requests: &[u8], answers: &mut [u8]) -> Current
     requires { ⌜ (length (now requests) % requestSize ≡ 0) × (length (now answers) ≡ answerSize * (length (now requests) / requestSize)) ⌝ }
@@ -150,6 +189,11 @@ fn run_requests(first: Current, store: &mut [u8], requests: &[u8], answers: &mut
             whole = found.whole;
             tested = found.tested;
             let next = found.station;
+            station = next;
+            continue;
+        }
+        if let Command::Sweep(limit) = command {
+            let next = run_sweep(station, tested, store, limit, &mut answers[to..to + ANSWER]);
             station = next;
             continue;
         }

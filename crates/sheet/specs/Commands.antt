@@ -1,6 +1,6 @@
--- What a line asks, as the code hands it on.
+-- What a line, or a host's request, asks, as the code hands it on.
 use mathlib.Core.Option.{Option, some, none}
-use Rattle.model.specs.Calls.{Call, Start, Put, Get, Commit, Step, Abort, Collect, Scan}
+use Rattle.model.specs.Calls.{Call, Start, Put, Get, Commit, Step, Abort, Collect, Scan, Sweep}
 use Rattle.sheet.specs.declared.Command.{Command}
 use Rattle.sheet.specs.declared.Command.the-variants as C
 
@@ -15,3 +15,4 @@ commandOf (some (Step t)) = C.Step t
 commandOf (some (Abort t)) = C.Abort t
 commandOf (some (Collect d)) = C.Collect d
 commandOf (some Scan) = C.Cut
+commandOf (some (Sweep n)) = C.Sweep n

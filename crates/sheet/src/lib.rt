@@ -31,10 +31,10 @@ const KEY_MAX: u64 = 255;
 const NUMBER_MAX: u64 = 18446744073709551615;
 
 // The words of the answers, each with the comma after it.
-const WORDS: [u8; 102] =
-    *b"started,kept,own,version,none,nofit,closing,empty,done,stored,slipped,dropped,collected,found,refused,";
+const WORDS: [u8; 108] =
+    *b"started,kept,own,version,none,nofit,closing,empty,done,stored,slipped,dropped,collected,found,refused,swept,";
 
-// What a line asks.
+// What a line asks, or a host's request: a sweep is only a request's.
 pub enum Command {
     Start(u32),
     Put(u32, u8, u64),
@@ -45,6 +45,7 @@ pub enum Command {
     Collect(u8),
     Cut,
     Malformed,
+    Sweep(u64),
 }
 
 // A line's first field.
@@ -237,7 +238,7 @@ pub fn parse_line(line: &[u8]) -> Command
 
 // Where an answer's word and its comma stand in the words.
 fn word_part(answer: Answer) -> Part
-    ensures { λ r. ⌜ (take (r .size) (drop (r .at) words) ≡ wordOf answer ++ (44 ∷ [])) × (r .at + r .size ≤ 102) × (r .size ≤ 10) ⌝ }
+    ensures { λ r. ⌜ (take (r .size) (drop (r .at) words) ≡ wordOf answer ++ (44 ∷ [])) × (r .at + r .size ≤ 108) × (r .size ≤ 10) ⌝ }
 {
     match answer {
         Answer::Started => {
@@ -284,6 +285,9 @@ fn word_part(answer: Answer) -> Part
         }
         Answer::Refused(_, _) => {
             return Part { at: 94, size: 8 };
+        }
+        Answer::Swept(_) => {
+            return Part { at: 102, size: 6 };
         }
     }
 }
@@ -354,6 +358,9 @@ pub fn values_in(answer: Answer) -> Values
         }
         Answer::Dropped => {
             return three(0, 0, 0);
+        }
+        Answer::Swept(n) => {
+            return three(n as u64, 0, 0);
         }
     }
 }

@@ -2,10 +2,10 @@
 use borrow.Author.Needs.{needs}
 use mathlib.Core.Path.{sym, ap, _∙_}
 use mathlib.Core.Bool.{true≢false}
-use Rattle.model.specs.Calls.{Start, Put, Get, Commit, Step, Abort, Collect, does, isScan}
+use Rattle.model.specs.Calls.{Start, Put, Get, Commit, Step, Abort, Collect, does, isScan, isSweep}
 use Rattle.model.proofs.StoreLaws.{start-stores-nothing, put-stores-nothing, get-stores-nothing, commit-stores-nothing, abort-stores-nothing}
 use Rattle.sheet.specs.declared.Command.{Command}
-use Rattle.desk.specs.Acts.{callOf, asksScan}
+use Rattle.desk.specs.Acts.{callOf, asksScan, asksSweep}
 use Rattle.desk.proofs.ActLaws.{decides, decides-quiet, decides-not}
 use Rattle.desk.proofs.decide.Statement.{statement}
 use Rattle.desk.proofs.decide.Tie as tie
@@ -64,6 +64,12 @@ enum-told-2 c = search needs
 refused-requires-2 : tie.Need-refused-requires-2
 refused-requires-2 c κs = search needs
 
+enum-told-3 : tie.Need-enum-told-3
+enum-told-3 c = search needs
+
+refused-requires-3 : tie.Need-refused-requires-3
+refused-requires-3 c κs = search needs
+
 returns : tie.Need-returns
 unfolding callOf does
 returns c = decides-quiet _ _ _ (Start _) (ap callOf (c .before .before .command .given .1)) _ (c .start .ensures) (start-stores-nothing _ _)
@@ -110,6 +116,11 @@ returns-9 : tie.Need-returns-9
 unfolding callOf does
 returns-9 c = decides-not _ _ _ (ap callOf (c .before .enum-told2 .given .1)) _ (c .refused2 .ensures)
 
+-- nor was a sweep asked
+returns-10 : tie.Need-returns-10
+unfolding callOf asksSweep isSweep
+returns-10 c = absurd (true≢false (sym (ap (λ (x : Command). asksSweep (callOf x)) (c .before .enum-told3 .given .1)) ∙ c .before .before .before .before .pre .2))
+
 pub decide-spec : {M : Type 1} → statement M
 decide-spec =
     tie.close
@@ -132,6 +143,8 @@ decide-spec =
     refused-requires
     enum-told-2
     refused-requires-2
+    enum-told-3
+    refused-requires-3
     returns
     returns-2
     same-length
@@ -143,4 +156,5 @@ decide-spec =
     same-length-3
     returns-7
     returns-8
-    returns-9)
+    returns-9
+    returns-10)

@@ -7,7 +7,7 @@ use borrow.Author.Needs.{needs}
 use Rattle.model.proofs.Tests.{and-none-left, and-none-right}
 use Rattle.sheet.specs.Commands.{commandOf}
 use Rattle.sheet.specs.Parts.{verbOf}
-use Rattle.interface.proofs.ByteLaws.{no-zero, two-zeros}
+use Rattle.interface.proofs.ByteLaws.{no-zero, asks-sweep, asks-verb}
 use Rattle.interface.proofs.command_in.Statement.{statement}
 use Rattle.interface.proofs.command_in.Tie as tie
 
@@ -32,8 +32,20 @@ returns-2 c =
 id-in-requires : tie.Need-id-in-requires
 id-in-requires c κs = search needs
 
-shared-slice-read-word-for : tie.Need-shared-slice-read-word-for
-shared-slice-read-word-for c = search needs
+shared-slice-read-verb : tie.Need-shared-slice-read-verb
+shared-slice-read-verb c = search needs
+
+shared-slice-read-sweep-for : tie.Need-shared-slice-read-sweep-for
+shared-slice-read-sweep-for c = search needs
+
+sweep-for-requires : tie.Need-sweep-for-requires
+sweep-for-requires c κs = search needs
+
+returns-3 : tie.Need-returns-3
+returns-3 c =
+    let q = c .before .before .before .before .before .before .before .before .before .before .args .request .now in
+    let i = c .before .before .before .before .id-in in
+    c .sweep-for .ensures ∙ ap commandOf (asks-sweep q (c .before .before .before .before .before .before .before .if1 .left) (c .before .before .before .before .before .if2 .left) (i .result) (i .ensures) (c .before .before .if3 .taken))
 
 word-for-requires : tie.Need-word-for-requires
 word-for-requires c κs = search needs
@@ -44,12 +56,12 @@ shared-slice-read-command-for c = search needs
 command-for-requires : tie.Need-command-for-requires
 command-for-requires c κs = search needs
 
-returns-3 : tie.Need-returns-3
-returns-3 c =
-    let q = c .before .before .before .before .before .before .before .before .before .before .args .request .now in
-    let i = c .before .before .before .before .id-in in
+returns-4 : tie.Need-returns-4
+returns-4 c =
+    let q = c .before .before .before .before .before .before .before .before .before .before .before .args .request .now in
+    let i = c .before .before .before .before .before .id-in in
     let w = c .before .before .word-for in
-    c .command-for .ensures ∙ ap commandOf (two-zeros q (c .before .before .before .before .before .before .before .if1 .left) (c .before .before .before .before .before .if2 .left) (i .result) (i .ensures) (verbOf (w .result)) (w .ensures))
+    c .command-for .ensures ∙ ap commandOf (asks-verb q (c .before .before .before .before .before .before .before .before .if1 .left) (c .before .before .before .before .before .before .if2 .left) (i .result) (i .ensures) (c .before .before .before .if3 .left) (verbOf (w .result)) (w .ensures))
 
 pub command-in-spec : {M : Type 1} → statement M
 command-in-spec =
@@ -60,8 +72,11 @@ command-in-spec =
     shared-slice-read-if2
     returns-2
     id-in-requires
-    shared-slice-read-word-for
+    shared-slice-read-verb
+    shared-slice-read-sweep-for
+    sweep-for-requires
+    returns-3
     word-for-requires
     shared-slice-read-command-for
     command-for-requires
-    returns-3)
+    returns-4)

@@ -16,11 +16,12 @@ use Rattle.stations.specs.Changes.{changedBy}
 use Rattle.stations.proofs.Changes.{is-inside}
 use Rattle.desk.specs.declared.Request.{Request}
 use Rattle.desk.specs.Acts.{callOf, asksScan}
+use Rattle.desk.proofs.ActLaws.{not-sweep}
 use Rattle.image.specs.Layout.{parts}
 use Rattle.interface.specs.declared.Current.{Current}
 use Rattle.interface.specs.Exchange.{requestSize, answerSize, Held, afterRequests, answersTo, requestsIn}
 use Rattle.interface.specs.Parts.{heldOf}
-use Rattle.interface.proofs.RunLaws.{scan-run, scan-answered, change-run, change-answered, change-tested, Passed, passed-none, passed-more, passed-all}
+use Rattle.interface.proofs.RunLaws.{scan-run, scan-answered, sweep-run, sweep-answered, sweep-tested, change-run, change-answered, change-tested, Passed, passed-none, passed-more, passed-all}
 use Rattle.interface.proofs.run_requests.Statement.{statement}
 use Rattle.interface.proofs.run_requests.Tie as tie
 
@@ -113,8 +114,55 @@ loop-again c =
           (r .ensures .3 ∙ scan-answered q h (l .store) d (m .ensures) k),
     )
 
+enum-known-command : tie.Need-enum-known-command Inv-loop μ-loop
+enum-known-command c = search needs
+
+add-run-sweep : tie.Need-add-run-sweep Inv-loop μ-loop
+add-run-sweep c = search needs
+
+sub-run-sweep : tie.Need-sub-run-sweep Inv-loop μ-loop
+sub-run-sweep c = search needs
+
+part-run-sweep-start : tie.Need-part-run-sweep-start Inv-loop μ-loop
+part-run-sweep-start c = search needs
+
+part-run-sweep-end : tie.Need-part-run-sweep-end Inv-loop μ-loop
+part-run-sweep-end c = search needs
+
+run-sweep-requires : tie.Need-run-sweep-requires Inv-loop μ-loop
+run-sweep-requires c κs = search needs
+
+loop-less-2 : tie.Need-loop-less-2 Inv-loop μ-loop
+loop-less-2 c = search needs
+
+loop-again-2 : tie.Need-loop-again-2 Inv-loop μ-loop
+loop-again-2 c =
+    let r = c .before .before .before .before .run-sweep in
+    let z = c .before .before .before .before .before .before .before .before .command in
+    let e = c .before .before .before .before .before .before .before .before .before .before in
+    let m = e .before .before .command-in in
+    let i = e .before .before .before .before in
+    let l = i .before .loop in
+    let s = i .before .before .before .before .before .before in
+    let o = i .loop-test .taken in
+    let w = room i in
+    let q = take (requestSize * l .i + requestSize - requestSize * l .i) (drop (requestSize * l .i) (s .args .requests .now)) in
+    let h : Current = record { whole = l .whole; tested = l .tested; station = l .station } in
+    let d : Request = record { command = m .result; tested = l .tested } in (
+      omega (arith, o),
+      same-len-mid (answerSize * l .i) (answerSize * l .i + answerSize - answerSize * l .i) (l .answers) (r .last .1 .1 .1 .1 .0) (r .kept .1 .1 .1 .1 .0) ∙ l .inv .1,
+      r .kept .1 .1 .0 ∙ l .inv .2,
+      sweep-tested q h (l .store) d (m .ensures) _ (z .given .1) (l .inv .3) (r .result) (r .ensures .0),
+      passed-more _ (s .args .requests .now) _ _ (l .i) (heldOf h (l .store)) (l .answers) (l .inv .4) o w _ (r .last .1 .1 .1 .1 .0)
+          (r .kept .1 .1 .1 .1 .0 ∙ mid-len (answerSize * l .i) (answerSize * l .i + answerSize) (l .answers) w ∙ omega arith)
+          (sweep-run q h (l .store) d (m .ensures) _ (z .given .1) (l .tested) (r .result) (r .ensures .0) (r .last .1 .1 .0) (r .ensures .1))
+          (r .ensures .2 ∙ sweep-answered q h (l .store) d (m .ensures) _ (z .given .1)),
+    )
+
 decide-requires : tie.Need-decide-requires Inv-loop μ-loop
-decide-requires c κs = (c .before .before .before .before .before .before .loop .inv .3, sym (c .before .before .asks-scan .ensures) ∙ c .before .if1 .left)
+decide-requires c κs =
+    let e = c .before .before in
+    (e .before .before .before .before .before .loop .inv .3, sym (e .before .asks-scan .ensures) ∙ e .if1 .left, not-sweep (e .before .before .command-in .result) (c .before .match .keys2))
 
 -- the change's place and slot are there
 inside : (c : tie.After-decide Inv-loop μ-loop) → (c .decide .result .place < livePlaces) × (c .decide .result .slot < slots)
@@ -137,7 +185,7 @@ ends : (c : tie.In-loop Inv-loop μ-loop) → answerSize * c .before .loop .i + 
 ends c = search needs
 
 add-write-answer : tie.Need-add-write-answer Inv-loop μ-loop
-add-write-answer c = omega (arith, ends (c .before .before .before .before .before .before .before .before .before .before))
+add-write-answer c = omega (arith, ends (c .before .before .before .before .before .before .before .before .before .before .before))
 
 sub-write-answer : tie.Need-sub-write-answer Inv-loop μ-loop
 sub-write-answer c = search needs
@@ -146,29 +194,29 @@ part-write-answer-start : tie.Need-part-write-answer-start Inv-loop μ-loop
 part-write-answer-start c = search needs
 
 part-write-answer-end : tie.Need-part-write-answer-end Inv-loop μ-loop
-part-write-answer-end c = omega (arith, room (c .before .before .before .before .before .before .before .before .before .before))
+part-write-answer-end c = omega (arith, room (c .before .before .before .before .before .before .before .before .before .before .before))
 
 write-answer-requires : tie.Need-write-answer-requires Inv-loop μ-loop
 write-answer-requires c κs = search needs
 
-loop-less-2 : tie.Need-loop-less-2 Inv-loop μ-loop
-loop-less-2 c = search needs
+loop-less-3 : tie.Need-loop-less-3 Inv-loop μ-loop
+loop-less-3 c = search needs
 
-loop-again-2 : tie.Need-loop-again-2 Inv-loop μ-loop
+loop-again-3 : tie.Need-loop-again-3 Inv-loop μ-loop
 unfolding changedBy setLive setEntry
-loop-again-2 c =
+loop-again-3 c =
     let y = c .before .before .write-answer in
     let r = c .before .before .before .before .before .before .before .before .decide in
-    let n = c .before .before .before .before .before .before .before .before .before .before .before .asks-scan in
-    let m = c .before .before .before .before .before .before .before .before .before .before .before .before .command-in in
-    let l = c .before .before .before .before .before .before .before .before .before .before .before .before .before .before .before .loop in
-    let s = c .before .before .before .before .before .before .before .before .before .before .before .before .before .before .before .before .before .before .before .before in
-    let o = c .before .before .before .before .before .before .before .before .before .before .before .before .before .before .loop-test .taken in
-    let w = room (c .before .before .before .before .before .before .before .before .before .before .before .before .before .before) in
+    let n = c .before .before .before .before .before .before .before .before .before .before .before .before .asks-scan in
+    let m = c .before .before .before .before .before .before .before .before .before .before .before .before .before .command-in in
+    let l = c .before .before .before .before .before .before .before .before .before .before .before .before .before .before .before .before .loop in
+    let s = c .before .before .before .before .before .before .before .before .before .before .before .before .before .before .before .before .before .before .before .before .before in
+    let o = c .before .before .before .before .before .before .before .before .before .before .before .before .before .before .before .loop-test .taken in
+    let w = room (c .before .before .before .before .before .before .before .before .before .before .before .before .before .before .before) in
     let q = take (requestSize * l .i + requestSize - requestSize * l .i) (drop (requestSize * l .i) (s .args .requests .now)) in
     let h : Current = record { whole = l .whole; tested = l .tested; station = l .station } in
     let d : Request = record { command = m .result; tested = l .tested } in
-    let k : asksScan (callOf (m .result)) ≡ false = sym (n .ensures) ∙ c .before .before .before .before .before .before .before .before .before .before .if1 .left in (
+    let k : asksScan (callOf (m .result)) ≡ false = sym (n .ensures) ∙ c .before .before .before .before .before .before .before .before .before .before .before .if1 .left in (
       omega (arith, o),
       same-len-mid (answerSize * l .i) (answerSize * l .i + answerSize - answerSize * l .i) (l .answers) (y .last .0) (y .kept .0) ∙ l .inv .1,
       r .kept .1 .0 ∙ l .inv .2,
@@ -215,6 +263,14 @@ run-requests-spec =
     run-scan-requires
     loop-less
     loop-again
+    enum-known-command
+    add-run-sweep
+    sub-run-sweep
+    part-run-sweep-start
+    part-run-sweep-end
+    run-sweep-requires
+    loop-less-2
+    loop-again-2
     decide-requires
     mul-live
     element-set-from-live
@@ -225,8 +281,8 @@ run-requests-spec =
     part-write-answer-start
     part-write-answer-end
     write-answer-requires
-    loop-less-2
-    loop-again-2
+    loop-less-3
+    loop-again-3
     same-length
     same-length-2
     returns)

@@ -184,6 +184,19 @@ returns-15 : tie.Need-returns-15
 unfolding valuesOf
 returns-15 c = rw (c .before .enum-told5 .given .1) (c .three15 .ensures)
 
+enum-known-answer-11 : tie.Need-enum-known-answer-11
+enum-known-answer-11 c = search needs
+
+cast-three-11 : tie.Need-cast-three-11
+cast-three-11 c = search needs
+
+three-requires-16 : tie.Need-three-requires-16
+three-requires-16 c κs = search needs
+
+returns-16 : tie.Need-returns-16
+unfolding valuesOf
+returns-16 c = rw (c .before .before .answer11 .given .1) (c .three16 .ensures)
+
 pub values-in-spec : {M : Type 1} → statement M
 values-in-spec =
     tie.close
@@ -242,4 +255,8 @@ values-in-spec =
     returns-14
     enum-told-5
     three-requires-15
-    returns-15)
+    returns-15
+    enum-known-answer-11
+    cast-three-11
+    three-requires-16
+    returns-16)

@@ -112,6 +112,13 @@ returns-15 : tie.Need-returns-15
 unfolding words wordOf
 returns-15 c = rw (c .enum-told15 .given .1) (refl, omega arith, omega arith)
 
+enum-told-16 : tie.Need-enum-told-16
+enum-told-16 c = search needs
+
+returns-16 : tie.Need-returns-16
+unfolding words wordOf
+returns-16 c = rw (c .enum-told16 .given .1) (refl, omega arith, omega arith)
+
 pub word-part-spec : {M : Type 1} → statement M
 word-part-spec =
     tie.close
@@ -145,4 +152,6 @@ word-part-spec =
     enum-told-14
     returns-14
     enum-told-15
-    returns-15)
+    returns-15
+    enum-told-16
+    returns-16)
