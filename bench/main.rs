@@ -16,6 +16,8 @@ extern "C" {
     fn bench_get(store: *const u8, len: usize, rounds: u64, entries: u8, lives: u8, reads: u8, base: u8, key: u8) -> u64;
     fn bench_transaction(store: *mut u8, len: usize, rounds: u64, entries: u8, lives: u8, reads: u8, base: u8) -> u64;
     fn bench_known(store: *mut u8, len: usize, verb: u8, rounds: u64, entries: u8, lives: u8, reads: u8, base: u8) -> u64;
+    fn bench_sweep(stores: *mut u8, len: usize, entries: u8, lives: u8, reads: u8, base: u8, limit: u64) -> u64;
+    fn bench_collects(stores: *mut u8, len: usize, entries: u8, lives: u8, reads: u8, base: u8, first: u8, limit: u8) -> u64;
     fn bench_scan(store: *const u8, len: usize, rounds: u64) -> u64;
 }
 
@@ -83,6 +85,7 @@ fn code(a: Answer) -> u64 {
         Answer::Collected(_) => 8,
         Answer::Found(n) => u64::from(n) + 21,
         Answer::Refused(n, _) => u64::from(n) + 100000,
+        Answer::Swept(n) => u64::from(n) + 23,
     }
 }
 
@@ -152,6 +155,63 @@ fn rust_scan(bytes: &[u8], n: u64) -> u64 {
     last
 }
 
+/// A sweep as one would write it by hand, with the tests of the model's: the newest id of each key once, what may go sorted once, then cleared.
+fn sweep_once(s: &mut Station, bytes: &mut [u8], limit: u64) -> Answer {
+    if bytes.len() != STORE {
+        return Answer::Refused(1, 0);
+    }
+    if !s.sound() {
+        return Answer::Refused(2, 0);
+    }
+    if limit == 0 || limit > 64 {
+        return Answer::Refused(20, 0);
+    }
+    let mut newest = [Id::default(); 64];
+    for e in &s.entries {
+        for k in e.keys() {
+            let at = &mut newest[usize::from(*k)];
+            *at = (*at).max(e.id);
+        }
+    }
+    let read: Vec<Id> = s.live.iter().flat_map(|l| l.reads().iter().map(|r| r.id)).collect();
+    let goes = |e: &Entry| e.id.txn != 0 && e.keys().iter().all(|k| newest[usize::from(*k)] > e.id) && !read.contains(&e.id);
+    let mut slots: Vec<usize> = (0..SLOTS).filter(|d| goes(&s.entries[*d])).collect();
+    slots.sort_unstable_by_key(|d| s.entries[*d].id);
+    let mut count = 0;
+    for d in slots.into_iter().take(limit as usize) {
+        let commit = &mut bytes[d * SLOT..d * SLOT + RECORD];
+        if *commit != commit_record(&s.entries[d]) {
+            break;
+        }
+        commit.fill(0);
+        s.entries[d] = Entry::default();
+        count += 1;
+    }
+    Answer::Swept(count)
+}
+
+fn rust_sweep(stores: &mut [u8], z: Size, limit: u64) -> u64 {
+    let fresh = station(z);
+    let mut last = 0;
+    for bytes in stores.chunks_mut(STORE) {
+        let mut s = fresh.clone();
+        last = code(sweep_once(black_box(&mut s), bytes, limit));
+    }
+    last
+}
+
+fn rust_collects(stores: &mut [u8], z: Size, first: u8, limit: u8) -> u64 {
+    let fresh = station(z);
+    let mut last = 0;
+    for bytes in stores.chunks_mut(STORE) {
+        let mut s = fresh.clone();
+        for d in first..first + limit {
+            last = code(black_box(&mut s).collect(bytes, d));
+        }
+    }
+    last
+}
+
 /// Microseconds for one of n, the least of several alternating rounds.
 fn compare(name: &str, n: u64, mut proved: impl FnMut(u64) -> u64, mut plain: impl FnMut(u64) -> u64) {
     let (mut a, mut b) = (f64::MAX, f64::MAX);
@@ -166,6 +226,52 @@ fn compare(name: &str, n: u64, mut proved: impl FnMut(u64) -> u64, mut plain: im
     }
     let each = 1e6 / n as f64;
     println!("| {name} | {:.2} | {:.2} | {:.2} |", a * each, b * each, a / b);
+}
+
+/// The same over n stores, each its own, made anew before each round and not timed.
+fn compare_over(name: &str, n: usize, fresh: &[u8], mut proved: impl FnMut(&mut [u8]) -> u64, mut plain: impl FnMut(&mut [u8]) -> u64) {
+    let (mut a, mut b) = (f64::MAX, f64::MAX);
+    for _ in 0..9 {
+        let (mut x, mut y) = (fresh.repeat(n), fresh.repeat(n));
+        let t = Instant::now();
+        let p = black_box(proved(&mut x));
+        a = a.min(t.elapsed().as_secs_f64());
+        let t = Instant::now();
+        let q = black_box(plain(&mut y));
+        b = b.min(t.elapsed().as_secs_f64());
+        assert_eq!(p, q, "{name}: the two versions differ");
+        assert!(x == y, "{name}: the two stores differ");
+    }
+    let each = 1e6 / n as f64;
+    println!("| {name} | {:.2} | {:.2} | {:.2} |", a * each, b * each, a / b);
+}
+
+/// Forty entries cleared: by one sweep, and by single collects in the same order.
+fn clearing() {
+    println!();
+    println!("| forty entries cleared | proved, µs | Rust, µs | ratio |");
+    println!("|---|---|---|---|");
+    let typical = Size { entries: 48, lives: 2, reads: 4, base: 46 };
+    let worst = Size { entries: 62, lives: 8, reads: 16, base: 0 };
+    for (size, z, first) in [("typical", typical, 0), ("worst", worst, 2)] {
+        let fresh = store(z);
+        unsafe {
+            compare_over(
+                &format!("a sweep, {size}"),
+                100,
+                &fresh,
+                |s| bench_sweep(s.as_mut_ptr(), s.len(), z.entries, z.lives, z.reads, z.base, 40),
+                |s| rust_sweep(s, z, 40),
+            );
+            compare_over(
+                &format!("collects, {size}"),
+                20,
+                &fresh,
+                |s| bench_collects(s.as_mut_ptr(), s.len(), z.entries, z.lives, z.reads, z.base, first, 40),
+                |s| rust_collects(s, z, first, 40),
+            );
+        }
+    }
 }
 
 /// How a put's and a get's cost grows: with the entries held, and with the live transactions.
@@ -240,5 +346,6 @@ fn main() {
             compare(&format!("scan, {size}"), 2000, |n| bench_scan(bytes.as_ptr(), bytes.len(), n), |n| rust_scan(&bytes, n));
         }
     }
+    clearing();
     growth();
 }

@@ -1,20 +1,23 @@
 /* A day at the desk, in C: a job is committed, power goes while the next one closes, and a scan starts the desk again; a reader is told which
- * of its reads is in the way. The host's disk is an array beside the store: each record goes there, 24 bytes at a time, when it is written and
- * before the next request. */
+ * of its reads is in the way; at shift change the old jobs are swept, and power goes in the middle of that. The host's disk is an array beside
+ * the store: each record goes there, 24 bytes at a time, when it is written and before the next request. */
 #include "gorehimu.h"
 #include <stdio.h>
 
 static const char *const kinds[] = {"?",    "started", "kept",   "own",     "version", "none",      "nofit", "closing",
-                                    "empty", "done",    "stored", "slipped", "dropped", "collected", "found", "refused"};
+                                    "empty", "done",    "stored", "slipped", "dropped", "collected", "found", "refused", "swept"};
 
 static uint8_t store[GOREHIMU_STORE];
 static uint8_t image[GOREHIMU_IMAGE];
 static uint8_t disk[GOREHIMU_STORE];
 
-static struct gorehimu_answer say(const char *what, uint64_t verb, uint64_t transaction, uint64_t key, uint64_t number) {
-    struct gorehimu_answer r = gorehimu_ask(image, store, verb, transaction, key, number);
+static struct gorehimu_answer told(const char *what, struct gorehimu_answer r) {
     printf("%-28s %s %llu %llu %llu\n", what, kinds[r.kind], (unsigned long long)r.a, (unsigned long long)r.b, (unsigned long long)r.c);
     return r;
+}
+
+static struct gorehimu_answer say(const char *what, uint64_t verb, uint64_t transaction, uint64_t key, uint64_t number) {
+    return told(what, gorehimu_ask(image, store, verb, transaction, key, number));
 }
 
 /* Brings record n of a slot to the disk. */
@@ -41,6 +44,15 @@ static int step(uint64_t transaction, uint64_t slot, int n) {
 static void close_all(uint64_t transaction, struct gorehimu_answer closing) {
     for (int n = 0; n >= 0; n = step(transaction, closing.a, n)) {
     }
+}
+
+/* Brings the next commit record that was cleared to the disk, oldest id first; returns 0 where there is none. */
+static int keep_cleared(void) {
+    uint64_t slot = gorehimu_cleared(store, disk);
+    if (slot > 63) return 0;
+    keep(slot, 0);
+    printf("%-28s slot %llu\n", "brought", (unsigned long long)slot);
+    return 1;
 }
 
 /* Power went: the disk is what is left. */
@@ -97,6 +109,31 @@ int main(void) {
     say("start 7", GOREHIMU_START, 7, 0, 0);
     say("get what was in the way", GOREHIMU_GET, 7, price.a, 0);
     say("get price", GOREHIMU_GET, 7, 2, 0);
+
+    /* shift change: two more jobs, then in one batch the reader goes and what is old is swept; the reader had kept the job that it read */
+    say("start 8", GOREHIMU_START, 8, 0, 0);
+    say("put copies", GOREHIMU_PUT, 8, 0, 300);
+    say("put counter", GOREHIMU_PUT, 8, 1, 10);
+    close_all(8, say("commit at 104", GOREHIMU_COMMIT, 8, 0, 104));
+    say("start 9", GOREHIMU_START, 9, 0, 0);
+    say("put price", GOREHIMU_PUT, 9, 2, 260);
+    close_all(9, say("commit at 105", GOREHIMU_COMMIT, 9, 0, 105));
+    uint8_t requests[2 * GOREHIMU_REQUEST], answers[2 * GOREHIMU_ANSWER];
+    gorehimu_write_request(requests, GOREHIMU_ABORT, 7, 0, 0);
+    gorehimu_write_request(requests + GOREHIMU_REQUEST, GOREHIMU_SWEEP, 0, 0, 64);
+    if (gorehimu_run(image, sizeof image, store, sizeof store, requests, sizeof requests, answers, sizeof answers)) return 1;
+    told("abort 7", gorehimu_read_answer(answers));
+    told("sweep, at most 64", gorehimu_read_answer(answers + GOREHIMU_ANSWER));
+
+    /* power goes when the first of its two records is on the disk: that collect is done, the other was not begun. Again, one at a time */
+    keep_cleared();
+    if (start_again()) return 1;
+    struct gorehimu_answer swept;
+    do {
+        swept = say("sweep, at most 1", GOREHIMU_SWEEP, 0, 0, 1);
+        while (keep_cleared()) {
+        }
+    } while (swept.kind == GOREHIMU_SWEPT && swept.a > 0);
     printf("%-28s %s\n", "disk", memcmp(disk, store, sizeof store) == 0 ? "as the store" : "not as the store");
     return start_again();
 }

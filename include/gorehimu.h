@@ -11,16 +11,26 @@
  * bytes whatever; the definitions are in crates/interface/specs and crates/model/specs.
  *
  * To survive a loss of power, bring the record that a request wrote, 24 bytes, whole or not at all, to where the store lasts before the
- * next request; so let a request that writes one (step, collect) be the last of its call. The store is 64 slots of 9 records: record n of
- * a slot begins at byte 24 * (9 * slot + n), which is gorehimu_record_place(slot, n). Record 0 is the commit record, 1 to 8 are version
+ * next request; so let a request that writes one (step, collect, sweep) be the last of its call. The store is 64 slots of 9 records: record n
+ * of a slot begins at byte 24 * (9 * slot + n), which is gorehimu_record_place(slot, n). Record 0 is the commit record, 1 to 8 are version
  * records. The answer tells which was written:
  *
  *   stored      the nth such answer to a transaction since its closing: record n of the slot that closing gave (several transactions may be
  *               closing at once: keep the slot and n of each)
  *   slipped     record 0 of slot a
  *   collected   record 0 of the slot asked
+ *   swept       record 0 of each slot that was cleared, a in number, all zeros, oldest id first: gorehimu_cleared tells which
  *
  * With any other answer no byte of the store was written. examples/desk.c is a host that does so.
+ *
+ * A sweep is several collects, so it may write several records in one request. There are two ways to bring them: sweep with limit 1 again and
+ * again until the answer is swept 0, and bring the one record after each; or sweep with any limit, and then bring the records one at a time,
+ * oldest id first. gorehimu_cleared serves both, and collect; lasting is the host's copy of what lasts, which each record brought is part of:
+ *
+ *   while ((slot = gorehimu_cleared(store, lasting)) < 64) bring(slot, 0);
+ *
+ * Where power goes between two of these records, the sweep's first few collects are done and the rest not begun. The theorem that nothing is
+ * lost (crates/history) covers that: it holds after every record of a sweep.
  *
  * Each pointer must be valid for its length, and may be NULL where that is 0; no alignment is needed. What is lent to one call must not
  * overlap, nor be touched by others meanwhile. Allow 128 KB of stack.
@@ -52,6 +62,7 @@ extern "C" {
  *   abort    transaction                 forgets an open transaction
  *   collect  key                         frees a slot (0 to 63) whose entry is superseded and read by no one
  *   scan                                 drops the station and reads it off the store; where that is refused, the station is the empty one
+ *   sweep    number                      collects the oldest entries that may be collected, at most so many (1 to 64)
  */
 enum gorehimu_verb {
     GOREHIMU_START = 1,
@@ -61,7 +72,8 @@ enum gorehimu_verb {
     GOREHIMU_STEP = 5,
     GOREHIMU_ABORT = 6,
     GOREHIMU_COLLECT = 7,
-    GOREHIMU_SCAN = 8
+    GOREHIMU_SCAN = 8,
+    GOREHIMU_SWEEP = 9
 };
 
 /* What came of it, with a, b and c (0 where nothing is said). */
@@ -82,12 +94,14 @@ enum gorehimu_kind {
     GOREHIMU_DROPPED = 12,  /* abort */
     GOREHIMU_COLLECTED = 13,/* collect: b and c the clock and the transaction whose entry is gone */
     GOREHIMU_FOUND = 14,    /* scan: a how many transactions the store holds */
-    GOREHIMU_REFUSED = 15   /* a the number below, b the slot with 18. Store and station are as they were; after a scan the station is empty */
+    GOREHIMU_REFUSED = 15,  /* a the number below, b the slot with 18. Store and station are as they were; after a scan the station is empty */
+    GOREHIMU_SWEPT = 16     /* sweep: a how many entries are gone, the limit or fewer: no other may be collected, or the commit record of the next
+                             * is not the station's (a collect of it is refused with 17) */
 };
 
 /* Why a request is refused. 19 comes before all others; of the rest, where several apply, the lowest. */
 enum gorehimu_refusal {
-    GOREHIMU_STORE_LENGTH = 1,      /* get, step, collect, scan: the store has not GOREHIMU_STORE bytes */
+    GOREHIMU_STORE_LENGTH = 1,      /* get, step, collect, sweep, scan: the store has not GOREHIMU_STORE bytes */
     GOREHIMU_UNSOUND = 2,           /* every verb but scan: the image is no sound station */
     GOREHIMU_TRANSACTION_ZERO = 3,  /* start, put, get, commit, step, abort: the transaction is 0 */
     GOREHIMU_KEY_RANGE = 4,         /* put, get: the key is above 63 */
@@ -99,13 +113,14 @@ enum gorehimu_refusal {
     GOREHIMU_NOT_CLOSING = 10,      /* step: the transaction is open */
     GOREHIMU_WRITES_FULL = 11,      /* put: the write set has 8 other keys */
     GOREHIMU_READS_FULL = 12,       /* get: a version would be answered, and the read set has 16 other keys */
-    GOREHIMU_SLOTS_FULL = 13,       /* commit: the write set is not empty, and no slot is free: collect one */
+    GOREHIMU_SLOTS_FULL = 13,       /* commit: the write set is not empty, and no slot is free: collect one, or sweep */
     GOREHIMU_NOT_HELD = 14,         /* collect: the slot is above 63, or holds no entry */
     GOREHIMU_NEWEST = 15,           /* collect: the entry is the newest for a key that it wrote */
     GOREHIMU_IS_READ = 16,          /* collect: a live transaction has read the entry */
     GOREHIMU_RECORD_CHANGED = 17,   /* get, collect: the record in the store is not the station's: the store was changed from outside */
     GOREHIMU_DAMAGED = 18,          /* scan: slot b, and none below it, breaks the format's rules or has the transaction of a lower slot */
-    GOREHIMU_MALFORMED = 19         /* no request: an unknown verb, or a byte that must be 0 is not */
+    GOREHIMU_MALFORMED = 19,        /* no request: an unknown verb, or a byte that must be 0 is not */
+    GOREHIMU_LIMIT_RANGE = 20       /* sweep: the limit is 0 or above 64 */
 };
 
 /* Each function returns 0; or 1, with nothing written, where a length is wrong: image_len must be GOREHIMU_IMAGE, a request
@@ -185,6 +200,21 @@ static inline struct gorehimu_answer gorehimu_ask(uint8_t *image, uint8_t *store
 /* Where record n of a slot begins in the store; GOREHIMU_STORE, its end, where there is no such record (slot above 63, n above 8). */
 static inline size_t gorehimu_record_place(uint64_t slot, uint64_t n) {
     return slot > 63 || n > 8 ? GOREHIMU_STORE : (size_t)(GOREHIMU_RECORD * (9 * slot + n));
+}
+
+/* The slot whose commit record is the next to bring to where the store lasts, after a sweep or a collect; 64 where there is none. lasting is the
+ * host's copy of what lasts, GOREHIMU_STORE bytes: of the slots that are committed there (mark 1) and free in the store (mark 0), the one of the
+ * oldest id, by clock and then transaction. */
+static inline uint64_t gorehimu_cleared(const uint8_t *store, const uint8_t *lasting) {
+    uint64_t oldest = 64, clock = 0, transaction = 0;
+    for (uint64_t slot = 0; slot < 64; slot++) {
+        const size_t place = gorehimu_record_place(slot, 0);
+        if (lasting[place] != 1 || store[place] != 0) continue;
+        const uint64_t c = gorehimu_number(lasting + place + 8, 8), t = gorehimu_number(lasting + place + 4, 4);
+        if (oldest < 64 && (c > clock || (c == clock && t > transaction))) continue;
+        oldest = slot, clock = c, transaction = t;
+    }
+    return oldest;
 }
 
 #ifdef __cplusplus

@@ -1,5 +1,5 @@
-//! The book of the scope document's cut rule, and the rule's check: pages, standing jobs and past jobs, fed each call with its answer. Written from
-//! that section's text alone.
+//! The book of the scope document's cut rule, and the rule's check: pages, standing jobs and past jobs, fed each call with its answer; a sweep is fed
+//! as its collects. Written from that section's text alone.
 
 use crate::model::*;
 use std::collections::BTreeMap;
@@ -24,7 +24,7 @@ pub struct Book {
     past: Vec<Job>,
 }
 
-/// A call with what it was handed: transaction, key or slot, value or clock.
+/// A call with what it was handed: transaction, key or slot, value, clock or limit.
 #[derive(Clone, Copy, Debug)]
 pub struct Call {
     pub verb: u8,
@@ -33,7 +33,19 @@ pub struct Call {
     pub number: u64,
 }
 
+/// The committed transactions that a scanned station holds, with the values in the store.
+fn jobs(station: &Station, store: &[u8]) -> Vec<Job> {
+    let value = |d: usize, n: usize| u64::from_le_bytes(store[d * SLOT + (n + 1) * RECORD + 16..][..8].try_into().unwrap());
+    station.held().map(|(d, e)| Job { id: e.id, values: e.keys().iter().enumerate().map(|(n, k)| (*k, value(d, n))).collect() }).collect()
+}
+
 impl Book {
+    /// A book that begins with what a store holds.
+    pub fn begun(store: &[u8]) -> Book {
+        let standing = jobs(&Station::scan(store).0, store);
+        Book { past: standing.clone(), standing, ..Book::default() }
+    }
+
     pub fn feed(&mut self, call: Call, answer: Answer) {
         match answer {
             Answer::Started => {
@@ -65,13 +77,7 @@ impl Book {
         if answer != Answer::Found(self.standing.len() as u8) {
             return Err(format!("the scan answers {answer:?}, {} jobs stand", self.standing.len()));
         }
-        let mut found: Vec<Job> = station
-            .held()
-            .map(|(d, e)| {
-                let value = |n: usize| u64::from_le_bytes(store[d * SLOT + (n + 1) * RECORD + 16..][..8].try_into().unwrap());
-                Job { id: e.id, values: e.keys().iter().enumerate().map(|(n, k)| (*k, value(n))).collect() }
-            })
-            .collect();
+        let mut found = jobs(&station, store);
         let mut standing = self.standing.clone();
         found.sort_by_key(|j| j.id);
         standing.sort_by_key(|j| j.id);

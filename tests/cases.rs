@@ -1,5 +1,5 @@
 //! What the program `cases` must write, worked out by the model: `cases INPUT` reads the program's input and prints its output.
-//! Each title ends in `=> ANSWER | ..`, written by hand from the scope document: the answers of the case's last lines. The model
+//! Each title ends in `=> ANSWER | ..`, written by hand from the scope document and the requests: the answers of the case's last lines. The model
 //! is held to them, a refused call to handing back what it was given, and all cases together to every refusal and every answer.
 #![allow(dead_code)]
 #[path = "model.rs"]
@@ -112,6 +112,10 @@ impl World {
             "<" => {
                 let (size, call) = rest.split_once(',').unwrap();
                 return Some(self.act(call, size.parse().unwrap()));
+            }
+            "^" => {
+                let [limit, size] = numbers(rest)[..] else { panic!("{line}") };
+                return Some(self.station.sweep(&mut self.bytes[..size as usize], limit));
             }
             _ => return Some(self.act(line, STORE)),
         }
@@ -247,6 +251,6 @@ fn main() {
         outcomes.push(outcome);
     }
     held(title, &outcomes);
-    assert!(refusals.into_iter().eq(1..=19), "a refusal is missing");
-    assert!(words.len() == 15, "an answer is missing");
+    assert!(refusals.into_iter().eq(1..=20), "a refusal is missing");
+    assert!(words.len() == 16, "an answer is missing");
 }

@@ -91,7 +91,7 @@ fn transaction(r: &mut Random, n: u64, keys: u64, out: &mut Vec<String>) {
 
 /// A line that is close to a right one.
 fn near(r: &mut Random) -> Vec<u8> {
-    let verb = r.of(&["start", "put", "get", "commit", "step", "abort", "collect", "cut", "scan", "", "putt", "PUT"]);
+    let verb = r.of(&["start", "put", "get", "commit", "step", "abort", "collect", "cut", "scan", "sweep", "", "putt", "PUT"]);
     let number = |r: &mut Random| if r.one_in(2) { edge(r) } else { r.below(4).to_string() };
     let (t, k, n) = (number(r), number(r), number(r));
     let mut line = format!("{verb},{t},{k},{n}").into_bytes();

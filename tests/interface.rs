@@ -1,7 +1,7 @@
-//! The proved library through its C interface, against the model in plain Rust: random call lists with cuts, retries, collections, full slots and
-//! places, equal and backward clocks and the greatest numbers; images and stores with bytes changed; wrong lengths, null pointers; batches. Answers,
-//! images and stores are compared byte for byte, and every undisturbed history is held to the cut rule after each call. Arguments: the first seed, how
-//! many histories.
+//! The proved library through its C interface, against the model in plain Rust: random call lists with cuts, retries, collections, sweeps, full slots
+//! and places, equal and backward clocks and the greatest numbers; images and stores with bytes changed; wrong lengths, null pointers; batches.
+//! Answers, images and stores are compared byte for byte, and every undisturbed history is held to the cut rule after each call, and after each record
+//! of a sweep. Arguments: the first seed, how many histories.
 
 mod book;
 mod model;
@@ -121,6 +121,16 @@ fn decode(b: &[u8]) -> Option<Station> {
 
 // ── requests and answers ──
 
+const SCAN: Call = Call { verb: 8, txn: 0, key: 0, number: 0 };
+
+fn collect(slot: usize) -> Call {
+    Call { verb: 7, txn: 0, key: slot as u8, number: 0 }
+}
+
+fn sweep(limit: u64) -> Call {
+    Call { verb: 9, txn: 0, key: 0, number: limit }
+}
+
 fn request(c: Call) -> [u8; REQUEST] {
     let mut r = [0; REQUEST];
     r[0] = c.verb;
@@ -131,7 +141,7 @@ fn request(c: Call) -> [u8; REQUEST] {
 }
 
 fn kind(a: Answer) -> u64 {
-    let words = ["started", "kept", "own", "version", "none", "nofit", "closing", "empty", "done", "stored", "slipped", "dropped", "collected", "found", "refused"];
+    let words = ["started", "kept", "own", "version", "none", "nofit", "closing", "empty", "done", "stored", "slipped", "dropped", "collected", "found", "refused", "swept"];
     words.iter().position(|w| *w == a.word()).unwrap() as u64 + 1
 }
 
@@ -149,6 +159,7 @@ fn well_formed(c: Call) -> bool {
         4 => c.key == 0,
         7 => c.txn == 0 && c.number == 0,
         8 => c.txn == 0 && c.key == 0 && c.number == 0,
+        9 => c.txn == 0 && c.key == 0,
         _ => false,
     }
 }
@@ -164,7 +175,7 @@ fn by_model(station: &mut Option<Station>, store: &mut [u8], c: Call) -> Answer 
         return a;
     }
     let Some(s) = station else {
-        let by_store = [3, 5, 7].contains(&c.verb);
+        let by_store = [3, 5, 7, 9].contains(&c.verb);
         return Answer::Refused(if by_store && store.len() != STORE { 1 } else { 2 }, 0);
     };
     match c.verb {
@@ -174,7 +185,8 @@ fn by_model(station: &mut Option<Station>, store: &mut [u8], c: Call) -> Answer 
         4 => s.commit(c.txn, c.number),
         5 => s.step(store, c.txn),
         6 => s.abort(c.txn),
-        _ => s.collect(store, c.key),
+        7 => s.collect(store, c.key),
+        _ => s.sweep(store, c.number),
     }
 }
 
@@ -204,7 +216,7 @@ impl Chance {
 struct Style {
     txns: u64,
     keys: u64,
-    weights: [u64; 8],
+    weights: [u64; 9],
     clocks: u64,
 }
 
@@ -212,10 +224,13 @@ fn style(r: &mut Chance) -> Style {
     let txns = [3, 12, 40, 200, 1000][r.below(5) as usize];
     let keys = [2, 4, 12, 40, 64][r.below(5) as usize];
     // in turn: of everything; writers that fill the slots; readers; writers with many keys; collectors
-    let weights = [[3, 8, 8, 4, 12, 1, 4, 0], [6, 6, 0, 6, 24, 0, 0, 0], [4, 3, 40, 2, 8, 0, 1, 0], [2, 30, 1, 1, 8, 0, 1, 0], [4, 4, 6, 4, 18, 1, 12, 0]][r.below(5) as usize];
+    let weights = [[3, 8, 8, 4, 12, 1, 4, 0, 0], [6, 6, 0, 6, 24, 0, 0, 0, 0], [4, 3, 40, 2, 8, 0, 1, 0, 0], [2, 30, 1, 1, 8, 0, 1, 0, 0], [4, 4, 6, 4, 18, 1, 12, 0, 0]][r.below(5) as usize];
     let mut weights = weights.map(|w: u64| if w == 0 { 0 } else { w + r.below(2) });
     if r.one_in(3) {
         weights[7] = 1;
+    }
+    if r.one_in(2) {
+        weights[8] = 1 + r.below(3);
     }
     Style { txns, keys, weights, clocks: [3, 50, u64::MAX][r.below(3) as usize] }
 }
@@ -271,13 +286,15 @@ fn call(r: &mut Chance, z: &Style, image: &[u8], time: u64) -> Call {
             let any = r.below(66) as u32;
             Call { verb, txn: 0, key: if r.one_in(50) { 200 } else { one_of(r, &held, any) as u8 }, number: 0 }
         }
-        8 => Call { verb, txn: 0, key: 0, number: 0 },
+        8 => SCAN,
+        9 => sweep([0, 1, 2, 3 + r.below(8), 64, 64, 65, u64::MAX][r.below(8) as usize]),
         _ => Call { verb, txn, key: 0, number: 0 },
     };
     match r.below(150) {
         0 => Call { number: c.number + 1 - c.number % 2, ..c },
-        1 => Call { verb: [0, 9, 255][r.below(3) as usize], ..c },
-        2 => Call { txn: 1, key: 1, ..c },
+        1 => Call { verb: [0, 10, 255][r.below(3) as usize], ..c },
+        2 => Call { txn: 1, ..c },
+        3 => Call { key: 1, ..c },
         _ => c,
     }
 }
@@ -366,15 +383,74 @@ impl Closings {
     }
 }
 
-/// One call by both; it wrote no byte but the record that its answer names, and the cut rule holds after it.
-fn checked(image: &mut Vec<u8>, store: &mut Vec<u8>, c: Call, book: &mut Book, closings: &mut Closings, seen: &mut Seen, what: &str) {
-    let before = store.clone();
-    let a = compare(image, store, &[c], seen, what)[0];
-    let (from, to) = closings.written(c, a).map_or((0, 0), |at| (at, at + RECORD));
-    assert!(before[..from] == store[..from] && before[to..] == store[to..], "{what}: {c:?}, answered {a:?}, wrote past its record");
+fn id_in(store: &[u8], slot: usize) -> Id {
+    let r = &store[slot * SLOT..][..RECORD];
+    Id { clock: u64::from_le_bytes(r[8..16].try_into().unwrap()), txn: u32::from_le_bytes(r[4..8].try_into().unwrap()) }
+}
+
+/// The slots that were cleared since a store was as it lasts, in the order in which the header has a host bring their commit records there.
+fn cleared(store: &[u8], lasting: &[u8]) -> Vec<usize> {
+    let mut slots: Vec<usize> = (0..SLOTS).filter(|d| lasting[d * SLOT] == 1 && store[d * SLOT] == 0).collect();
+    slots.sort_by_key(|d| id_in(lasting, *d));
+    slots
+}
+
+/// The book takes a call with its answer; the cut rule holds of the two.
+fn fed(book: &mut Book, c: Call, a: Answer, store: &[u8], what: &str) {
     book.feed(c, a);
     if let Err(e) = book.check(store) {
         panic!("{what}: the cut rule does not hold after {c:?}: {e}");
+    }
+}
+
+/// One call by both; it wrote no byte but the record that its answer names, and the cut rule holds after it. A sweep is held to its collects.
+fn checked(image: &mut Vec<u8>, store: &mut Vec<u8>, c: Call, book: &mut Book, closings: &mut Closings, seen: &mut Seen, what: &str) {
+    let before = (image.clone(), store.clone());
+    let a = compare(image, store, &[c], seen, what)[0];
+    if let Answer::Swept(count) = a {
+        let after = collects(before, store, count, book, seen, what);
+        assert!(after == (image.clone(), store.clone()), "{what}: {c:?} is not its collects");
+        return;
+    }
+    let (from, to) = closings.written(c, a).map_or((0, 0), |at| (at, at + RECORD));
+    assert!(before.1[..from] == store[..from] && before.1[to..] == store[to..], "{what}: {c:?}, answered {a:?}, wrote past its record");
+    fed(book, c, a, store, what);
+}
+
+/// A sweep's single collects, oldest id first, and what they leave. Power may go after each of its records: what lasts then is what so many collects
+/// leave, the cut rule holds of it, and the library recovers it.
+fn collects(before: (Vec<u8>, Vec<u8>), swept: &[u8], count: u8, book: &mut Book, seen: &mut Seen, what: &str) -> (Vec<u8>, Vec<u8>) {
+    let (mut image, mut store) = before;
+    let slots = cleared(swept, &store);
+    assert_eq!(slots.len(), usize::from(count), "{what}: the sweep's count is not that of the records it cleared");
+    for d in slots {
+        let mut lasting = store.clone();
+        lasting[d * SLOT..][..RECORD].copy_from_slice(&swept[d * SLOT..][..RECORD]);
+        let a = compare(&mut image, &mut store, &[collect(d)], seen, what)[0];
+        assert!(lasting == store, "{what}: a record of the sweep is not that of the collect of {d}");
+        fed(book, collect(d), a, &lasting, what);
+        compare(&mut vec![0xff; IMAGE], &mut lasting, &[SCAN], seen, what);
+    }
+    (image, store)
+}
+
+/// Sweeps of a copy: limits m and n leave what m + n leaves, and their counts add; a commit record that is changed ends a sweep when its turn comes.
+fn sweeps(r: &mut Chance, image: &[u8], store: &[u8], seen: &mut Seen, what: &str) {
+    let mut after = |store: &[u8], limits: &[u64]| {
+        let (mut image, mut store) = (image.to_vec(), store.to_vec());
+        let calls: Vec<Call> = limits.iter().map(|n| sweep(*n)).collect();
+        let count: u64 = compare(&mut image, &mut store, &calls, seen, what).iter().map(|a| a.values().0).sum();
+        (count, image, store)
+    };
+    let limit = |r: &mut Chance, most: u64| 1 + if r.one_in(2) { r.below(most) } else { r.below(most.min(4)) };
+    let m = limit(r, 63);
+    let n = limit(r, 64 - m);
+    assert!(after(store, &[m, n]) == after(store, &[m + n]), "{what}: sweeps of {m} and {n} are not one of {}", m + n);
+    let (_, _, swept) = after(store, &[64]);
+    for (turn, d) in cleared(&swept, store).into_iter().enumerate().take(2) {
+        let mut damaged = store.to_vec();
+        damaged[d * SLOT + r.below(RECORD as u64) as usize] ^= 1 + r.below(255) as u8;
+        assert_eq!(after(&damaged, &[64]).0, turn as u64, "{what}: the damaged record of {d} did not end the sweep");
     }
 }
 
@@ -388,7 +464,6 @@ fn history(seed: u64, seen: &mut Seen) {
     assert!(image == encode(&Station::empty()), "the empty image");
     let mut store = vec![0; STORE];
     let (mut book, mut closings) = (Book::default(), Closings::default());
-    let scan = Call { verb: 8, txn: 0, key: 0, number: 0 };
     for time in 100..300 {
         let calls: Vec<Call> = if time == 100 { whole(&mut r) } else { (0..1 + r.below(8)).map(|_| call(&mut r, &z, &image, time)).collect() };
         let what = format!("seed {seed}, time {time}");
@@ -400,14 +475,25 @@ fn history(seed: u64, seen: &mut Seen) {
         compare(&mut batch_image, &mut batch_store, &calls, seen, &what);
         assert!(batch_image == image && batch_store == store, "{what}: a batch is not its calls one by one");
         if r.one_in(25) {
-            // power goes: the image is lost, whatever it is after that
+            // power goes, at times in the middle of a sweep: the image is lost, whatever it is after that
+            if r.one_in(2) {
+                let (mut swept_image, mut swept) = (image.clone(), store.clone());
+                compare(&mut swept_image, &mut swept, &[sweep(64)], seen, &what);
+                let slots = cleared(&swept, &store);
+                for d in slots.iter().take(r.below(slots.len() as u64 + 1) as usize) {
+                    let id = id_in(&store, *d);
+                    store[d * SLOT..][..RECORD].fill(0);
+                    fed(&mut book, collect(*d), Answer::Collected(id), &store, &what);
+                }
+            }
             for b in image.iter_mut() {
                 *b = r.next() as u8;
             }
-            checked(&mut image, &mut store, scan, &mut book, &mut closings, seen, &what);
+            checked(&mut image, &mut store, SCAN, &mut book, &mut closings, seen, &what);
         }
         if r.one_in(8) {
             disturb(&mut r, &z, &image, &store, seen, &what);
+            sweeps(&mut r, &image, &store, seen, &what);
         }
     }
 }
@@ -432,10 +518,12 @@ fn disturb(r: &mut Chance, z: &Style, image: &[u8], store: &[u8], seen: &mut See
         let calls: Vec<Call> = (0..1 + r.below(3)).map(|_| call(r, z, &image, 7)).collect();
         compare(&mut image, &mut store, &calls, seen, what);
     }
-    compare(&mut image, &mut store, &[Call { verb: 8, txn: 0, key: 0, number: 0 }], seen, what);
+    compare(&mut image, &mut store, &[sweep(64)], seen, what);
+    compare(&mut image, &mut store, &[SCAN], seen, what);
 }
 
-/// A sound station that no history makes: any entries, and read sets that need not be atomic, so that the lower bound decides too.
+/// A sound station that no history makes: any entries, and read sets that need not be atomic, so that the lower bound decides too. Neither clocks nor
+/// numbers go by the slots.
 fn made_up(seed: u64, seen: &mut Seen) {
     let mut r = Chance(seed);
     let mut station = Station::empty();
@@ -448,7 +536,7 @@ fn made_up(seed: u64, seen: &mut Seen) {
         let mut list: Vec<u8> = (0..1 + r.below(8)).map(|_| r.below(keys) as u8).collect();
         list.sort_unstable();
         list.dedup();
-        let mut e = Entry { id: Id { clock: 1 + r.below(clocks), txn: 1 + d as u32 * 3 + r.below(3) as u32 }, count: list.len() as u8, ..Entry::default() };
+        let mut e = Entry { id: Id { clock: 1 + r.below(clocks), txn: 1 + d as u32 * 37 % 64 * 3 + r.below(3) as u32 }, count: list.len() as u8, ..Entry::default() };
         e.keys[..list.len()].copy_from_slice(&list);
         store[d * SLOT..][..RECORD].copy_from_slice(&commit_record(&e));
         for (n, k) in list.iter().enumerate() {
@@ -470,14 +558,20 @@ fn made_up(seed: u64, seen: &mut Seen) {
     }
     assert!(station.sound(), "seed {seed}: the made-up station is not sound");
     let image = encode(&station);
+    let what = format!("made up, seed {seed}");
     for txn in 1000..1008 {
         for key in 0..keys as u8 {
-            compare(&mut image.clone(), &mut store.clone(), &[Call { verb: 3, txn, key, number: 0 }], seen, &format!("made up, seed {seed}"));
+            compare(&mut image.clone(), &mut store.clone(), &[Call { verb: 3, txn, key, number: 0 }], seen, &what);
         }
     }
     for d in 0..64 {
-        compare(&mut image.clone(), &mut store.clone(), &[Call { verb: 7, txn: 0, key: d, number: 0 }], seen, &format!("made up, seed {seed}"));
+        compare(&mut image.clone(), &mut store.clone(), &[collect(d)], seen, &what);
     }
+    for limit in [0, 1, 2 + r.below(62), 64, 65, u64::MAX] {
+        let (mut book, mut closings) = (Book::begun(&store), Closings::default());
+        checked(&mut image.clone(), &mut store.clone(), sweep(limit), &mut book, &mut closings, seen, &what);
+    }
+    sweeps(&mut r, &image, &store, seen, &what);
 }
 
 /// Every field of every part of a busy station changed, and every byte of one slot.
@@ -506,8 +600,13 @@ fn every_byte(seen: &mut Seen) {
     calls.push(c(4, 21, 0, 50));
     calls.push(c(4, 22, 0, 51));
     calls.push(c(5, 22, 0, 0));
+    // the first four are superseded, and the fourth has been read; transaction 20 still reads key 1 of the first
+    calls.push(c(1, 30, 0, 0));
+    calls.extend((1..5).map(|k| c(2, 30, k, 300)));
+    calls.push(c(4, 30, 0, 30));
+    calls.extend((0..6).map(|_| c(5, 30, 0, 0)));
     compare(&mut image, &mut store, &calls, seen, "a busy station");
-    let tries = [c(1, 77, 0, 0), c(2, 20, 1, 9), c(3, 20, 5, 0), c(5, 22, 0, 0), c(7, 0, 63, 0), c(7, 0, 62, 0)];
+    let tries = [c(1, 77, 0, 0), c(2, 20, 1, 9), c(3, 20, 5, 0), c(5, 22, 0, 0), collect(63), collect(60), sweep(1), sweep(64)];
     for at in 0..IMAGE {
         for value in (0..10).chain([63, 64, 255]) {
             let (mut i, mut s) = (image.clone(), store.clone());
@@ -519,7 +618,9 @@ fn every_byte(seen: &mut Seen) {
         for value in 0..=255 {
             let (mut i, mut s) = (image.clone(), store.clone());
             s[at] = value;
-            compare(&mut i, &mut s, &[c(3, 20, 1, 0), c(7, 0, 63, 0), c(8, 0, 0, 0)], seen, &format!("store byte {at} is {value}"));
+            let what = format!("store byte {at} is {value}");
+            compare(&mut i.clone(), &mut s.clone(), &[sweep(2), collect(63), SCAN], seen, &what);
+            compare(&mut i, &mut s, &[c(3, 20, 1, 0), collect(63), SCAN], seen, &what);
         }
     }
 }
@@ -554,7 +655,7 @@ fn wrong_lengths() {
 fn nulls() {
     use std::ptr::{null, null_mut};
     let station = encode(&Station::empty());
-    let (mut image, mut store, mut out) = (station.clone(), vec![0; STORE], vec![0xaa; 2 * ANSWER]);
+    let (mut image, mut store, mut out) = (station.clone(), vec![0; STORE], vec![0xaa; 3 * ANSWER]);
     let c = |verb, txn| Call { verb, txn, key: 0, number: 0 };
     unsafe {
         assert_eq!(gorehimu_run(image.as_mut_ptr(), IMAGE, store.as_mut_ptr(), STORE, null(), 0, null_mut(), 0), 0, "no requests");
@@ -565,9 +666,9 @@ fn nulls() {
         assert_eq!(gorehimu_recover(image.as_mut_ptr(), IMAGE, store.as_ptr(), STORE, null_mut(), 0), 1, "no answer to recover to");
         assert!(image == station && store.iter().all(|b| *b == 0), "something was written");
 
-        let requests = [request(c(1, 7)), request(c(5, 7))].concat();
+        let requests = [request(c(1, 7)), request(c(5, 7)), request(sweep(0))].concat();
         assert_eq!(gorehimu_run(image.as_mut_ptr(), IMAGE, null_mut(), 0, requests.as_ptr(), requests.len(), out.as_mut_ptr(), out.len()), 0, "a run, no store");
-        assert!(out == [answer(Answer::Started), answer(Answer::Refused(1, 0))].concat(), "a run with no store: start and step");
+        assert!(out == [answer(Answer::Started), answer(Answer::Refused(1, 0)), answer(Answer::Refused(1, 0))].concat(), "a run with no store: start, step, sweep");
         assert_eq!(gorehimu_call(image.as_mut_ptr(), IMAGE, null_mut(), 0, request(c(6, 7)).as_ptr(), REQUEST, out.as_mut_ptr(), ANSWER), 0, "a call, no store");
         assert!(out[..ANSWER] == answer(Answer::Dropped) && image == station, "a call with no store: abort");
         assert_eq!(gorehimu_recover(image.as_mut_ptr(), IMAGE, null(), 0, out.as_mut_ptr(), ANSWER), 0, "a recovery, no store");
@@ -587,8 +688,8 @@ fn main() {
         made_up(seed, &mut seen);
     }
     if count >= 300 {
-        assert_eq!(seen.words.len(), 15, "an answer never came up: {:?}", seen.words);
-        for n in 1..=19 {
+        assert_eq!(seen.words.len(), 16, "an answer never came up: {:?}", seen.words);
+        for n in 1..=20 {
             assert!(seen.refusals.contains_key(&n), "refusal {n} never came up: {:?}", seen.refusals);
         }
     }

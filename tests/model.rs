@@ -1,4 +1,4 @@
-//! The scope document in plain Rust: written from its text alone, sharing no source with the store that is proved.
+//! The scope document and the requests in plain Rust: written from their text alone, sharing no source with the store that is proved.
 //! The tests compare the two; the benchmarks use it as the idiomatic Rust version with the same checks.
 
 pub const LIVE: usize = 8;
@@ -76,6 +76,7 @@ pub enum Answer {
     Collected(Id),
     Found(u8),
     Refused(u8, u8),
+    Swept(u8),
 }
 
 fn refused(number: u8) -> Answer {
@@ -473,19 +474,53 @@ impl Station {
         if d >= SLOTS || self.entries[d].id.txn == 0 {
             return refused(14);
         }
-        let e = self.entries[d];
+        if let Some(r) = self.must_stay(&self.entries[d]) {
+            return r;
+        }
+        self.clear(store, d)
+    }
+
+    /// Why an entry may not be collected: the newest of some key it wrote, or a live transaction read it.
+    fn must_stay(&self, e: &Entry) -> Option<Answer> {
         if !e.keys().iter().all(|k| self.held().any(|(_, f)| f.id > e.id && f.wrote(*k))) {
-            return refused(15);
+            return Some(refused(15));
         }
         if self.live.iter().any(|l| l.reads().iter().any(|r| r.id == e.id)) {
-            return refused(16);
+            return Some(refused(16));
         }
+        None
+    }
+
+    /// Collects an entry that may be collected, where its commit record is the entry's.
+    fn clear(&mut self, store: &mut [u8], d: usize) -> Answer {
+        let e = self.entries[d];
         if *record(store, d, 0) != commit_record(&e) {
             return refused(17);
         }
         write(store, d, 0, &[0; RECORD]);
         self.entries[d] = Entry::default();
         Answer::Collected(e.id)
+    }
+
+    /// "It collects the oldest id it may, looks again, and stops at the limit or when it may collect none." What 17 names "ends the sweep".
+    pub fn sweep(&mut self, store: &mut [u8], limit: u64) -> Answer {
+        if store.len() != STORE {
+            return refused(1);
+        }
+        if !self.sound() {
+            return refused(2);
+        }
+        if limit == 0 || limit > 64 {
+            return refused(20);
+        }
+        let mut count = 0;
+        while u64::from(count) < limit {
+            let oldest = self.held().filter(|(_, e)| self.must_stay(e).is_none()).min_by_key(|(_, e)| e.id).map(|(d, _)| d);
+            let Some(d) = oldest else { break };
+            let Answer::Collected(_) = self.clear(store, d) else { break };
+            count += 1;
+        }
+        Answer::Swept(count)
     }
 
     /// A refused scan hands back the empty station.
@@ -524,6 +559,7 @@ impl Answer {
             Answer::Collected(_) => "collected",
             Answer::Found(_) => "found",
             Answer::Refused(..) => "refused",
+            Answer::Swept(_) => "swept",
         }
     }
 
@@ -535,7 +571,7 @@ impl Answer {
             Answer::Closing(d) | Answer::Slipped(d) => (d.into(), 0, 0),
             Answer::Done(id) | Answer::Collected(id) => (0, id.clock, id.txn.into()),
             Answer::Nofit(k) | Answer::Stored(k) => (k.into(), 0, 0),
-            Answer::Found(n) => (n.into(), 0, 0),
+            Answer::Found(n) | Answer::Swept(n) => (n.into(), 0, 0),
             Answer::Refused(n, d) => (n.into(), d.into(), 0),
             _ => (0, 0, 0),
         }

@@ -127,6 +127,8 @@ pub enum Request {
     Collect(u8),
     /// Drops the station and reads it off the store.
     Scan,
+    /// Collects the oldest entries that may be collected, at most so many (1 to 64).
+    Sweep(u64),
 }
 
 impl Request {
@@ -141,6 +143,7 @@ impl Request {
             Request::Abort(t) => (6, t, 0, 0),
             Request::Collect(d) => (7, 0, d, 0),
             Request::Scan => (8, 0, 0, 0),
+            Request::Sweep(n) => (9, 0, 0, n),
         };
         let mut r = [0; REQUEST];
         r[0] = verb;
@@ -202,11 +205,14 @@ pub enum Answer {
     Found(u8),
     /// Nothing was done, but that a refused scan leaves the empty station. [`Answer::refusal`] says why.
     Refused {
-        /// 1 to 19, the number of a [`Refusal`].
+        /// 1 to 20, the number of a [`Refusal`].
         number: u8,
         /// The slot that is damaged, with 18.
         slot: u8,
     },
+    /// So many entries are gone, their slots free: record 0 of each was written, oldest id first; [`Desk::cleared`] tells which. The limit or fewer: no
+    /// other may be collected, or the commit record of the next is not the station's (a collect of it is refused with 17).
+    Swept(u8),
 }
 
 /// Why a request is refused, with its number. [`Refusal::Malformed`] comes before all others; of the rest, where several apply, the lowest.
@@ -222,7 +228,7 @@ pub enum Answer {
 #[derive(Clone, Copy, Debug, PartialEq, Eq)]
 #[repr(u8)]
 pub enum Refusal {
-    /// Get, step, collect, scan: the store has not [`STORE`] bytes.
+    /// Get, step, collect, sweep, scan: the store has not [`STORE`] bytes.
     StoreLength = 1,
     /// Every request but scan: the image is no sound station.
     Unsound = 2,
@@ -246,7 +252,7 @@ pub enum Refusal {
     WritesFull = 11,
     /// Get: a version would be answered, and the read set has 16 other keys.
     ReadsFull = 12,
-    /// Commit: the write set is not empty, and no slot is free: collect one.
+    /// Commit: the write set is not empty, and no slot is free: collect one, or sweep.
     SlotsFull = 13,
     /// Collect: the slot is above 63, or holds no entry.
     NotHeld = 14,
@@ -260,11 +266,13 @@ pub enum Refusal {
     Damaged = 18,
     /// No request: an unknown verb, or a byte that must be 0 is not.
     Malformed = 19,
+    /// Sweep: the limit is 0 or above 64.
+    LimitRange = 20,
 }
 
 impl Refusal {
     /// All of them, by number from 1.
-    pub const ALL: [Refusal; 19] = [
+    pub const ALL: [Refusal; 20] = [
         Refusal::StoreLength,
         Refusal::Unsound,
         Refusal::TransactionZero,
@@ -284,15 +292,17 @@ impl Refusal {
         Refusal::RecordChanged,
         Refusal::Damaged,
         Refusal::Malformed,
+        Refusal::LimitRange,
     ];
 
-    /// The refusal of a number; none where it is not 1 to 19.
+    /// The refusal of a number; none where it is not 1 to 20.
     ///
     /// ```
     /// use gorehimu::Refusal;
     ///
     /// assert!(Refusal::ALL.iter().all(|r| Refusal::numbered(*r as u8) == Some(*r)));
-    /// assert_eq!((Refusal::numbered(0), Refusal::numbered(20)), (None, None));
+    /// assert_eq!(Refusal::numbered(20), Some(Refusal::LimitRange));
+    /// assert_eq!((Refusal::numbered(0), Refusal::numbered(21)), (None, None));
     /// ```
     pub fn numbered(number: u8) -> Option<Refusal> {
         Refusal::ALL.into_iter().find(|r| *r as u8 == number)
@@ -329,14 +339,15 @@ impl Answer {
             13 => Answer::Collected { clock: field(2), transaction: transaction() },
             14 => Answer::Found(small(1)),
             15 => Answer::Refused { number: small(1), slot: small(2) },
-            _ => unreachable!("the library writes kinds 1 to 15"),
+            16 => Answer::Swept(small(1)),
+            _ => unreachable!("the library writes kinds 1 to 16"),
         }
     }
 }
 
 /// A station and its store. When power goes, both are lost but for what was brought to where it lasts: after every request that wrote a record
-/// (answers stored, slipped and collected say which) and before the next, bring that record there, whole ([`Desk::record`]); so let a request that
-/// writes one be the last of its [`Desk::run`]. Start again with [`Desk::recover`].
+/// (answers stored, slipped, collected and swept say which) and before the next, bring that record there, whole ([`Desk::record`]); so let a request
+/// that writes one be the last of its [`Desk::run`]. A sweep may write several: [`Desk::cleared`]. Start again with [`Desk::recover`].
 ///
 /// ```
 /// use gorehimu::{record_place, Answer, Desk, RECORD, STORE};
@@ -401,6 +412,47 @@ impl Desk {
         record_place(slot, n).map(|place| &self.store[place..place + RECORD])
     }
 
+    /// The slot whose commit record is the next to bring to where the store lasts, after a sweep or a collect; none where there is none. `lasting` is
+    /// the host's copy of what lasts: of the slots that are committed there (mark 1) and free in the store (mark 0), the one of the oldest id, by
+    /// clock and then transaction.
+    ///
+    /// Either sweep with limit 1 again and again until [`Answer::Swept`] of 0, and bring the one record after each; or sweep with any limit, and then
+    /// bring the records one at a time, oldest id first. Where power goes between two of them, the sweep's first few collects are done and the rest
+    /// not begun: nothing is lost after any of them, by the same theorem as after any other request.
+    ///
+    /// ```
+    /// use gorehimu::{record_place, Answer, Desk, RECORD};
+    ///
+    /// let mut desk = Desk::new();
+    /// for (t, clock) in [(5, 200), (9, 300), (6, 100), (7, 100)] {
+    ///     desk.start(t);
+    ///     desk.put(t, 0, 400);
+    ///     desk.commit(t, clock);
+    ///     while !matches!(desk.step(t), Answer::Done { .. }) {}
+    /// }
+    /// let mut disk = Box::new(*desk.store());
+    /// assert_eq!(desk.sweep(64), Answer::Swept(3));
+    /// let mut brought = Vec::new();
+    /// while let Some(slot) = desk.cleared(&disk) {
+    ///     let place = record_place(slot, 0).unwrap();
+    ///     disk[place..place + RECORD].copy_from_slice(desk.record(slot, 0).unwrap());
+    ///     brought.push(slot);
+    ///     // power may go here
+    ///     let left = 4 - brought.len() as u8;
+    ///     assert_eq!(Desk::recover(disk.clone()).1, Answer::Found(left));
+    /// }
+    /// assert_eq!(brought, [61, 60, 63]);
+    /// assert_eq!(desk.store(), &*disk);
+    /// ```
+    pub fn cleared(&self, lasting: &[u8; STORE]) -> Option<u8> {
+        let commit = |slot: u8| &lasting[record_place(slot, 0).unwrap()..][..RECORD];
+        let id = |slot: u8| {
+            let record = commit(slot);
+            (u64::from_le_bytes(record[8..16].try_into().unwrap()), u32::from_le_bytes(record[4..8].try_into().unwrap()))
+        };
+        (0..64).filter(|slot| commit(*slot)[0] == 1 && self.record(*slot, 0).unwrap()[0] == 0).min_by_key(|slot| id(*slot))
+    }
+
     /// The store's bytes alone: what is left when power goes.
     pub fn into_store(self) -> Box<[u8; STORE]> {
         self.store
@@ -454,5 +506,27 @@ impl Desk {
     /// [`Request::Collect`]
     pub fn collect(&mut self, slot: u8) -> Answer {
         self.call(Request::Collect(slot))
+    }
+
+    /// [`Request::Sweep`]
+    ///
+    /// ```
+    /// use gorehimu::{Answer, Desk, Refusal};
+    ///
+    /// let mut desk = Desk::new();
+    /// for t in 1..=4 {
+    ///     desk.start(t);
+    ///     desk.put(t, 0, 400);
+    ///     desk.commit(t, 100);
+    ///     while !matches!(desk.step(t), Answer::Done { .. }) {}
+    /// }
+    /// assert_eq!(desk.sweep(2), Answer::Swept(2));
+    /// assert_eq!(desk.sweep(64), Answer::Swept(1));
+    /// assert_eq!(desk.sweep(64), Answer::Swept(0));
+    /// assert_eq!(desk.sweep(0).refusal(), Some(Refusal::LimitRange));
+    /// assert_eq!(desk.sweep(65).refusal(), Some(Refusal::LimitRange));
+    /// ```
+    pub fn sweep(&mut self, limit: u64) -> Answer {
+        self.call(Request::Sweep(limit))
     }
 }

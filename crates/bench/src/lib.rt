@@ -18,6 +18,7 @@ use calls::put;
 use calls::scan;
 use calls::start;
 use calls::step;
+use calls::sweep;
 use desk::Request;
 use desk::act;
 use sheet::Command;
@@ -128,6 +129,7 @@ fn code(a: Answer) -> u64
         Answer::Collected(_) => 8,
         Answer::Found(n) => n as u64 + 21,
         Answer::Refused(n, _) => n as u64 + 100000,
+        Answer::Swept(n) => n as u64 + 23,
     }
 }
 
@@ -344,6 +346,67 @@ pub extern "C" fn bench_scan(store: &[u8], rounds: u64) -> u64 {
         let a = o.answer;
         last = code(a);
         i += 1;
+    }
+    last
+}
+
+// ---- clearing: over a store of its own each round, one after the other in what is lent
+// A sweep of the station.
+#[no_mangle]
+pub extern "C" fn bench_sweep(
+    stores: &mut [u8],
+    entries: u8,
+    lives: u8,
+    reads: u8,
+    base: u8,
+    limit: u64,
+) -> u64 {
+    let s = station(entries, lives, reads, base);
+    let mut last = 0;
+    let mut at: usize = 0;
+    while stores.len() - at >= Station::STORE {
+        let end = at + Station::STORE;
+        let o = sweep(s, &mut stores[at..end], limit);
+        let a = o.answer;
+        last = code(a);
+        at = end;
+    }
+    last
+}
+
+// Single collects, from a slot on: the last answer.
+fn collects(station: Station, store: &mut [u8], first: u8, limit: u8) -> u64 {
+    let mut s = station;
+    let mut last = 0;
+    let mut i: u8 = 0;
+    while i < limit {
+        let o = collect(s, store, first % 64 + i % 64);
+        let next = o.station;
+        s = next;
+        let a = o.answer;
+        last = code(a);
+        i += 1;
+    }
+    last
+}
+
+#[no_mangle]
+pub extern "C" fn bench_collects(
+    stores: &mut [u8],
+    entries: u8,
+    lives: u8,
+    reads: u8,
+    base: u8,
+    first: u8,
+    limit: u8,
+) -> u64 {
+    let s = station(entries, lives, reads, base);
+    let mut last = 0;
+    let mut at: usize = 0;
+    while stores.len() - at >= Station::STORE {
+        let end = at + Station::STORE;
+        last = collects(s, &mut stores[at..end], first, limit);
+        at = end;
     }
     last
 }

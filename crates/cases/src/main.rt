@@ -4,6 +4,7 @@
 //   % TITLE                              a case, from the busy station that the lines before the first such title make
 //   verb,txn,key,number                  a line of a run sheet
 //   <LENGTH,verb,txn,key,number          the same with LENGTH bytes of store
+//   ^LIMIT,LENGTH                        a sweep, which a sheet has no verb for, with LENGTH bytes of store
 //   *TXN,KEY,NUMBER                      a whole transaction: NUMBER put under KEY and committed at the clock NUMBER
 //   !slot SLOT,byte AT,BYTE              a byte of a slot is changed
 //   ~FIELD name,place PLACE,POSITION,VALUE   a field of the station is changed; crate edits numbers the fields
@@ -19,6 +20,7 @@ use calls::put;
 use calls::scan;
 use calls::start;
 use calls::step;
+use calls::sweep;
 use decimal::field_end;
 use edits::low8;
 use edits::low32;
@@ -204,8 +206,7 @@ fn malformed(station: Station) -> Outcome {
 }
 
 // The public calls themselves, for any station.
-fn acted(station: Station, store: &mut [u8], line: &[u8]) -> Outcome {
-    let command = sheet::parse_line(line);
+fn acted(station: Station, store: &mut [u8], command: Command) -> Outcome {
     match command {
         Command::Start(txn) => start(station, txn),
         Command::Put(txn, key, value) => put(station, txn, key, value),
@@ -216,6 +217,7 @@ fn acted(station: Station, store: &mut [u8], line: &[u8]) -> Outcome {
         Command::Collect(slot) => collect(station, store, slot),
         Command::Cut => scan(store),
         Command::Malformed => malformed(station),
+        Command::Sweep(limit) => sweep(station, store, limit),
     }
 }
 
@@ -247,13 +249,13 @@ fn act_edit(station: Station, line: &[u8], is_quiet: bool) -> Station {
     after
 }
 
-// A sheet's line with this much of the store.
+// A command with this much of the store.
 fn act(
     station: Station,
     bytes: &mut [u8],
     copy: &mut [u8],
-    shown: &[u8],
     line: &[u8],
+    command: Command,
     size: usize,
     is_quiet: bool,
 ) -> Station {
@@ -261,9 +263,9 @@ fn act(
         return station;
     }
     copy_over(copy, bytes);
-    let o = acted(station, &mut bytes[..size], line);
+    let o = acted(station, &mut bytes[..size], command);
     let is_kept = same_bytes(bytes, copy);
-    report(shown, station, o, is_kept, is_quiet)
+    report(line, station, o, is_kept, is_quiet)
 }
 
 // A sheet's line with as much of the store as its first field says.
@@ -279,7 +281,21 @@ fn act_short(
     if at >= line.len() {
         return station;
     }
-    act(station, bytes, copy, line, &line[at + 1..], size, is_quiet)
+    let command = sheet::parse_line(&line[at + 1..]);
+    act(station, bytes, copy, line, command, size, is_quiet)
+}
+
+// A sweep with its first field's limit and as much of the store as its second says.
+fn act_sweep(
+    station: Station,
+    bytes: &mut [u8],
+    copy: &mut [u8],
+    line: &[u8],
+    is_quiet: bool,
+) -> Station {
+    let limit = number_in(line, 0);
+    let size = index(number_in(line, 1));
+    act(station, bytes, copy, line, Command::Sweep(limit), size, is_quiet)
 }
 
 // Three steps: one key's version record, the commit record, the entry.
@@ -357,7 +373,11 @@ fn carried_out(
     if kind == b'<' {
         return act_short(station, bytes, copy, line, is_quiet);
     }
-    act(station, bytes, copy, line, line, Station::STORE, is_quiet)
+    if kind == b'^' {
+        return act_sweep(station, bytes, copy, line, is_quiet);
+    }
+    let command = sheet::parse_line(line);
+    act(station, bytes, copy, line, command, Station::STORE, is_quiet)
 }
 
 // The busy station and its store.

@@ -15,7 +15,7 @@ slice-relend-prefix-acted : tie.Need-slice-relend-prefix-acted
 slice-relend-prefix-acted c = search needs
 
 slice-aggregate-acted : tie.Need-slice-aggregate-acted
-slice-aggregate-acted c = let x = c .before .before .before .before .before .before .before .before .before .before .before .args in sym (length-take-le (x .size) (x .bytes .now) (omega arith))
+slice-aggregate-acted c = let x = c .before .before .before .before .before .before .before .before .before .before .args in sym (length-take-le (x .size) (x .bytes .now) (omega arith))
 
 acted-requires : tie.Need-acted-requires
 acted-requires c κs = search needs
