@@ -295,7 +295,15 @@ fn act_sweep(
 ) -> Station {
     let limit = number_in(line, 0);
     let size = index(number_in(line, 1));
-    act(station, bytes, copy, line, Command::Sweep(limit), size, is_quiet)
+    act(
+        station,
+        bytes,
+        copy,
+        line,
+        Command::Sweep(limit),
+        size,
+        is_quiet,
+    )
 }
 
 // Three steps: one key's version record, the commit record, the entry.
@@ -377,7 +385,15 @@ fn carried_out(
         return act_sweep(station, bytes, copy, line, is_quiet);
     }
     let command = sheet::parse_line(line);
-    act(station, bytes, copy, line, command, Station::STORE, is_quiet)
+    act(
+        station,
+        bytes,
+        copy,
+        line,
+        command,
+        Station::STORE,
+        is_quiet,
+    )
 }
 
 // The busy station and its store.

@@ -2,7 +2,7 @@
 use Prim.Native.Nat.{ℕ, _<_}
 use mathlib.Core.Path.{_≡_, refl, sym, ap, subst, _∙_}
 use mathlib.Core.Logic.{_≢_}
-use mathlib.Core.Bool.{true, false, false≢true}
+use mathlib.Core.Bool.{true, false≢true}
 use mathlib.Core.List.{List, List·Memᴰ}
 use lib.Dec.{eqb}
 use lib.ListN.{length}
@@ -13,7 +13,7 @@ use Rattle.model.specs.declared.Live.{Live}
 use Rattle.model.specs.declared.Entry.{Entry}
 use Rattle.model.specs.declared.Station.{Station}
 use Rattle.model.specs.declared.Phase.the-variants.{Closing}
-use Rattle.model.specs.Lists.{_and_, any, first, member}
+use Rattle.model.specs.Lists.{_and_, first}
 use Rattle.model.specs.Limits.{slots, width}
 use Rattle.model.specs.Ids.{older}
 use Rattle.model.specs.Entries.{noEntry, keysOf, wrote, wroteAs}
@@ -27,6 +27,7 @@ use Rattle.model.specs.Calls.{Collect}
 use Rattle.model.proofs.Tests.{and-left, and-right, or-left, or-right}
 use Rattle.model.proofs.ListLaws.{all-at, any-finds, member-finds}
 use Rattle.model.proofs.ReadingLaws.{wrote-as, as-wrote}
+use Rattle.model.proofs.InsideLaws.{noEntry-wrote}
 use Rattle.model.proofs.StationLaws.{entry-get, held-txn, setEntry-at, entryAt-same, entryAt-other, setEntry-live, setEntry-length}
 use Rattle.model.proofs.SoundLaws.{write-limit}
 use Rattle.model.proofs.SoundFacts.{wrote-held, closing-facts}
@@ -38,10 +39,6 @@ use Rattle.history.proofs.Striking.{cleared-frame, cleared-other, clear
 use Rattle.history.proofs.DraftLaws.{drafts-cast}
 use Rattle.history.proofs.CommittedLaws.{stands, wrote-committed, committed-id}
 use Rattle.history.proofs.SlotOwners.{prepared-frame}
-
-noEntry-wrote : (k : ℕ) → wrote noEntry k ≡ false
-unfolding wrote keysOf member any
-noEntry-wrote k = refl
 
 -- what supersedence says: for each key a newer entry that wrote it
 newer-entry : (st : Station) (e : Entry) → superseded (st .entries) e ≡ true → (k : ℕ) → wrote e k ≡ true

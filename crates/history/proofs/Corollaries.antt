@@ -1,11 +1,13 @@
 -- What the cut rule comes to, in the paper's words.
-use Prim.Native.Nat.{ℕ, _<_}
+use Prim.Native.Nat.{ℕ, _<_, _≤_}
 use mathlib.Core.Path.{_≡_, refl, sym, ap, subst, _∙_}
-use mathlib.Core.Logic.{_≢_, ⊎-elim}
-use mathlib.Core.Bool.{Bool, true, false, cond, false≢true}
+use mathlib.Core.Logic.{_≢_, _⊎_, inl, inr, ⊎-elim}
+use mathlib.Core.Bool.{Bool, true, false, cond, true≢false, false≢true}
 use mathlib.Core.List.{List, [], _∷_, _++_, List·Memᴰ, Memᴰ·append-right}
 use mathlib.Core.Option.{Option, some, none}
 use lib.Dec.{eqb, ltb}
+use lib.ListN.{length}
+use native.Mathlib.Nat.{lt-irrefl}
 use native.Mathlib.Omega.{arith}
 use borrow.Author.Tests.{ltb-false, eqb-false, not-false}
 use Rattle.model.specs.declared.Id.{Id}
@@ -16,29 +18,34 @@ use Rattle.model.specs.declared.Phase.{Phase}
 use Rattle.model.specs.declared.Phase.the-variants.{Unused, Open, Closing}
 use Rattle.model.specs.declared.Answer.{Answer}
 use Rattle.model.specs.declared.Answer.the-variants as A
-use Rattle.model.specs.Lists.{all}
-use Rattle.model.specs.Limits.{slots}
+use Rattle.model.specs.Lists.{all, any, member}
+use Rattle.model.specs.Limits.{slots, sweepLimit}
 use Rattle.model.specs.Ids.{older}
 use Rattle.model.specs.Lives.{isClosing, closingSlot, recordsStored}
 use Rattle.model.specs.Entries.{entryFor}
 use Rattle.model.specs.Stations.{liveAt, entryAt, isHeld, placeOf, slotOf}
-use Rattle.model.specs.Effects.{Effect, says, saysStoring}
+use Rattle.model.specs.Sound.{sound}
+use Rattle.model.specs.Effects.{Effect, stored, says, saysStoring}
 use Rattle.model.specs.Get.{versionAt}
 use Rattle.model.specs.Commit.{commit}
 use Rattle.model.specs.Step.{stepped, step}
-use Rattle.model.specs.Calls.{Call, Get, Commit, Step, does, txnOf}
+use Rattle.model.specs.Sweep.{sweep}
+use Rattle.model.specs.Calls.{Call, Get, Commit, Step, Collect, Sweep, does, txnOf, numberOf}
 use Rattle.model.specs.Answers.{refusedWith}
 use Rattle.model.proofs.Tests.{bool-cases}
 use Rattle.model.proofs.RefusalLaws.{accepted, row-off}
 use Rattle.model.proofs.StationLaws.{slot-hit, entry-in}
 use Rattle.model.proofs.GetLaws.{version-entry, get-version}
 use Rattle.model.proofs.SoundFacts.{wrote-held}
+use Rattle.model.proofs.SoundKept.{sound-kept}
+use Rattle.model.proofs.SweepLaws.{NoneLeft, StoppedBy17, IsSweep, sweep-is-collects}
 use Rattle.history.specs.Ledger.{Draft, Committed, Ledger, draftOf, withDrafts, committedFrom, feed}
-use Rattle.history.specs.Histories.{Event, called, cut, running, World, begin, handed, Report, fed, afterCall, afterCut, next, run, AllInRange}
+use Rattle.history.specs.Histories.{Event, called, cut, running, World, begin, handed, Report, reports, fed, afterCall, afterCut, next, run, AllInRange}
 use Rattle.history.specs.CutRule.{committedIn, Wrote}
-use Rattle.history.proofs.Invariant.{Prepared, Inv}
+use Rattle.history.proofs.Invariant.{Prepared, Inv, Reported}
 use Rattle.history.proofs.CommittedLaws.{stands, wrote-committed, committed-id, stands-once}
-use Rattle.history.proofs.Theorem.{running-keeps, cut-rule}
+use Rattle.history.proofs.Theorem.{call-keeps, running-keeps, cut-rule}
+use Rattle.history.proofs.NeverRefused.{faults, Calm, calm}
 
 -- ── no dirty read: a version that a get answers is a committed transaction's, which stands, under that key with that value ──
 pub no-dirty-read : (vs : List Event) → AllInRange vs → (st : Station) → run vs begin .node ≡ running st → (t k v : ℕ) (i : Id)
@@ -190,3 +197,31 @@ retry-stands-once vs f st up t c i h =
       committed-id s d (entryAt st d) ∙ r .1,
       λ x m e. stands-once s _ (w .1 .core .found) (w .1 .core .single) x d (entryAt st d) o seen-d m (e ∙ sym (ap (λ (y : Id). y .txn) (r .1))),
     )
+
+swept-is : {a b : ℕ} → A.Swept a ≡ A.Swept b → a ≡ b
+swept-is e = cc
+
+-- ── in a history a sweep clears all that it may: where it counts fewer than its limit, no entry may be collected ──
+pub sweep-clears : (vs : List Event) → AllInRange vs → (st : Station) → run vs begin .node ≡ running st → (n k : ℕ) → 1 ≤ n → n ≤ sweepLimit
+    → does (Sweep n) st (run vs begin .store) .answer ≡ A.Swept k → k < n → NoneLeft (does (Sweep n) st (run vs begin .store) .station)
+unfolding does
+sweep-clears vs f st up n k o m h l = why (w .ended)
+  where
+    r : (sound st ≡ true) × Inv st (run vs begin .store) (run vs begin .ledger)
+    r = running-keeps vs f st up
+
+    s : List ℕ
+    s = run vs begin .store
+
+    w : IsSweep st (run vs begin .store) n (sweep st (run vs begin .store) n)
+    w = sweep-is-collects st (run vs begin .store) n (r .1 .core .size) (r .0) (r .1 .slots .count) o m
+
+    after : Reported (run vs begin .store) (run vs begin .ledger) (reports (Sweep n) (sweep st (run vs begin .store) n .answer) st (run vs begin .store)) (sweep st (run vs begin .store) n)
+    after = unfold does in call-keeps (Sweep n) st (run vs begin .store) (run vs begin .ledger) (unfold txnOf numberOf in (omega arith, omega (arith, m))) (r .0) (r .1)
+
+    why : (length (w .slots) ≡ n) ⊎ (NoneLeft (sweep st (run vs begin .store) n .station) ⊎ StoppedBy17 (sweep st (run vs begin .store) n .station) (stored (sweep st (run vs begin .store) n .stores) (run vs begin .store)))
+        → NoneLeft (sweep st (run vs begin .store) n .station)
+    why (inl e) = let q : length (w .slots) ≡ k = swept-is (sym (w .count) ∙ h) in absurd (lt-irrefl n (omega (arith, e, q, l)))
+    why (inr (inl x)) = x
+    why (inr (inr x)) = absurd (true≢false (sym (ap (λ (a : Answer). member (refusedWith a) faults) (x .2) ∙ (unfold refusedWith member any in refl))
+        ∙ (unfold Calm does in calm (sweep st (run vs begin .store) n .station) (stored (sweep st (run vs begin .store) n .stores) (run vs begin .store)) _ (unfold does in sound-kept (Sweep n) st (run vs begin .store) (r .0)) (after .after) (Collect (x .0)))))

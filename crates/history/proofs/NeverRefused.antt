@@ -85,7 +85,7 @@ module _ (st : Station) (s : List ℕ) (b : Ledger) (h : sound st ≡ true) (inv
       let r = version-entry st (liveAt st i) k d e in
       not-of-true _ (committed-version s d (entryAt st d) (inv .slots .entered d (wrote-held st h d k (r .1))) k (r .1))
 
-  calm : (c : Call) → Calm (does c st s)
+  pub calm : (c : Call) → Calm (does c st s)
   unfolding does start put get commit step abort collect sweep stepped answered member any refusedWith
   calm (Start t) = off 2 _ _ st _ off2 (row 3 _ _ st _ refl λ h3. row 6 _ _ st _ refl λ h6. row 7 _ _ st _ refl λ h7. unguarded Calm st _ (calm-says _ _ refl))
   calm (Put t k v) = off 2 _ _ st _ off2 (row 3 _ _ st _ refl λ h3. row 4 _ _ st _ refl λ h4. row 8 _ _ st _ refl λ h8. row 9 _ _ st _ refl λ h9. row 11 _ _ st _ refl λ h11. unguarded Calm st _ (calm-says _ _ refl))

@@ -1,26 +1,28 @@
 -- sweep keeps the invariant: it is its collects, each reported with its store.
-use Prim.Native.Nat.{ℕ, zero, suc, _<_, _≤_}
-use mathlib.Core.Path.{_≡_, refl, sym, ap, subst, _∙_}
+use Prim.Native.Nat.{ℕ, zero, suc, _-_, _<_, _≤_}
+use mathlib.Core.Path.{_≡_, refl, sym, ap, subst}
 use mathlib.Core.Logic.{_⊎_, inl, inr}
 use mathlib.Core.Bool.{Bool, true, false}
 use mathlib.Core.List.{List, [], _∷_, _++_, map}
 use lib.ListN.{length, take}
 use native.Mathlib.Nat.{not-suc-le-zero, le-of-suc-le-suc}
 use native.Mathlib.Omega.{arith}
+use borrow.Author.Tests.{le-leb}
 use Rattle.model.specs.declared.Station.{Station}
 use Rattle.model.specs.declared.Answer.{Answer}
 use Rattle.model.specs.declared.Answer.the-variants as A
-use Rattle.model.specs.Records.{zeroRecord}
+use Rattle.model.specs.Ranges.{Every}
 use Rattle.model.specs.Sound.{sound}
 use Rattle.model.specs.Effects.{RecordWrite, Effect, stored, says, saysStoring, saysStoringAll, Row, _when_, refusals}
 use Rattle.model.specs.Collect.{collect}
-use Rattle.model.specs.Sweep.{Collection, collections, stationAfter, recordsOf, sweep}
-use Rattle.model.specs.Calls.{Call, Collect, Sweep, does, isSweep}
+use Rattle.model.specs.Answers.{sweptIn}
+use Rattle.model.specs.Sweep.{collections, stationAfter, recordsOf, sweep}
+use Rattle.model.specs.Calls.{Call, Collect, does}
 use Rattle.model.proofs.RefusalLaws.{guard, unguarded}
 use Rattle.model.proofs.SoundKept.{sound-kept}
-use Rattle.model.proofs.CollectionLaws.{Collected, Ends, Goes, ends-or-goes, ends, nextStation, nextStore, goes, collections-count}
+use Rattle.model.proofs.CollectionLaws.{Ends, Goes, ends-or-goes, ends, nextStation, nextStore, goes, collections-count}
 use Rattle.history.specs.Ledger.{Ledger, feed}
-use Rattle.history.specs.Histories.{Report, reportOf, sweptIn, reports, fed, givenAfter}
+use Rattle.history.specs.Histories.{Report, reportOf, fed, givenAfter}
 use Rattle.history.proofs.Invariant.{Inv, Lasting, Reported}
 use Rattle.history.proofs.Lasting.{lasting}
 use Rattle.history.proofs.Collecting.{collect-keeps}
@@ -46,11 +48,11 @@ module _ (s : List ℕ) (b : Ledger) (c : Call) (old : Lasting s b) (a : Answer)
 
       before : (m : ℕ) → m < suc (length (e .stores)) → Lasting (stored (take m (w ∷ e .stores)) s) (fed (givenAfter m (record { call = c; answer = y; stores = 1 } ∷ rs)) b)
       before zero o = old
-      before (suc m) o = g .before m (le-of-suc-le-suc o)
+      before (suc m) o = let q : suc m - 1 ≡ m = omega arith in rw (le-leb 1 (suc m) (omega arith), q) (g .before m (le-of-suc-le-suc o))
 
       complete : (m : ℕ) → suc (length (e .stores)) ≤ m → givenAfter m (record { call = c; answer = y; stores = 1 } ∷ rs) ≡ record { call = c; answer = y; stores = 1 } ∷ rs
       complete zero o = absurd (not-suc-le-zero o)
-      complete (suc m) o = ap (λ (x : List Report). record { call = c; answer = y; stores = 1 } ∷ x) (g .complete m (le-of-suc-le-suc o))
+      complete (suc m) o = let q : suc m - 1 ≡ m = omega arith in rw (le-leb 1 (suc m) (omega arith), q) (ap (λ (x : List Report). record { call = c; answer = y; stores = 1 } ∷ x) (g .complete m (le-of-suc-le-suc o)))
 
   pub then-more : (x : Effect) (y : Answer) (st : Station) (d n : ℕ) (r : List ℕ) → x ≡ saysStoring y st d n r → Then x
   then-more x y st d n r q = subst Then (sym q) (stored-then y st d n r)
@@ -90,3 +92,26 @@ sweep-keeps st s b n inv h = rows b inv
 
     rows : Refusing st s (sweep st s n)
     rows = row 1 _ _ _ λ h1. row 2 _ _ _ λ h2. row 20 _ _ _ λ h20. unguarded (Refusing st s) st _ swept
+
+-- ── a cut after the first j of a sweep's writes has fed j of its collects ──
+-- each reports one store
+each-reports-one : (n : ℕ) (st : Station) (s : List ℕ) → Every (λ (r : Report). r .stores ≡ 1) (map reportOf (collections n st s))
+unfolding reportOf saysStoring
+each-reports-one zero st s = unfold collections in tt
+each-reports-one (suc n) st s = go (ends-or-goes st s) (λ st₁ s₁. each-reports-one n st₁ s₁)
+  where
+    go : Ends st s ⊎ Goes st s → ((st₁ : Station) (s₁ : List ℕ) → Every (λ (r : Report). r .stores ≡ 1) (map reportOf (collections n st₁ s₁))) → Every (λ (r : Report). r .stores ≡ 1) (map reportOf (collections (suc n) st s))
+    go (inl e) ih = rw (ends st s e (suc n)) tt
+    go (inr g) ih = rw (goes st s g n) (ap (λ (e : Effect). length (e .stores)) (g .taken .comes-to), ih (nextStation st s g) (nextStore st s g))
+
+ones-given : (rs : List Report) → Every (λ (r : Report). r .stores ≡ 1) rs → (j : ℕ) → givenAfter j rs ≡ take j rs
+unfolding givenAfter
+ones-given [] h zero = refl
+ones-given [] h (suc j) = refl
+ones-given (r ∷ rs) h zero = rw (h .0)
+ones-given (r ∷ rs) h (suc j) =
+    let q : suc j - 1 ≡ j = omega arith in
+    rw (h .0, le-leb 1 (suc j) (omega arith), q) (ap (λ (x : List Report). record { call = r .call; answer = r .answer; stores = 1 } ∷ x) (ones-given rs (h .1) j))
+
+pub prefix-fed : (n : ℕ) (st : Station) (s : List ℕ) (j : ℕ) → givenAfter j (map reportOf (collections n st s)) ≡ take j (map reportOf (collections n st s))
+prefix-fed n st s j = ones-given _ (each-reports-one n st s) j

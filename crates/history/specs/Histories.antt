@@ -9,9 +9,8 @@ use Rattle.model.specs.declared.Station.{Station}
 use Rattle.model.specs.Limits.{storeSize}
 use Rattle.model.specs.Stations.{emptyStation}
 use Rattle.model.specs.Effects.{Effect, stored}
-use Rattle.model.specs.declared.Phase.the-variants.{Closing}
 use Rattle.model.specs.declared.Answer.{Answer}
-use Rattle.model.specs.declared.Answer.the-variants as A
+use Rattle.model.specs.Answers.{sweptIn}
 use Rattle.model.specs.Sweep.{Collection, collections}
 use Rattle.model.specs.Calls.{Call, Collect, does, isScan, isSweep, InRange}
 use Rattle.history.specs.Ledger.{Ledger, emptyLedger, feed}
@@ -51,25 +50,6 @@ pub record Report : Type 0 where
 -- 02 §2: "The book takes a sweep as those collects with their answers"
 unfoldable pub reportOf : Collection → Report
 reportOf x = record { call = Collect (x .slot); answer = x .effect .answer; stores = length (x .effect .stores) }
-
--- how many collects an answer counts
-unfoldable pub sweptIn : Answer → ℕ
-sweptIn (A.Swept n) = n
-sweptIn A.Started = 0
-sweptIn A.Kept = 0
-sweptIn (A.Own v) = 0
-sweptIn (A.Version v i) = 0
-sweptIn A.None = 0
-sweptIn (A.Nofit k) = 0
-sweptIn (A.Closing d) = 0
-sweptIn A.Empty = 0
-sweptIn (A.Done i) = 0
-sweptIn (A.Stored k) = 0
-sweptIn (A.Slipped d) = 0
-sweptIn A.Dropped = 0
-sweptIn (A.Collected i) = 0
-sweptIn (A.Found n) = 0
-sweptIn (A.Refused n d) = 0
 
 -- "The book is fed each call with its answer.": a sweep as the collects that its answer counts, any other call as itself. It reports with its
 -- last store, or stores nothing

@@ -1,8 +1,8 @@
 -- The bytes of a request and of an answer.
 use Prim.Native.Nat.{ℕ, zero, suc}
-use mathlib.Core.Path.{_≡_, refl, sym, ap, ap₂, _∙_}
+use mathlib.Core.Path.{_≡_, refl, sym, ap, _∙_}
 use mathlib.Core.Logic.{_≢_}
-use mathlib.Core.Bool.{Bool, true, false}
+use mathlib.Core.Bool.{false}
 use mathlib.Core.List.{List, _++_}
 use mathlib.Core.Option.{Option, some, none}
 use lib.Dec.{eqb}
@@ -11,7 +11,7 @@ use native.Mathlib.Omega.{arith}
 use borrow.Author.Tests.{eq-eqb, ne-eqb}
 use borrow.Rule.Slice.PartMut.{midOf, putMid, same-len-mid}
 use Rattle.model.specs.declared.Id.{Id}
-use Rattle.model.specs.Lists.{_and_, _or_}
+use Rattle.model.specs.Lists.{_and_}
 use Rattle.model.specs.Bytes.{bytes, idIn}
 use Rattle.model.specs.Calls.{Sweep}
 use Rattle.sheet.specs.Words.{Verb}
@@ -52,11 +52,6 @@ module _ (q : List ℕ) where
     pub asks-verb : getD q 0 0 ≢ sweepVerb → (v : Option Verb) → v ≡ verbNumbered (getD q 0 0) → ofFields v (some (i .txn)) (some (getD q 1 0)) (some (i .clock)) ≡ requestCall q
     unfolding asked
     asks-verb f v g = sym (both-zero ∙ ((rw (ne-eqb (getD q 0 0) sweepVerb f)) ∙ ap (λ (w : Option Verb). ofFields w (some (i .txn)) (some (getD q 1 0)) (some (i .clock))) (sym g)))
-
-pub or-false : (b : Bool) → (b or false) ≡ b
-unfolding _or_
-or-false true = refl
-or-false false = refl
 
 -- ── an answer ──
 -- four numbers written one after the other are all that there is

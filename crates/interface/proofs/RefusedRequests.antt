@@ -16,7 +16,7 @@ use Rattle.model.specs.Sound.{entryRight, sound}
 use Rattle.model.specs.Effects.{RecordWrite, Effect, says, stored}
 use Rattle.model.specs.Calls.{Call, does}
 use Rattle.model.specs.Answers.{refusedWith}
-use Rattle.model.proofs.Tests.{or-left, or-right, or-intro-left}
+use Rattle.model.proofs.Tests.{or-left, or-right, or-intro-left, or-false}
 use Rattle.desk.specs.Acts.{asksScan}
 use Rattle.desk.proofs.ActLaws.{Barred, call-barred}
 use Rattle.image.specs.Images.{isImage}
@@ -24,7 +24,6 @@ use Rattle.image.proofs.Round.{image-only}
 use Rattle.sheet.specs.Sheets.{lineEffect}
 use Rattle.interface.specs.Exchange.{requestSize, requestCall, Held, unsoundStation, heldIn, requestEffect, afterRequest, afterRequests, imageAfter, afterRun}
 use Rattle.interface.proofs.RefusedLaws.{Unaltered, refused-unaltered}
-use Rattle.interface.proofs.ByteLaws.{or-false}
 use Rattle.interface.proofs.LengthLaws.{one-part}
 
 -- ── where nothing was done the image stays as it was ──

@@ -15,7 +15,7 @@ use Rattle.model.specs.Effects.{stored, outcomeOf}
 use Rattle.model.specs.Sweep.{sweep}
 use Rattle.model.specs.Calls.{isScan}
 use Rattle.model.specs.Scan.{scan}
-use Rattle.model.proofs.Tests.{or-intro-right}
+use Rattle.model.proofs.Tests.{or-intro-right, or-false}
 use Rattle.stations.specs.declared.Change.{Change}
 use Rattle.stations.specs.Changes.{changedBy, IsChange}
 use Rattle.stations.proofs.Changes.{comes-to}
@@ -32,7 +32,6 @@ use Rattle.image.proofs.PartLaws.{next-place, part-is, parts-next, put-front}
 use Rattle.interface.specs.declared.Current.{Current}
 use Rattle.interface.specs.Exchange.{requestSize, answerSize, requestCall, answerBytes, Held, unsoundStation, heldIn, requestEffect, afterRequest, afterRequests, answersTo, imageAfter, requestsIn, afterRun, answersIn}
 use Rattle.interface.specs.Parts.{heldOf}
-use Rattle.interface.proofs.ByteLaws.{or-false}
 use Rattle.interface.proofs.LengthLaws.{one-part}
 
 -- ── one request ──

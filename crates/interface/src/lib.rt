@@ -156,7 +156,13 @@ fn run_scan(store: &[u8], out: &mut [u8]) -> Current
 }
 
 // A sweep answered: the station afterwards.
-fn run_sweep(station: Station, tested: bool, store: &mut [u8], limit: u64, out: &mut [u8]) -> Station
+fn run_sweep(
+    station: Station,
+    tested: bool,
+    store: &mut [u8],
+    limit: u64,
+    out: &mut [u8],
+) -> Station
     requires { ⌜ (tested ≡ sound station) × (length (now out) ≡ answerSize) ⌝ }
     ensures { λ r. ⌜ (r ≡ sweep station (now (store .entry)) limit .station) × (now (store .exit) ≡ stored (sweep station (now (store .entry)) limit .stores) (now (store .entry))) × (now (out .exit) ≡ answerBytes (sweep station (now (store .entry)) limit .answer)) ⌝ }
 {

@@ -1,18 +1,16 @@
 -- The single collects that a sweep is: where they end, where they go on, and what every collect keeps they keep.
-use Prim.Native.Nat.{ℕ, zero, suc, _+_, _<_}
-use mathlib.Core.Path.{_≡_, refl, sym, ap, subst, _∙_}
-use mathlib.Core.Logic.{_≢_, _⊎_, inl, inr, ⊎-elim}
-use mathlib.Core.Bool.{Bool, true, false, not}
+use Prim.Native.Nat.{ℕ, zero, suc, _<_}
+use mathlib.Core.Path.{_≡_, refl, ap, _∙_}
+use mathlib.Core.Logic.{_≢_, _⊎_, inl, inr}
+use mathlib.Core.Bool.{true, false, not}
 use mathlib.Core.List.{List, [], _∷_, _++_}
 use mathlib.Core.Option.{Option, some, none, Option·elim}
-use lib.Dec.{eqb, leb}
 use lib.ListN.{length}
 use native.Mathlib.Decide.{ℕ-discrete}
 use borrow.Author.Tests.{not-false, eq-eqb, ne-eqb, leb-false}
-use Rattle.model.specs.declared.Entry.{Entry}
 use Rattle.model.specs.declared.Station.{Station}
 use Rattle.model.specs.declared.Answer.the-variants as A
-use Rattle.model.specs.Lists.{_or_, all}
+use Rattle.model.specs.Lists.{all}
 use Rattle.model.specs.Limits.{slots, storeSize}
 use Rattle.model.specs.Entries.{noEntry, carriesEntry}
 use Rattle.model.specs.Stations.{entryAt, setEntry, holds}

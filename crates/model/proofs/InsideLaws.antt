@@ -22,7 +22,7 @@ use Rattle.model.specs.Lists.{_and_, _or_, all, any, member, ascending}
 use Rattle.model.specs.Limits.{keys, writeLimit, readLimit}
 use Rattle.model.specs.Ids.{sameId, noId}
 use Rattle.model.specs.Lives.{writeKey, readsOf, closingClock, slotMark, withPhase}
-use Rattle.model.specs.Entries.{keysOf, wrote, entryBeyond, entryRules, isNoEntry, entryFor}
+use Rattle.model.specs.Entries.{keysOf, wrote, entryBeyond, entryRules, isNoEntry, entryFor, noEntry}
 use Rattle.model.specs.Sound.{entryRight}
 use Rattle.model.proofs.Tests.{and-left, and-right, and-assoc, or-cases}
 use Rattle.model.proofs.ListLaws.{any-at, any-none-of, member-finds, below-more}
@@ -81,6 +81,10 @@ module _ (e : Entry) (k : ℕ) where
   wrote-one h = let r = member-finds k (keysOf e) h in (_, r .0, r .1)
 
 -- what lies past the last slot wrote nothing
+pub noEntry-wrote : (k : ℕ) → wrote noEntry k ≡ false
+unfolding wrote keysOf member any
+noEntry-wrote k = refl
+
 pub beyond-wrote : (k : ℕ) → wrote entryBeyond k ≡ false
 unfolding wrote keysOf member any
 beyond-wrote k = refl

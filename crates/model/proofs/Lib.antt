@@ -23,5 +23,5 @@ pub mod SweepLaws
 pub mod RangesKept
 pub mod ReadYourWrites
 pub mod BenchTable
-pub mod SweepTable
+pub mod BenchSweeps
 pub mod RunSheet

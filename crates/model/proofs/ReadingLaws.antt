@@ -1,13 +1,12 @@
 -- Algorithm 1, over any list of entries and any list of reads: what is chosen, the key that nofit names, the paper's Theorem 1 and Corollary
 -- 1.1.
-use Prim.Native.Nat.{ℕ, zero, suc, _<_, suc-le-suc}
+use Prim.Native.Nat.{ℕ, _<_}
 use mathlib.Core.Path.{_≡_, refl, sym, ap, subst, _∙_}
 use mathlib.Core.Logic.{_⊎_, inl, inr, ⊎-elim}
 use mathlib.Core.Bool.{Bool, true, false, true≢false}
-use mathlib.Core.List.{List, [], _∷_, List·Memᴰ, List·Memᴰ·cases-cons}
+use mathlib.Core.List.{List, _∷_, List·Memᴰ, List·Memᴰ·cases-cons}
 use mathlib.Core.Option.{Option, some, none, Option·elim, Option·getD}
 use lib.ListN.{length, getD}
-use native.Mathlib.Nat.{le-of-suc-le-suc, not-suc-le-zero, zero-lt-suc}
 use native.Mathlib.Omega.{arith}
 use borrow.Author.Tests.{not-true}
 use Rattle.model.specs.declared.Id.{Id}
@@ -20,7 +19,7 @@ use Rattle.model.specs.Reading.{lowerBound, conflictsWith, lowestConflic
 use Rattle.model.specs.Orders.{newest}
 use Rattle.model.proofs.Tests.{and-left, and-right, and-intro, and-second, not-of-false}
 use Rattle.model.proofs.ListLaws.{any-finds, any-at, any-none, kept-mem, kept-from}
-use Rattle.model.proofs.IdLaws.{older-irrefl, older-asym, not-older-trans, older-total, same-id, id-same, greatest-above, greatest-one, none-older}
+use Rattle.model.proofs.IdLaws.{older-irrefl, not-older-trans, older-total, same-id, id-same, greatest-above, greatest-one, none-older}
 use Rattle.model.proofs.OrderLaws.{IsNewest, newest-is, newest-none}
 use Rattle.model.proofs.ConflictLaws.{ConflictsLowest, test-gives, none-conflicts, conflicts-any}
 

@@ -2,21 +2,20 @@
 use Prim.Native.Nat.{ℕ, zero, suc, _+_, _<_, _≤_}
 use mathlib.Core.Path.{_≡_, refl, sym, ap, subst, _∙_}
 use mathlib.Core.Logic.{_≢_, _⊎_, inl, inr, ⊎-elim}
-use mathlib.Core.Bool.{Bool, true, false, not, true≢false, false≢true}
+use mathlib.Core.Bool.{Bool, true, false, not, true≢false}
 use mathlib.Core.List.{List, [], _∷_, _++_, append-assoc}
-use mathlib.Core.Option.{Option, some, none}
-use lib.Dec.{eqb, leb, ltb}
+use mathlib.Core.Option.{none}
+use lib.Dec.{eqb, leb}
 use lib.ListN.{length, getD, set, length-set, length-append}
 use lib.Seq.{getD-set-same, getD-set-other}
 use native.Mathlib.Nat.{lt-irrefl}
 use native.Mathlib.Decide.{ℕ-discrete}
 use native.Mathlib.Omega.{arith}
-use borrow.Author.Tests.{not-true, not-false, eq-eqb, ne-eqb, le-ltb, lt-ltb, lt-leb}
+use borrow.Author.Tests.{not-true, eq-eqb, ne-eqb, le-ltb, lt-ltb, lt-leb}
 use Rattle.model.specs.declared.Entry.{Entry}
 use Rattle.model.specs.declared.Station.{Station}
-use Rattle.model.specs.declared.Answer.{Answer}
 use Rattle.model.specs.declared.Answer.the-variants as A
-use Rattle.model.specs.Lists.{_and_, _or_, all, any, member}
+use Rattle.model.specs.Lists.{_and_, _or_, all, any}
 use Rattle.model.specs.Limits.{slots, storeSize, sweepLimit}
 use Rattle.model.specs.Ids.{older}
 use Rattle.model.specs.Entries.{noEntry, keysOf, wrote, carriesEntry}
@@ -31,17 +30,14 @@ use Rattle.model.specs.Sweep.{mayCollect, oldestToCollect, Collection, c
 use Rattle.model.proofs.Tests.{and-left, and-right, and-intro, or-none, or-intro-left, or-intro-right, not-of-true, not-of-false, bool-cases}
 use Rattle.model.proofs.ListLaws.{any-finds, any-at, any-none-of, all-at, member-finds}
 use Rattle.model.proofs.IdLaws.{older-irrefl, older-trans}
+use Rattle.model.proofs.InsideLaws.{noEntry-wrote}
 use Rattle.model.proofs.OrderLaws.{IsOldest, oldest-is, oldest-none}
 use Rattle.model.proofs.RefusalLaws.{refusals-none, skipped, hit}
-use Rattle.model.proofs.StationLaws.{entry-get, held-txn, entryAt-same, entryAt-other, setEntry-length}
+use Rattle.model.proofs.StationLaws.{entry-get, entryAt-same, entryAt-other, setEntry-length}
 use Rattle.model.proofs.SoundKept.{collect-keeps, Keeps}
-use Rattle.model.proofs.CollectionLaws.{Collected, collect-accepted, collected-station, collected-store, stored-append, Ends, Goes, ends-or-goes, ends, nextStation, nextStore, goes, collections-keep, collect-length}
+use Rattle.model.proofs.CollectionLaws.{Collected, collected-station, stored-append, Ends, Goes, ends-or-goes, ends, nextStation, nextStore, goes, collections-keep, collect-length}
 
 -- ── collecting an entry that is superseded changes no other entry's 15 or 16 ──
-noEntry-wrote : (k : ℕ) → wrote noEntry k ≡ false
-unfolding wrote keysOf member any
-noEntry-wrote k = refl
-
 module _ (es : List Entry) (d : ℕ) (sup : superseded es (getD es d noEntry) ≡ true) where
   -- on a key that it wrote, another entry is newer than it
   over : (k : ℕ) → wrote (getD es d noEntry) k ≡ true → (c : ℕ) × (c < length es) × (c ≢ d) × (wrote (getD es c noEntry) k ≡ true) × (older (getD es d noEntry .id) (getD es c noEntry .id) ≡ true)

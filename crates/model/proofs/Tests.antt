@@ -92,3 +92,19 @@ pub and-assoc : (a b c : Bool) → (a and (b and c)) ≡ (a and b and c)
 unfolding _and_
 and-assoc true b c = refl
 and-assoc false b c = refl
+
+pub or-false : (a : Bool) → (a or false) ≡ a
+unfolding _or_
+or-false true = refl
+or-false false = refl
+
+pub or-assoc : (a b c : Bool) → (a or b or c) ≡ (a or (b or c))
+unfolding _or_
+or-assoc true b c = refl
+or-assoc false b c = refl
+
+-- two tests that say the same
+pub same-test : (a b : Bool) → (a ≡ true → b ≡ true) → (b ≡ true → a ≡ true) → a ≡ b
+same-test true b f g = sym (f refl)
+same-test false true f g = g refl
+same-test false false f g = refl

@@ -23,6 +23,25 @@ refusedWith (A.Collected i) = 0
 refusedWith (A.Found n) = 0
 refusedWith (A.Swept n) = 0
 
+-- the count of a sweep's answer; 0 of any other
+unfoldable pub sweptIn : Answer → ℕ
+sweptIn (A.Swept n) = n
+sweptIn A.Started = 0
+sweptIn A.Kept = 0
+sweptIn (A.Own v) = 0
+sweptIn (A.Version v i) = 0
+sweptIn A.None = 0
+sweptIn (A.Nofit k) = 0
+sweptIn (A.Closing d) = 0
+sweptIn A.Empty = 0
+sweptIn (A.Done i) = 0
+sweptIn (A.Stored k) = 0
+sweptIn (A.Slipped d) = 0
+sweptIn A.Dropped = 0
+sweptIn (A.Collected i) = 0
+sweptIn (A.Found n) = 0
+sweptIn (A.Refused n d) = 0
+
 pub record Values : Type 0 where
   pub a : ℕ
   pub b : ℕ

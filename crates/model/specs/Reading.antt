@@ -1,8 +1,8 @@
 -- 01 'Calls', get: Algorithm 1 of the paper, over any list of entries es and any list of reads rs; and 02 §1, the key that nofit names.
 use Prim.Native.Nat.{ℕ}
 use mathlib.Core.Path.{_≡_}
-use mathlib.Core.Bool.{Bool, true, false, not, cond}
-use mathlib.Core.List.{List, [], _∷_, map, List·Memᴰ}
+use mathlib.Core.Bool.{Bool, true, false, not}
+use mathlib.Core.List.{List, map, List·Memᴰ}
 use mathlib.Core.Option.{Option, some, none, Option·elim, Option·getD}
 use lib.ListN.{getD}
 use Rattle.model.specs.declared.Id.{Id}

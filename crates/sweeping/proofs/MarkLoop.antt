@@ -1,7 +1,6 @@
 -- Loops that mark more and more: over rows, and for one element of a list after the other.
 use Prim.Native.Nat.{ℕ, zero, suc, _+_, _<_, _≤_}
-use mathlib.Core.Path.{_≡_, refl, sym, ap, subst, _∙_}
-use mathlib.Core.Logic.{_≢_}
+use mathlib.Core.Path.{_≡_, refl, sym, ap, _∙_}
 use mathlib.Core.Bool.{Bool, true, false}
 use mathlib.Core.List.{List, [], _∷_}
 use lib.Dec.{eqb}
@@ -9,24 +8,12 @@ use lib.ListN.{length, take, getD, set, length-set}
 use lib.Seq.{take-all}
 use native.Mathlib.Nat.{not-suc-le-zero, le-of-suc-le-suc, lt-irrefl}
 use native.Mathlib.Numerals.{add-one}
-use native.Mathlib.Decide.{ℕ-discrete}
 use native.Mathlib.Omega.{arith}
 use borrow.Author.Tests.{eq-eqb, ne-eqb}
 use Rattle.model.specs.Lists.{_or_, any}
-use Rattle.model.proofs.Tests.{or-intro-right}
-use Rattle.model.proofs.ListLaws.{at-set, any-yes, any-no}
+use Rattle.model.proofs.Tests.{or-intro-right, or-false, or-assoc}
+use Rattle.model.proofs.ListLaws.{at-set, below-more, any-yes, any-no}
 use Rattle.sweeping.specs.Marks.{AlsoMarked}
-
--- ── or ──
-pub or-false : (a : Bool) → a ≡ (a or false)
-unfolding _or_
-or-false true = refl
-or-false false = refl
-
-or-assoc : (a b c : Bool) → (a or b or c) ≡ (a or (b or c))
-unfolding _or_
-or-assoc true b c = refl
-or-assoc false b c = refl
 
 -- ── row after row ──
 -- the first d of m rows are marked where they were, or pass; the others where they were
@@ -41,14 +28,21 @@ module _ (p : ℕ → Bool) (m : ℕ) (xs : List Bool) where
   marking-start l = record { fits = omega arith; long = l; passed = λ j o. absurd (not-suc-le-zero o); left = λ j o. refl }
 
   module _ (d : ℕ) (ys : List Bool) (h : Marking p m d xs ys) where
-    pub marking-next : d < m → (x : Bool) → x ≡ (getD ys d false or p d) → Marking p m (d + 1) xs (set ys d x)
-    marking-next o x q = record {
+    -- row d does not pass, and stays; or it does, and is marked
+    pub marking-skip : d < m → p d ≡ false → Marking p m (d + 1) xs ys
+    marking-skip o e = record {
       fits = omega arith;
-      long = length-set ys d x ∙ h .long;
-      passed = at-set (λ j y. j < d + 1 → y ≡ (getD xs j false or p j)) ys d x false inside
-          (λ u. q ∙ ap (λ (b : Bool). b or p d) (h .left d (omega arith)))
-          (λ j n u. h .passed j (omega arith));
-      left = at-set (λ j y. d + 1 ≤ j → y ≡ getD xs j false) ys d x false inside (λ u. absurd (lt-irrefl d (omega arith))) (λ j n u. h .left j (omega arith));
+      long = h .long;
+      passed = below-more (λ j. getD ys j false ≡ (getD xs j false or p j)) d (h .passed) (h .left d (omega arith) ∙ (sym (or-false (getD xs d false)) ∙ ap (λ (b : Bool). getD xs d false or b) (sym e)));
+      left = λ j u. h .left j (omega arith);
+    }
+
+    pub marking-hit : d < m → p d ≡ true → Marking p m (d + 1) xs (set ys d true)
+    marking-hit o e = record {
+      fits = omega arith;
+      long = length-set ys d true ∙ h .long;
+      passed = at-set (λ j y. j < d + 1 → y ≡ (getD xs j false or p j)) ys d true false inside (λ u. sym (or-intro-right (getD xs d false) _ e)) (λ j n u. h .passed j (omega arith));
+      left = at-set (λ j y. d + 1 ≤ j → y ≡ getD xs j false) ys d true false inside (λ u. absurd (lt-irrefl d (omega arith))) (λ j n u. h .left j (omega arith));
     }
       where
         inside : d < length ys
@@ -82,13 +76,15 @@ pub record AlsoAny {A : Type 0} (f : A → ℕ → Bool) (ls : List A) (m : ℕ)
 module _ {A : Type 0} (f : A → ℕ → Bool) (ls : List A) (m : ℕ) (xs : List Bool) where
   pub also-none : AlsoAny f ls m xs 0 xs
   unfolding any
-  also-none = record { marked = λ d o. or-false (getD xs d false) }
+  also-none = record { marked = λ d o. sym (or-false (getD xs d false)) }
 
   module _ (i : ℕ) (ys : List Bool) (h : AlsoAny f ls m xs i ys) where
     pub also-more : (z x : A) → getD ls i z ≡ x → i < length ls → (zs : List Bool) → AlsoMarked (f x) m ys zs → AlsoAny f ls m xs (i + 1) zs
-    also-more z x q o zs g = record { marked = λ d u.
-        g d u ∙ (ap (λ (b : Bool). b or f x d) (h .marked d u) ∙ (or-assoc (getD xs d false) (any (λ x. f x d) (take i ls)) (f x d)
-        ∙ ap (λ (b : Bool). getD xs d false or b) (ap (λ (y : A). any (λ x. f x d) (take i ls) or f y d) (sym q) ∙ sym (any-take-more (λ x. f x d) ls i z o)))) }
+    also-more z x q o zs g = record {
+      marked = λ d u.
+          g d u ∙ (ap (λ (b : Bool). b or f x d) (h .marked d u) ∙ (or-assoc (getD xs d false) (any (λ x. f x d) (take i ls)) (f x d)
+          ∙ ap (λ (b : Bool). getD xs d false or b) (ap (λ (y : A). any (λ x. f x d) (take i ls) or f y d) (sym q) ∙ sym (any-take-more (λ x. f x d) ls i z o))));
+    }
 
     pub also-all : length ls ≤ i → AlsoMarked (λ d. any (λ x. f x d) ls) m xs ys
     also-all o d u = h .marked d u ∙ ap (λ (l : List A). getD xs d false or any (λ x. f x d) l) (take-all i ls o)
@@ -97,8 +93,8 @@ module _ {A : Type 0} (f : A → ℕ → Bool) (ls : List A) (m : ℕ) (xs : Lis
 pub also-set : (m : ℕ) (ys : List Bool) (k : ℕ) → length ys ≡ m → k < m → AlsoMarked (λ d. eqb d k) m ys (set ys k true)
 also-set m ys k l o d u = at-set (λ j y. y ≡ (getD ys j false or eqb j k)) ys k true false (omega arith)
     (sym (or-intro-right (getD ys k false) _ (eq-eqb k k refl)))
-    (λ j n. or-false (getD ys j false) ∙ ap (λ (b : Bool). getD ys j false or b) (sym (ne-eqb j k n))) d
+    (λ j n. sym (or-false (getD ys j false)) ∙ ap (λ (b : Bool). getD ys j false or b) (sym (ne-eqb j k n))) d
 
 -- one that is no row
 pub also-not : (m : ℕ) (ys : List Bool) (k : ℕ) → m ≤ k → AlsoMarked (λ d. eqb d k) m ys ys
-also-not m ys k o d u = or-false (getD ys d false) ∙ ap (λ (b : Bool). getD ys d false or b) (sym (ne-eqb d k (λ e. lt-irrefl d (omega arith))))
+also-not m ys k o d u = sym (or-false (getD ys d false)) ∙ ap (λ (b : Bool). getD ys d false or b) (sym (ne-eqb d k (λ e. lt-irrefl d (omega arith))))

@@ -1,18 +1,17 @@
 -- Rows sifted one after the other; and that what is kept of all entries, newest first, are those that may be collected.
-use Prim.Native.Nat.{ℕ, _+_, _<_, _≤_}
-use mathlib.Core.Path.{_≡_, refl, sym, ap, subst, _∙_}
-use mathlib.Core.Logic.{_≢_, _⊎_, inl, inr, ⊎-elim}
-use mathlib.Core.Bool.{Bool, true, false, not, cond, true≢false}
-use mathlib.Core.List.{List, []}
+use Prim.Native.Nat.{ℕ, _+_, _<_}
+use mathlib.Core.Path.{_≡_, refl, sym, ap, _∙_}
+use mathlib.Core.Bool.{Bool, true, false, cond, true≢false}
+use mathlib.Core.List.{List}
 use lib.Dec.{eqb, ltb}
-use lib.ListN.{length, take, getD, set}
+use lib.ListN.{length, getD, set}
 use native.Mathlib.Nat.{not-suc-le-zero, lt-irrefl}
 use native.Mathlib.Decide.{ℕ-discrete, decLt}
 use native.Mathlib.Omega.{arith}
-use borrow.Author.Tests.{eq-eqb, ne-eqb, lt-ltb, le-ltb}
+use borrow.Author.Tests.{eq-eqb, ne-eqb, le-ltb}
 use Rattle.model.specs.declared.Entry.{Entry}
 use Rattle.model.specs.Lists.{_and_, _or_, all, any}
-use Rattle.model.specs.Limits.{keys, slots}
+use Rattle.model.specs.Limits.{keys}
 use Rattle.model.specs.Entries.{keysOf, wrote}
 use Rattle.model.proofs.ListLaws.{at-set, below-more}
 use Rattle.reading.specs.Columns.{nthEntry}

@@ -1,13 +1,12 @@
 -- A sweep's loop: the last of the slots to collect is the oldest; with it collected, the others are left; and where nothing goes on, that was all.
-use Prim.Native.Nat.{ℕ, zero, suc, _+_, _-_, _<_, _≤_}
+use Prim.Native.Nat.{ℕ, suc, _+_, _-_, _<_, _≤_}
 use mathlib.Core.Path.{_≡_, refl, sym, ap, subst, _∙_}
 use mathlib.Core.Logic.{_≢_, inl, inr}
 use mathlib.Core.Bool.{Bool, true, false, not, true≢false}
 use mathlib.Core.List.{List, [], _∷_}
 use mathlib.Core.Option.{some, none}
-use lib.Dec.{eqb}
 use lib.ListN.{length, getD}
-use native.Mathlib.Nat.{not-suc-le-zero, lt-irrefl}
+use native.Mathlib.Nat.{lt-irrefl}
 use native.Mathlib.Decide.{ℕ-discrete}
 use native.Mathlib.Omega.{arith}
 use borrow.Author.Tests.{not-true, eqb-false}
@@ -25,17 +24,17 @@ use Rattle.model.specs.Records.{zeroRecord, recordAt, withRecord}
 use Rattle.model.specs.Sound.{sound}
 use Rattle.model.specs.Orders.{newer}
 use Rattle.model.specs.Supersedence.{superseded, isRead}
-use Rattle.model.specs.Effects.{RecordWrite, Effect, stored, outcomeOf, says, saysStoring}
+use Rattle.model.specs.Effects.{Effect, stored, outcomeOf, says, saysStoring}
 use Rattle.model.specs.Collect.{collect}
 use Rattle.model.specs.Answers.{refusedWith}
 use Rattle.model.specs.Sweep.{mayCollect, oldestToCollect, Collection, collections, stationAfter, recordsOf, sweep}
 use Rattle.model.proofs.Tests.{and-left, and-right}
 use Rattle.model.proofs.IdLaws.{older-irrefl}
-use Rattle.model.proofs.OrderLaws.{IsOldest, oldest-eq, oldest-not}
+use Rattle.model.proofs.OrderLaws.{oldest-eq, oldest-not}
 use Rattle.model.proofs.StationLaws.{entry-get, entryAt-other, setEntry-length}
 use Rattle.model.proofs.SoundFacts.{one-slot}
 use Rattle.model.proofs.SoundKept.{Keeps, collect-keeps}
-use Rattle.model.proofs.CollectionLaws.{Collected, collect-accepted, collected-station, collected-store, collect-length, Ends, Goes, ends, goes, stored-append}
+use Rattle.model.proofs.CollectionLaws.{Collected, collect-accepted, collected-station, collected-store, collect-length, ends, goes, stored-append}
 use Rattle.model.proofs.SweepLaws.{collect-leaves-others, collect-empties, sweep-on}
 use Rattle.storing.proofs.CollectRows.{collect-17, collect-on}
 use Rattle.sweeping.specs.Order.{AreToCollect}
@@ -225,8 +224,9 @@ module _ (limit : ℕ) (st₀ : Station) (s₀ : List ℕ) (st : Station) (s : L
       → (_≡_ {A = Outcome} (record { station = st; answer = A.Swept count }) (outcomeOf (sweep st₀ s₀ limit))) × (s ≡ stored (sweep st₀ s₀ limit .stores) s₀)
   unfolding outcomeOf stationAfter recordsOf stored
   swept l h u v e = rw (sweep-on st₀ s₀ limit l h u v) (
-      (λ i. record { station = sym (p .station ∙ ap (λ (cs : List Collection). stationAfter cs st) e) i; answer = A.Swept (sym (p .counts ∙ (ap (λ (cs : List Collection). count + length cs) e ∙ plus-zero count)) i) }),
-      sym (p .bytes ∙ ap (λ (cs : List Collection). stored (recordsOf cs) s) e))
+    (λ i. record { station = sym (p .station ∙ ap (λ (cs : List Collection). stationAfter cs st) e) i; answer = A.Swept (sym (p .counts ∙ (ap (λ (cs : List Collection). count + length cs) e ∙ plus-zero count)) i) }),
+    sym (p .bytes ∙ ap (λ (cs : List Collection). stored (recordsOf cs) s) e),
+  )
 
 -- the same, with the slot, the unused entry and the store as the code has them
 pub sweeping-as : (limit : ℕ) (st₀ : Station) (s₀ : List ℕ) (st : Station) (s : List ℕ) (d count n : ℕ) (xs : List ℕ) → Sweeping limit st₀ s₀ (setEntry st d noEntry) (withRecord s d 0 zeroRecord) count n xs

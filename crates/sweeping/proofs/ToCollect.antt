@@ -1,18 +1,16 @@
 -- Of a sound station's entries, newest first, those kept are those that may be collected.
-use Prim.Native.Nat.{ℕ, _<_, _≤_}
+use Prim.Native.Nat.{ℕ, _<_}
 use mathlib.Core.Path.{_≡_, refl, sym, ap, subst, _∙_}
-use mathlib.Core.Logic.{_≢_, _⊎_, ⊎-elim}
+use mathlib.Core.Logic.{⊎-elim}
 use mathlib.Core.Bool.{Bool, true, false, not, true≢false}
 use mathlib.Core.List.{List}
 use lib.Dec.{eqb, ltb}
 use lib.ListN.{length, take, getD, length-take}
 use lib.Seq.{getD-take}
-use native.Mathlib.Nat.{lt-irrefl}
 use native.Mathlib.Decide.{ℕ-discrete, decLt}
 use native.Mathlib.Omega.{arith}
 use borrow.Author.Tests.{lt-ltb, ne-eqb}
 use Rattle.model.specs.declared.Id.{Id}
-use Rattle.model.specs.declared.Live.{Live}
 use Rattle.model.specs.declared.Entry.{Entry}
 use Rattle.model.specs.declared.Station.{Station}
 use Rattle.model.specs.Lists.{_and_, all, any}
@@ -24,11 +22,11 @@ use Rattle.model.specs.Stations.{entryAt}
 use Rattle.model.specs.Sound.{sound}
 use Rattle.model.specs.Supersedence.{newerOn, superseded, isReadBy, isRead}
 use Rattle.model.specs.Sweep.{mayCollect}
-use Rattle.model.proofs.Tests.{and-left, and-right, and-intro, bool-cases, not-of-false}
+use Rattle.model.proofs.Tests.{and-left, and-right, and-intro, bool-cases, not-of-false, same-test}
 use Rattle.model.proofs.ListLaws.{all-at, all-of, any-finds, any-at, member-at}
 use Rattle.model.proofs.IdLaws.{older-irrefl, older-total}
 use Rattle.model.proofs.InsertLaws.{ascending-member}
-use Rattle.model.proofs.InsideLaws.{wrote-nth, right-ascending}
+use Rattle.model.proofs.InsideLaws.{right-ascending}
 use Rattle.model.proofs.StationLaws.{entry-get}
 use Rattle.model.proofs.SoundLaws.{sound-at}
 use Rattle.model.proofs.SoundFacts.{one-slot, wrote-held}
@@ -36,12 +34,6 @@ use Rattle.reading.specs.Columns.{nthEntry, Column, idAt, IsOrder, hasId}
 use Rattle.sweeping.specs.Marks.{Marked}
 use Rattle.sweeping.specs.Sifted.{wroteBefore, keeps, AreSifted}
 use Rattle.sweeping.specs.Order.{AreToCollect}
-
--- two tests that say the same
-same-test : (a b : Bool) → (a ≡ true → b ≡ true) → (b ≡ true → a ≡ true) → a ≡ b
-same-test true b f g = sym (f refl)
-same-test false true f g = g refl
-same-test false false f g = refl
 
 -- what is known of the columns, the order and the marks
 pub record Ordered (st : Station) (hs : List Bool) (cs ts : List ℕ) (n : ℕ) (xs : List ℕ) (read : List Bool) : Type 0 where
@@ -155,9 +147,9 @@ module _ (st : Station) (hs : List Bool) (cs ts : List ℕ) (n : ℕ) (xs : List
   keeps-may i u = (λ z. sym (superseded-before i u) z and not (is-read (getD xs i 0) (low i u) z))
       ∙ sym (ap (λ (b : Bool). b and superseded es (row i) and not (isRead st (row i))) (is-held i u) ∙ (unfold _and_ in refl))
 
-  may-held : (d : ℕ) → d < slots → mayCollect st (entryAt st d) ≡ true → getD hs d false ≡ true
+  held-mark : (d : ℕ) → d < slots → mayCollect st (entryAt st d) ≡ true → getD hs d false ≡ true
   unfolding mayCollect entryAt
-  may-held d u h = o .held d u ∙ and-left _ _ (and-left _ _ h)
+  held-mark d u h = o .held d u ∙ and-left _ _ (and-left _ _ h)
 
   pub to-collect : (m : ℕ) (ys : List ℕ) → AreSifted es xs read n m ys → AreToCollect st m ys
   to-collect m ys s = record {
@@ -170,6 +162,6 @@ module _ (st : Station) (hs : List Bool) (cs ts : List ℕ) (n : ℕ) (xs : List
     where
       found : (d : ℕ) → d < slots → mayCollect st (entryAt st d) ≡ true → (j : ℕ) × (j < m) × (getD ys j 0 ≡ d)
       found d u h =
-          let r = o .order .every d u (may-held d u h) in
+          let r = o .order .every d u (held-mark d u h) in
           let k = s .every (r .0) (r .1) (keeps-may (r .0) (r .1) ∙ (ap (λ (x : ℕ). mayCollect st (entryAt st x)) (r .2) ∙ h)) in
           (k .0, k .1, s .is (k .0) (k .1) ∙ (ap (λ (x : ℕ). getD xs x 0) (k .2) ∙ r .2))

@@ -28,7 +28,6 @@ use model::Station;
 use model::key_count;
 use model::no_entry;
 use model::read_count;
-use model::same_id;
 use model::wide;
 use reading::Candidates;
 use reading::clocks_of;
@@ -36,25 +35,6 @@ use reading::newest_first;
 use reading::txns_of;
 use records::carries_entry;
 use storing::store_zero;
-
-// ---- two tests
-fn either(a: bool, b: bool) -> bool
-    ensures { λ r. ⌜ r ≡ (a or b) ⌝ }
-{
-    if a {
-        return true;
-    }
-    b
-}
-
-fn both(a: bool, b: bool) -> bool
-    ensures { λ r. ⌜ r ≡ (a and b) ⌝ }
-{
-    if a {
-        return b;
-    }
-    false
-}
 
 // ---- which entries there are, and which of them live transactions have read
 fn held_of(entries: [Entry; Station::SLOTS]) -> [bool; Station::SLOTS]
@@ -71,6 +51,17 @@ fn held_of(entries: [Entry; Station::SLOTS]) -> [bool; Station::SLOTS]
     out
 }
 
+// Whether a row has the id. Transactions mostly differ, so they are compared first.
+fn has_id(clocks: &[u64; Station::SLOTS], txns: &[u32; Station::SLOTS], d: usize, id: Id) -> bool
+    requires { ⌜ d < Limits.slots ⌝ }
+    ensures { λ r. ⌜ r ≡ sameId (idAt (now (clocks .entry)) (now (txns .entry)) d) id ⌝ }
+{
+    if txns[d] != id.txn {
+        return false;
+    }
+    clocks[d] == id.clock
+}
+
 // The rows marked, and those that have the id.
 fn with_id(
     marks: [bool; Station::SLOTS],
@@ -83,12 +74,12 @@ fn with_id(
     let mut out = marks;
     let mut d = 0;
     while d < Station::SLOTS {
-        let row = Id {
-            clock: clocks[d],
-            txn: txns[d],
-        };
-        out[d] = either(out[d], same_id(row, id));
+        let at = d;
         d += 1;
+        if !has_id(clocks, txns, at, id) {
+            continue;
+        }
+        out[at] = true;
     }
     out
 }
@@ -168,6 +159,15 @@ fn all_seen(seen: &[bool; Station::KEYS], e: Entry) -> bool
         j += 1;
     }
     true
+}
+
+fn both(a: bool, b: bool) -> bool
+    ensures { λ r. ⌜ r ≡ (a and b) ⌝ }
+{
+    if a {
+        return b;
+    }
+    false
 }
 
 // Of all entries, newest first, those that are superseded by the ones before them and not read.

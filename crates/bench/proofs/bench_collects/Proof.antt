@@ -41,7 +41,7 @@ loop-less : tie.Need-loop-less Inv-loop μ-loop
 loop-less c = search needs
 
 loop-again : tie.Need-loop-again Inv-loop μ-loop
-loop-again c = 
+loop-again c =
     let t = c .before .before .before .before .before in
     let r = c .before .before .collects in
     let e = same-len-mid (t .loop .at) (t .loop .at + 13824 - t .loop .at) (t .loop .stores) (r .last .1 .0) (r .kept .1 .0) in

@@ -1,5 +1,4 @@
 -- `interface::sweep_for` meets its contract.
-use mathlib.Core.Path.{sym, ap}
 use borrow.Author.Tests.{eq-eqb, ne-eqb}
 use Rattle.model.specs.Lists.{_and_}
 use Rattle.sheet.specs.Lines.{ifUnused}

@@ -1,7 +1,7 @@
 -- `sweeping::collect_all` meets its contract.
-use Prim.Native.Nat.{ℕ, _*_, _-_, _<_, _≤_}
-use mathlib.Core.Path.{_≡_, refl, sym, ap, subst, _∙_}
-use mathlib.Core.Bool.{Bool, true, false}
+use Prim.Native.Nat.{ℕ, _*_, _-_, _<_}
+use mathlib.Core.Path.{_≡_, sym, ap, _∙_}
+use mathlib.Core.Bool.{false}
 use mathlib.Core.List.{List, []}
 use lib.Dec.{ltb}
 use lib.ListN.{length, getD, length-map}
@@ -9,13 +9,12 @@ use native.Mathlib.Decide.{ℕ-discrete}
 use native.Mathlib.Omega.{arith}
 use borrow.Author.Needs.{needs}
 use borrow.Author.Tests.{not-true, not-false, ltb-true, ltb-false, lt-ltb}
-use Rattle.model.specs.declared.Entry.{Entry}
 use Rattle.model.specs.declared.Station.{Station}
 use Rattle.model.specs.Lists.{_and_}
 use Rattle.model.specs.Limits.{slots, slotSize}
-use Rattle.model.specs.Entries.{noEntry, carriesEntry}
+use Rattle.model.specs.Entries.{carriesEntry}
 use Rattle.model.specs.Stations.{entryAt, setEntry}
-use Rattle.model.specs.Records.{zeroRecord, recordAt, withRecord}
+use Rattle.model.specs.Records.{recordAt}
 use Rattle.model.specs.Sweep.{collections}
 use Rattle.model.proofs.Tests.{and-left, and-right, and-second}
 use Rattle.model.proofs.RecordLaws.{record-part}
@@ -30,7 +29,7 @@ abbrev μ-loop : tie.MeasureT-loop
 μ-loop store₀ limit order next₀ left₀ count₀ store next left count = left
 
 loop-holds : tie.Need-loop-holds Inv-loop μ-loop
-loop-holds c = 
+loop-holds c =
     let s = c .before in
     let w : length (s .args .station .entries) ≡ 64 = simp length-map at (s .good .0 .1 .1 .1 .0 .1 .0 .1) in
     sweeping-start _ _ _ _ _ (s .pre .1 .0 .0) w (s .pre .0) (s .pre .1 .1)
@@ -104,7 +103,7 @@ carried c =
     ∙ (ap (λ (x : List ℕ). carriesEntry x (entryAt (t .loop .next) (w .result))) (sym (record-part (t .loop .store) (w .result) 0 (slotSize * w .result) (omega arith))) ∙ sym (c .carries-entry .ensures))
 
 returns : tie.Need-returns Inv-loop μ-loop
-returns c = 
+returns c =
     let w = wide-at (c .before) in
     let t = turn w in
     let s = t .before .before in
@@ -138,7 +137,7 @@ loop-less c = omega (arith, going (wide-at (after c) .before .before) .0)
 
 loop-again : tie.Need-loop-again Inv-loop μ-loop
 unfolding setEntry
-loop-again c = 
+loop-again c =
     let w = wide-at (after c) in
     let t = turn w in
     sweeping-as _ _ _ (t .loop .next) (t .loop .store) _ _ _ _
@@ -154,7 +153,7 @@ ended p (yes z) h = none-ends _ _ _ _ _ _ _ _ p z
 ended {limit} {st₀} {s₀} {st} {s} {count} {n} {xs} p (no z) h = limit-ends _ _ _ _ _ _ _ _ p (ltb-false count limit (and-second _ _ h (lt-ltb 0 n (omega arith))))
 
 returns-2 : tie.Need-returns-2 Inv-loop μ-loop
-returns-2 c = 
+returns-2 c =
     let t = c .before .before in
     let s = t .before .before in
     swept _ _ _ _ _ _ _ _ (t .loop .inv) (s .pre .0) (s .pre .1 .0 .0) (s .pre .1 .0 .1) (s .pre .1 .0 .2) (ended (t .loop .inv) (ℕ-discrete (t .loop .left) 0) (sym (c .before .goes-on .ensures) ∙ c .if1 .left))

@@ -1,12 +1,12 @@
 -- `sweeping::read_of` meets its contract.
 use Prim.Native.Nat.{ℕ, _≤_, _-_}
-use mathlib.Core.Path.{_≡_, refl, sym, ap, _∙_}
+use mathlib.Core.Path.{_≡_, refl, ap, _∙_}
 use mathlib.Core.Bool.{Bool, false}
 use lib.ListN.{length, getD, replicate}
 use native.Mathlib.Omega.{arith}
 use borrow.Author.Needs.{needs}
 use Rattle.model.specs.declared.Live.{Live}
-use Rattle.model.specs.Lists.{_or_, any}
+use Rattle.model.specs.Lists.{_or_}
 use Rattle.model.specs.Lives.{readsOf, liveBeyond}
 use Rattle.model.proofs.ListLaws.{getD-all}
 use Rattle.reading.specs.Columns.{idAt, hasId}
@@ -39,7 +39,7 @@ loop-less : tie.Need-loop-less Inv-loop μ-loop
 loop-less c = search needs
 
 loop-again : tie.Need-loop-again Inv-loop μ-loop
-loop-again c = 
+loop-again c =
     let t = c .before .before .before in
     let h : length (t .before .args .t1) ≡ 8 = t .before .good .0 .1 .0 .1 in
     (omega arith, also-more _ _ _ _ _ _ (t .loop .inv .1) liveBeyond _ refl (omega (arith, h)) _ (c .with-reads .ensures))
@@ -50,7 +50,7 @@ unfolding _or_
 none d b = ap (λ (a : Bool). a or b) (getD-all 64 d false)
 
 returns : tie.Need-returns Inv-loop μ-loop
-returns c = 
+returns c =
     let t = c .before in
     let h : length (t .before .args .t1) ≡ 8 = t .before .good .0 .1 .0 .1 in
     λ d o. also-all _ _ _ _ _ _ (t .loop .inv .1) (omega (arith, h)) d o ∙ none d _

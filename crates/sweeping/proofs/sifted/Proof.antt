@@ -1,7 +1,7 @@
 -- `sweeping::sifted` meets its contract.
 use Prim.Native.Nat.{ℕ, _+_, _<_, _≤_, _-_}
-use mathlib.Core.Path.{_≡_, refl, sym, ap, ap₂, subst, _∙_}
-use mathlib.Core.Bool.{Bool, true, false, not}
+use mathlib.Core.Path.{_≡_, refl, sym, ap, subst, _∙_}
+use mathlib.Core.Bool.{Bool, false, not}
 use mathlib.Core.List.{List}
 use lib.Dec.{ltb}
 use lib.ListN.{length, getD, replicate, length-set}
@@ -14,7 +14,7 @@ use Rattle.model.specs.Limits.{keys}
 use Rattle.model.specs.Entries.{keysOf, wrote}
 use Rattle.model.proofs.ListLaws.{getD-all}
 use Rattle.reading.specs.Columns.{nthEntry}
-use Rattle.sweeping.specs.Marks.{AlsoMarked, Marked, allSeen}
+use Rattle.sweeping.specs.Marks.{AlsoMarked, Marked}
 use Rattle.sweeping.specs.Sifted.{wroteBefore, keeps, AreSifted}
 use Rattle.sweeping.proofs.SiftLaws.{before-none, before-more, seen-before, sifted-start, sifted-skip, sifted-keep}
 use Rattle.sweeping.proofs.sifted.Statement.{statement}
@@ -96,7 +96,7 @@ loop-less : tie.Need-loop-less Inv-loop μ-loop
 loop-less c = search needs
 
 loop-again : tie.Need-loop-again Inv-loop μ-loop
-loop-again c = 
+loop-again c =
     let t = turn (c .before) in
     (omega (arith, c .before .before .before .before .before .before .before .before .loop-test .taken), t .loop .inv .1, more (c .before), sifted-skip _ _ _ _ _ _ (t .loop .inv .3) (sym (kept (c .before)) ∙ not-true _ (c .if1 .taken)))
 
@@ -115,7 +115,7 @@ loop-less-2 : tie.Need-loop-less-2 Inv-loop μ-loop
 loop-less-2 c = search needs
 
 loop-again-2 : tie.Need-loop-again-2 Inv-loop μ-loop
-loop-again-2 c = 
+loop-again-2 c =
     let t = turn (c .before) in (
       omega (arith, c .before .before .before .before .before .before .before .before .loop-test .taken),
       length-set (t .loop .slots) (t .loop .n) _ ∙ t .loop .inv .1,
@@ -124,7 +124,7 @@ loop-again-2 c =
     )
 
 returns : tie.Need-returns Inv-loop μ-loop
-returns c = 
+returns c =
     let t = c .before in
     let q : t .loop .c ≡ t .before .args .t2 .n = omega arith in
     subst (λ (x : ℕ). AreSifted (t .before .args .t1) (t .before .args .t2 .slots) (t .before .args .t3) x (t .loop .n) (t .loop .slots)) q (t .loop .inv .3)

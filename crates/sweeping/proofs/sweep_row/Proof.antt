@@ -1,6 +1,4 @@
 -- `sweeping::sweep_row` meets its contract.
-use mathlib.Core.Path.{sym, _∙_}
-use native.Mathlib.Omega.{arith}
 use borrow.Author.Tests.{not-true, not-false, eq-eqb, ne-eqb, lt-ltb, le-ltb}
 use Rattle.model.specs.Lists.{_or_}
 use Rattle.stations.specs.Found.{firstRow}

@@ -1,8 +1,6 @@
 -- `sweeping::to_collect` meets its contract.
-use Prim.Native.Nat.{ℕ}
 use mathlib.Core.Path.{_≡_}
 use lib.ListN.{length}
-use native.Mathlib.Omega.{arith}
 use borrow.Author.Needs.{needs}
 use Rattle.sweeping.proofs.ToCollect.{to-collect}
 use Rattle.sweeping.proofs.to_collect.Statement.{statement}

@@ -1,14 +1,13 @@
 -- `sweeping::with_id` meets its contract.
-use Prim.Native.Nat.{ℕ, _-_}
-use mathlib.Core.Path.{_≡_, ap, _∙_}
-use mathlib.Core.Bool.{Bool, false}
-use lib.ListN.{length, getD}
+use Prim.Native.Nat.{_-_}
+use mathlib.Core.Path.{_≡_, sym, _∙_}
+use lib.ListN.{length}
 use native.Mathlib.Omega.{arith}
 use borrow.Author.Needs.{needs}
-use Rattle.model.specs.Lists.{_or_}
+use borrow.Author.Tests.{not-true, not-false}
 use Rattle.model.specs.Ids.{sameId}
 use Rattle.reading.specs.Columns.{idAt}
-use Rattle.sweeping.proofs.MarkLoop.{Marking, marking-start, marking-next, marking-all}
+use Rattle.sweeping.proofs.MarkLoop.{Marking, marking-start, marking-skip, marking-hit, marking-all}
 use Rattle.sweeping.proofs.with_id.Statement.{statement}
 use Rattle.sweeping.proofs.with_id.Tie as tie
 
@@ -21,43 +20,29 @@ abbrev μ-loop : tie.MeasureT-loop
 loop-holds : tie.Need-loop-holds Inv-loop μ-loop
 loop-holds c = let l : length (c .args .marks) ≡ 64 = search needs in marking-start _ _ _ l
 
-mul-t9 : tie.Need-mul-t9 Inv-loop μ-loop
-mul-t9 c = search needs
-
-element-copy-out-t12 : tie.Need-element-copy-out-t12 Inv-loop μ-loop
-element-copy-out-t12 c = search needs
-
-mul-t13 : tie.Need-mul-t13 Inv-loop μ-loop
-mul-t13 c = search needs
-
-element-copy-out-t16 : tie.Need-element-copy-out-t16 Inv-loop μ-loop
-element-copy-out-t16 c = search needs
-
-array-read-either : tie.Need-array-read-either Inv-loop μ-loop
-array-read-either c = search needs
-
-same-id-requires : tie.Need-same-id-requires Inv-loop μ-loop
-same-id-requires c κs = search needs
-
-either-requires : tie.Need-either-requires Inv-loop μ-loop
-either-requires c κs = search needs
-
-array-write-out : tie.Need-array-write-out Inv-loop μ-loop
-array-write-out c = search needs
-
 add-d : tie.Need-add-d Inv-loop μ-loop
 add-d c = search needs
+
+has-id-requires : tie.Need-has-id-requires Inv-loop μ-loop
+has-id-requires c κs = search needs
 
 loop-less : tie.Need-loop-less Inv-loop μ-loop
 loop-less c = search needs
 
 loop-again : tie.Need-loop-again Inv-loop μ-loop
-loop-again c =
-    let t = c .before .before .before .before .before in
-    marking-next _ _ _ (t .loop .d) (t .loop .out) (t .loop .inv) (omega arith) (c .either .result) (c .either .ensures ∙ ap (λ (b : Bool). getD (t .loop .out) (t .loop .d) false or b) (c .before .same-id .ensures))
+loop-again c = let t = c .before .before .before in marking-skip _ _ _ _ _ (t .loop .inv) (omega arith) (sym (c .before .has-id .ensures) ∙ not-true _ (c .if1 .taken))
+
+array-write-out : tie.Need-array-write-out Inv-loop μ-loop
+array-write-out c = search needs
+
+loop-less-2 : tie.Need-loop-less-2 Inv-loop μ-loop
+loop-less-2 c = search needs
+
+loop-again-2 : tie.Need-loop-again-2 Inv-loop μ-loop
+loop-again-2 c = let t = c .before .before .before in marking-hit _ _ _ _ _ (t .loop .inv) (omega arith) (sym (c .before .has-id .ensures) ∙ not-false _ (c .if1 .left))
 
 returns : tie.Need-returns Inv-loop μ-loop
-returns c = let t = c .before in marking-all _ _ _ (t .loop .d) (t .loop .out) (t .loop .inv) (omega arith)
+returns c = let t = c .before in marking-all _ _ _ _ _ (t .loop .inv) (omega arith)
 
 pub with-id-spec : {M : Type 1} → statement M
 with-id-spec =
@@ -66,15 +51,11 @@ with-id-spec =
     Inv-loop
     μ-loop
     loop-holds
-    mul-t9
-    element-copy-out-t12
-    mul-t13
-    element-copy-out-t16
-    array-read-either
-    same-id-requires
-    either-requires
-    array-write-out
     add-d
+    has-id-requires
     loop-less
     loop-again
+    array-write-out
+    loop-less-2
+    loop-again-2
     returns)

@@ -1,13 +1,13 @@
 -- `sweeping::with_keys` meets its contract.
 use Prim.Native.Nat.{ℕ, _+_, _≤_, _-_}
-use mathlib.Core.Path.{_≡_, sym, ap, subst, _∙_}
+use mathlib.Core.Path.{_≡_, sym, _∙_}
 use mathlib.Core.Bool.{Bool, true}
 use mathlib.Core.List.{List}
 use lib.Dec.{eqb}
-use lib.ListN.{length, getD, set, length-set}
+use lib.ListN.{length, set, length-set}
 use native.Mathlib.Omega.{arith}
 use borrow.Author.Needs.{needs}
-use Rattle.model.specs.Lists.{any, member}
+use Rattle.model.specs.Lists.{member}
 use Rattle.model.specs.Entries.{keysOf, wrote}
 use Rattle.model.proofs.InsideLaws.{key-nth}
 use Rattle.sweeping.specs.Marks.{AlsoMarked}

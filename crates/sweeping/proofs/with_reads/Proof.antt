@@ -1,7 +1,5 @@
 -- `sweeping::with_reads` meets its contract.
 use Prim.Native.Nat.{ℕ, _≤_, _-_}
-use mathlib.Core.Path.{_≡_, sym, ap, subst, _∙_}
-use lib.ListN.{getD}
 use native.Mathlib.Omega.{arith}
 use borrow.Author.Needs.{needs}
 use Rattle.model.specs.declared.Read.{Read}
@@ -9,7 +7,6 @@ use Rattle.model.specs.Ids.{sameId}
 use Rattle.model.specs.Lives.{noRead, readsOf}
 use Rattle.model.proofs.InsideLaws.{read-nth}
 use Rattle.reading.specs.Columns.{idAt, hasId}
-use Rattle.sweeping.specs.Marks.{AlsoMarked}
 use Rattle.sweeping.proofs.MarkLoop.{AlsoAny, also-none, also-more, also-all}
 use Rattle.sweeping.proofs.with_reads.Statement.{statement}
 use Rattle.sweeping.proofs.with_reads.Tie as tie
