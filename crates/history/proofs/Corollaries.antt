@@ -210,9 +210,6 @@ sweep-clears vs f st up n k o m h l = why (w .ended)
     r : (sound st ≡ true) × Inv st (run vs begin .store) (run vs begin .ledger)
     r = running-keeps vs f st up
 
-    s : List ℕ
-    s = run vs begin .store
-
     w : IsSweep st (run vs begin .store) n (sweep st (run vs begin .store) n)
     w = sweep-is-collects st (run vs begin .store) n (r .1 .core .size) (r .0) (r .1 .slots .count) o m
 

@@ -58,11 +58,11 @@ module _ (s : List ℕ) (b : Ledger) (c : Call) (old : Lasting s b) (a : Answer)
   then-more x y st d n r q = subst Then (sym q) (stored-then y st d n r)
 
 -- the collects of a sweep, and so the sweep
-collections-keep : (n : ℕ) (st : Station) (s : List ℕ) (b : Ledger) → sound st ≡ true → Inv st s b → (a : Answer)
+collects-reported : (n : ℕ) (st : Station) (s : List ℕ) (b : Ledger) → sound st ≡ true → Inv st s b → (a : Answer)
     → Reported s b (map reportOf (collections n st s)) (saysStoringAll a (stationAfter (collections n st s) st) (recordsOf (collections n st s)))
 unfolding stationAfter recordsOf reportOf
-collections-keep zero st s b h inv a = unfold collections in nothing-reported s b st a inv
-collections-keep (suc n) st s b h inv a = go (ends-or-goes st s) (λ st₁ s₁ b₁ h₁ i₁. collections-keep n st₁ s₁ b₁ h₁ i₁ a)
+collects-reported zero st s b h inv a = unfold collections in nothing-reported s b st a inv
+collects-reported (suc n) st s b h inv a = go (ends-or-goes st s) (λ st₁ s₁ b₁ h₁ i₁. collects-reported n st₁ s₁ b₁ h₁ i₁ a)
   where
     go : Ends st s ⊎ Goes st s
         → ((st₁ : Station) (s₁ : List ℕ) (b₁ : Ledger) → sound st₁ ≡ true → Inv st₁ s₁ b₁ → Reported s₁ b₁ (map reportOf (collections n st₁ s₁)) (saysStoringAll a (stationAfter (collections n st₁ s₁) st₁) (recordsOf (collections n st₁ s₁))))
@@ -88,7 +88,7 @@ sweep-keeps st s b n inv h = rows b inv
     row x t rs e f = guard (Refusing st s) x t rs st e (refused x) f
 
     swept : Refusing st s (saysStoringAll (A.Swept (length (collections n st s))) (stationAfter (collections n st s) st) (recordsOf (collections n st s)))
-    swept b₁ i₁ = unfold sweptIn in rw (collections-count n st s) (collections-keep n st s b₁ h i₁ _)
+    swept b₁ i₁ = unfold sweptIn in rw (collections-count n st s) (collects-reported n st s b₁ h i₁ _)
 
     rows : Refusing st s (sweep st s n)
     rows = row 1 _ _ _ λ h1. row 2 _ _ _ λ h2. row 20 _ _ _ λ h20. unguarded (Refusing st s) st _ swept

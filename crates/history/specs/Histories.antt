@@ -51,8 +51,8 @@ pub record Report : Type 0 where
 unfoldable pub reportOf : Collection → Report
 reportOf x = record { call = Collect (x .slot); answer = x .effect .answer; stores = length (x .effect .stores) }
 
--- "The book is fed each call with its answer.": a sweep as the collects that its answer counts, any other call as itself. It reports with its
--- last store, or stores nothing
+-- "The book is fed each call with its answer.": a sweep as the collects that its answer counts, any other call as itself,
+-- which reports with its last store, or stores nothing
 unfoldable pub reports : Call → Answer → Station → List ℕ → List Report
 reports c a st s = cond (isSweep c) (map reportOf (collections (sweptIn a) st s)) (record { call = c; answer = a; stores = length (does c st s .stores) } ∷ [])
 
