@@ -14,6 +14,7 @@ pub mod ConflictLaws
 pub mod OrderLaws
 pub mod ReadingLaws
 pub mod StationLaws
+pub mod ClockLaws
 pub mod GetLaws
 pub mod CollectionLaws
 pub mod SoundLaws
@@ -21,6 +22,7 @@ pub mod SoundFacts
 pub mod SoundKept
 pub mod SweepLaws
 pub mod RangesKept
+pub mod CommitLaws
 pub mod ReadYourWrites
 pub mod BenchTable
 pub mod BenchSweeps

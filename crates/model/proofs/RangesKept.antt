@@ -1,9 +1,9 @@
 -- A station within its types stays so under every call, and a store of bytes stays one of bytes.
 use Prim.Native.Nat.{ℕ, zero, suc, _+_, _*_, _/_, _^_, _<_, _≤_}
-use mathlib.Core.Path.{_≡_, refl, sym, _∙_}
-use mathlib.Core.Logic.{_⊎_, inl, inr}
+use mathlib.Core.Path.{_≡_, refl, sym, subst, _∙_}
+use mathlib.Core.Logic.{_⊎_, inl, inr, ⊎-elim}
 use mathlib.Core.Bool.{Bool, true, false, not}
-use mathlib.Core.List.{List, [], _∷_, map}
+use mathlib.Core.List.{List, [], _∷_, map, List·Memᴰ}
 use lib.Dec.{eqb, ltb, leb, lit<}
 use lib.ListN.{length, take, drop, replicate, length-set, length-map, length-drop}
 use lib.Seq.{length-take-le}
@@ -17,8 +17,8 @@ use Rattle.model.specs.declared.Station.{Station}
 use Rattle.model.specs.declared.Phase.{Phase}
 use Rattle.model.specs.declared.Phase.the-variants.{Unused, Open, Closing}
 use Rattle.model.specs.declared.Answer.{Answer}
-use Rattle.model.specs.Lists.{_and_, anyBelow}
-use Rattle.model.specs.Limits.{keys, livePlaces, slots, writeLimit, readLimit, recordSize, storeSize, txnRange, numberRange, byteRange}
+use Rattle.model.specs.Lists.{_and_, member, anyBelow}
+use Rattle.model.specs.Limits.{keys, livePlaces, slots, writeLimit, readLimit, recordSize, storeSize, txnRange, numberRange, lastClock, byteRange}
 use Rattle.model.specs.Ids.{noId}
 use Rattle.model.specs.Bytes.{bytes, number, headBytes, idIn}
 use Rattle.model.specs.Lives.{noWrite, noRead, blank, noLive, writesOf, readsOf, writeKey, readKey, hasWritten, hasRead, closingSlot, closingClock, recordsStored, withWrites, withReads, withPhase}
@@ -31,6 +31,7 @@ use Rattle.model.specs.Effects.{RecordWrite, Effect, stored, says, saysS
 use Rattle.model.specs.Start.{opened, start}
 use Rattle.model.specs.Put.{withWrite, put}
 use Rattle.model.specs.Get.{choiceOf, withRead, noRoom, answered, get}
+use Rattle.model.specs.Clocks.{clocks, clockAbove}
 use Rattle.model.specs.Commit.{highestFree, commit}
 use Rattle.model.specs.Step.{oneMore, stepped, step}
 use Rattle.model.specs.Abort.{abort}
@@ -45,6 +46,7 @@ use Rattle.model.proofs.InsertLaws.{every-insert, padded-length, every-
 use Rattle.model.proofs.RefusalLaws.{guard, unguarded, cond-rule}
 use Rattle.model.proofs.ScanLaws.{entries-length}
 use Rattle.model.proofs.StationLaws.{place-hit}
+use Rattle.model.proofs.ClockLaws.{clock-below, clock-of}
 use Rattle.model.proofs.GetLaws.{version-entry, version-wrote}
 use Rattle.model.proofs.SoundLaws.{Used, write-limit, read-limit, used-withWrite, used-withRead}
 use Rattle.model.proofs.SoundFacts.{live-facts}
@@ -295,6 +297,15 @@ module _ (st : Station) (f : StationFits st) where
   unfolding unsound
   live-used t h2 h3 h8 = live-facts st (not-false _ h2) (placeOf t st) (λ e. eqb-false t 0 h3 (sym (place-hit st t (not-false _ h8) .1) ∙ e))
 
+  -- the clocks of entries and closing transactions, and the next one while there is one
+  pub clocks-fit : (n : ℕ) → List·Memᴰ n (clocks st) → n < numberRange
+  unfolding liveAt
+  clocks-fit n m = ⊎-elim (λ r. subst (λ (x : ℕ). x < numberRange) (r .2) (entry-fits (r .0) (r .1) .id .clock64))
+      (λ r. subst (λ (x : ℕ). x < numberRange) (r .2) (every-at LiveFits (st .live) (f .live) (r .0) _ (r .1) .phase .clock64)) (clock-of st n m)
+
+  clock-fits : (c : ℕ) → c < numberRange → member lastClock (clocks st) ≡ false → clockAbove c (clocks st) < numberRange
+  clock-fits c o h = clock-below c (clocks st) o clocks-fit h
+
   row : (n : ℕ) (b : Bool) (rs : List Row) (e : Effect) → (b ≡ false → EffectFits (refusals rs st e)) → EffectFits (refusals (n when b ∷ rs) st e)
   row = fits-row st f
 
@@ -335,12 +346,12 @@ module _ (st : Station) (f : StationFits st) where
       unguarded EffectFits st _ (relive _ _ _ (withWrite-fits _ (live-fits t h8) (st .entries) k v (live-used t h2 h3 h8) (leb-false keys k h4) (y .0 .1) h11))
   call-fits (Get t k) s y h = row 1 _ _ _ λ h1. row 2 _ _ _ λ h2. row 3 _ _ _ λ h3. row 4 _ _ _ λ h4. row 8 _ _ _ λ h8. row 9 _ _ _ λ h9. row 12 _ _ _ λ h12. row 17 _ _ _ λ h17.
       unguarded EffectFits st _ (answered-fits t s k (live-fits t h8) (live-used t h2 h3 h8) (leb-false keys k h4) _ refl h12)
-  call-fits (Commit t c) s y h = row 2 _ _ _ λ h2. row 3 _ _ _ λ h3. row 5 _ _ _ λ h5. row 8 _ _ _ λ h8. row 9 _ _ _ λ h9. row 13 _ _ _ λ h13.
+  call-fits (Commit t c) s y h = row 2 _ _ _ λ h2. row 3 _ _ _ λ h3. row 5 _ _ _ λ h5. row 8 _ _ _ λ h8. row 9 _ _ _ λ h9. row 13 _ _ _ λ h13. row 21 _ _ _ λ h21.
       unguarded EffectFits st _ (
       cond-rule EffectFits (isHeld t st) _ _ (λ q. says-fits _ st f) λ nh.
       cond-rule EffectFits (eqb (l t .«write_count») 0) _ _ (λ q. relive _ _ _ noLive-fits) λ nw.
       let w : 1 ≤ l t .«write_count» = omega (arith, eqb-false (l t .«write_count») 0 nw) in
-      relive _ _ _ (withPhase-fits _ (live-fits t (and-first _ _ h8 (not-of-false _ nh))) _ (closing-fits _ c (free-low st (not-false _ (and-second _ _ h13 (le-leb _ _ w)))) (y .0 .1))))
+      relive _ _ _ (withPhase-fits _ (live-fits t (and-first _ _ h8 (not-of-false _ nh))) _ (closing-fits _ _ (free-low st (not-false _ (and-second _ _ h13 (le-leb _ _ w)))) (clock-fits c (y .0 .1) (and-second _ _ h21 (le-leb _ _ w))))))
   call-fits (Step t) s y h = row 1 _ _ _ λ h1. row 2 _ _ _ λ h2. row 3 _ _ _ λ h3. row 8 _ _ _ λ h8. row 10 _ _ _ λ h10. unguarded EffectFits st _ (stepped-fits t (live-fits t h8) (live-used t h2 h3 h8))
   call-fits (Abort t) s y h = row 2 _ _ _ λ h2. row 3 _ _ _ λ h3. row 8 _ _ _ λ h8. row 9 _ _ _ λ h9. unguarded EffectFits st _ (relive _ _ _ noLive-fits)
   call-fits (Collect d) s y h = collect-fits st f s d

@@ -6,7 +6,7 @@ use lib.ListN.{replicate}
 use Rattle.model.specs.declared.Phase.the-variants.{Closing}
 use Rattle.model.specs.declared.Answer.{Answer}
 use Rattle.model.specs.declared.Answer.the-variants as A
-use Rattle.model.specs.Lists.{_and_, _or_, all, any, first, filter, count, insert, padded, from, member, least, ascending, distinct, same, anyBelow, greatestBelow}
+use Rattle.model.specs.Lists.{_and_, _or_, all, any, first, filter, count, insert, padded, from, member, least, maximum, ascending, distinct, same, anyBelow, greatestBelow}
 use Rattle.model.specs.Limits.{storeSize}
 use Rattle.model.specs.Ids.{older, sameId, newerOf, greatest}
 use Rattle.model.specs.Bytes.{bytes, number, idIn, headBytes}
@@ -23,6 +23,7 @@ use Rattle.model.specs.Effects.{stored, says, saysStoring, refusals, wro
 use Rattle.model.specs.Start.{opened, start}
 use Rattle.model.specs.Put.{withWrite, put}
 use Rattle.model.specs.Get.{choiceOf, withRead, versionAt, noRoom, notCarried, answered, get}
+use Rattle.model.specs.Clocks.{clocks, clockAbove}
 use Rattle.model.specs.Commit.{highestFree, commit}
 use Rattle.model.specs.Step.{oneMore, stepped, step}
 use Rattle.model.specs.Abort.{abort}
@@ -48,7 +49,7 @@ sheetValues =
     ∷ values 1 0 0 ∷ values 0 0 0 ∷ values 40 100 5 ∷ values 0 0 0 ∷ values 0 100 5 ∷ values 15 0 0 ∷ values 0 0 0 ∷ []
 
 pub sheet-answers : answers sheetCalls emptyStation (replicate storeSize 0) ≡ sheetAnswers
-unfolding sheetCalls sheetAnswers _and_ _or_ all any first filter count insert padded from member ascending distinct same anyBelow greatestBelow older sameId newerOf greatest emptyStation writesOf readsOf keysOf wrote wroteAs hasWritten hasRead valueUnder isClosing closingSlot closingClock recordsStored liveAt entryAt setLive setEntry liveTxns heldTxns isLive isHeld placeOf slotOf holds slotMark closingSlots isFree bytes number idIn markIn entryIn valueIn headBytes commitRecord versionRecord zeroRecord entryRules commitRules carriesEntry carriesVersion recordAt withRecord recordOf versionsCarry judged seen isNoWrite isNoRead isNoEntry isNoLive zeroPastCounts setsRight names inUse closingRight placeRight entryRight sound lowerBound conflictsWith least lowestConflict conflicts Option·elim passes keepFirst foremost newest newestWriter keyInTheWay chosen choose newerOn superseded isReadBy isRead stored says saysStoring refusals wrongLength unsound opened start withWrites withWrite put choiceOf withReads withRead versionAt noRoom notCarried answered get withPhase highestFree commit entryFor oneMore stepped step abort collect slotsSeen entrySeen isCommitted breaks lowestBroken scanned scan does answers
+unfolding sheetCalls sheetAnswers _and_ _or_ all any first filter count insert padded from member ascending distinct same anyBelow greatestBelow older sameId newerOf greatest emptyStation writesOf readsOf keysOf wrote wroteAs hasWritten hasRead valueUnder isClosing closingSlot closingClock recordsStored liveAt entryAt setLive setEntry liveTxns heldTxns isLive isHeld placeOf slotOf holds slotMark closingSlots isFree bytes number idIn markIn entryIn valueIn headBytes commitRecord versionRecord zeroRecord entryRules commitRules carriesEntry carriesVersion recordAt withRecord recordOf versionsCarry judged seen isNoWrite isNoRead isNoEntry isNoLive zeroPastCounts setsRight names inUse closingRight placeRight entryRight sound lowerBound conflictsWith least lowestConflict conflicts Option·elim passes keepFirst foremost newest newestWriter keyInTheWay chosen choose newerOn superseded isReadBy isRead stored says saysStoring refusals wrongLength unsound opened start withWrites withWrite put choiceOf withReads withRead versionAt noRoom notCarried answered get withPhase highestFree maximum clocks clockAbove commit entryFor oneMore stepped step abort collect slotsSeen entrySeen isCommitted breaks lowestBroken scanned scan does answers
 sheet-answers = refl
 
 pub sheet-values : map valuesOf sheetAnswers ≡ sheetValues

@@ -32,6 +32,7 @@ use Rattle.model.specs.Effects.{Effect, says, saysStoring, Row, _when_, 
 use Rattle.model.specs.Start.{opened, start}
 use Rattle.model.specs.Put.{withWrite, put}
 use Rattle.model.specs.Get.{choiceOf, withRead, noRoom, answered, get}
+use Rattle.model.specs.Clocks.{clocks, clockAbove}
 use Rattle.model.specs.Commit.{highestFree, commit}
 use Rattle.model.specs.Step.{oneMore, stepped, step}
 use Rattle.model.specs.Abort.{abort}
@@ -47,6 +48,7 @@ use Rattle.model.proofs.RefusalLaws.{guard, unguarded, cond-rule}
 use Rattle.model.proofs.SlotLaws.{committed-rules}
 use Rattle.model.proofs.ScanLaws.{seen-at, txnSeen, KeepsRules, txn-seen, scan-length, scan-finds, scan-or, entries-length}
 use Rattle.model.proofs.StationLaws.{mark-at, place-hit, unheld-txn, unheld-of, held-inside, not-live, not-held, liveAt-same, liveAt-other, setLive-entry, entryAt-other, slotMark-closing}
+use Rattle.model.proofs.ClockLaws.{clock-real}
 use Rattle.model.proofs.GetLaws.{version-wrote}
 use Rattle.model.proofs.SoundLaws.{Sound, sound-at, sound-of, Used, Shut, place-used, place-shut, place-is-open, place-open, place-closing, place-in, sound-setLive, sound-relive, noLive-right, sound-unlive, setEntry-out, sound-setEntry, used-withWrite, used-withRead, entryFor-sound, entry-of-rules, unheld-wrote, names-setEntry}
 
@@ -224,12 +226,13 @@ commit-keeps st t c h =
     row 8 _ _ st _ h λ h8.
     row 9 _ _ st _ h λ h9.
     row 13 _ _ st _ h λ h13.
+    row 21 _ _ st _ h λ h21.
     unguarded Keeps st _ (
     cond-rule Keeps (isHeld t st) _ _ (λ q. says-keeps _ st h) λ nh.
     let z : isLive t st ≡ true = not-false _ (and-first _ _ h8 (not-of-false _ nh)) in
     cond-rule Keeps (eqb ((liveAt st (placeOf t st)) .«write_count») 0) _ _ (λ q. says-keeps _ _ (sound-of _ (sound-unlive st (placeOf t st) (sound-at st h) (place-hit st t z .0)))) λ nw.
     let o : 1 ≤ (liveAt st (placeOf t st)) .«write_count» = omega (arith, eqb-false ((liveAt st (placeOf t st)) .«write_count») 0 nw) in
-    says-keeps _ _ (sound-of _ (commit-sound st t c (live-at st t h (eqb-false t 0 h3) z) (eqb-false c 0 h5) o (not-false _ (and-second _ _ h13 (le-leb _ _ o))))))
+    says-keeps _ _ (sound-of _ (commit-sound st t (clockAbove c (clocks st)) (live-at st t h (eqb-false t 0 h3) z) (clock-real c (clocks st)) o (not-false _ (and-second _ _ h13 (le-leb _ _ o))))))
 
 -- ── step ──
 module _ (p : Phase) where

@@ -12,6 +12,7 @@ pub mod Sound
 pub mod Orders
 pub mod Reading
 pub mod Supersedence
+pub mod Clocks
 pub mod Effects
 pub mod Start
 pub mod Put

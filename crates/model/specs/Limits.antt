@@ -1,5 +1,5 @@
 -- 01 'Words': the limits, by name.
-use Prim.Native.Nat.{ℕ, _+_, _*_, _^_}
+use Prim.Native.Nat.{ℕ, _+_, _-_, _*_, _^_}
 
 -- "Key: 0 to 63."
 abbrev pub keys : ℕ
@@ -43,6 +43,10 @@ txnRange = 2 ^ 32
 
 abbrev pub numberRange : ℕ
 numberRange = 2 ^ 64
+
+-- "Clock: 1 to 2^64 − 1": after it there is none
+abbrev pub lastClock : ℕ
+lastClock = numberRange - 1
 
 abbrev pub byteRange : ℕ
 byteRange = 2 ^ 8

@@ -1,5 +1,5 @@
 -- Tests, and lists searched by a test: what the other definitions are written in.
-use Prim.Native.Nat.{ℕ, zero, suc, _-_, min}
+use Prim.Native.Nat.{ℕ, zero, suc, _-_, min, max}
 use mathlib.Core.Bool.{Bool, true, false, not}
 use mathlib.Core.List.{List, [], _∷_, _++_}
 use mathlib.Core.Option.{Option, some, none, Option·elim}
@@ -67,6 +67,11 @@ member n xs = any (eqb n) xs
 unfoldable pub least : List ℕ → Option ℕ
 least [] = none
 least (n ∷ ns) = some (Option·elim (least ns) n (min n))
+
+-- the greatest number of a list; 0 of the empty one
+unfoldable pub maximum : List ℕ → ℕ
+maximum [] = 0
+maximum (n ∷ ns) = max n (maximum ns)
 
 -- strictly ascending, all at least lo and below hi
 unfoldable pub ascending : ℕ → ℕ → List ℕ → Bool
