@@ -121,6 +121,7 @@ module _ (st : Station) (s : List ℕ) (b : Ledger) (inv : Inv st s b) (h : soun
     core = core-strike s (b .standing) (b .past) (inv .core) d o E (sl .entered d nz) newer;
     slots = slots-collect;
     drafts = drafts-cast st end (draftIn b) (setEntry-live st d noEntry) (inv .drafts);
+    once = inv .once;
     reads = λ i r q. rw (setEntry-live st d noEntry i) (λ mr mq w. inv .reads i r q mr mq (old-writer (r .id) (q .key) w));
     ranges = λ i. rw (setEntry-live st d noEntry i) (inv .ranges i);
   }

@@ -13,23 +13,26 @@ use Rattle.model.specs.declared.Entry.{Entry}
 use Rattle.model.specs.declared.Station.{Station}
 use Rattle.model.specs.declared.Phase.{Phase}
 use Rattle.model.specs.declared.Phase.the-variants.{Closing}
-use Rattle.model.specs.Lists.{_and_, anyBelow}
-use Rattle.model.specs.Limits.{slots, numberRange}
-use Rattle.model.specs.Lives.{writesOf, readsOf, isClosing, withPhase}
+use Rattle.model.specs.Lists.{_and_, member, anyBelow}
+use Rattle.model.specs.Limits.{slots, numberRange, lastClock}
+use Rattle.model.specs.Lives.{writesOf, readsOf, isClosing, closingClock, withPhase}
 use Rattle.model.specs.Stations.{liveAt, setLive, isLive, isHeld, placeOf, isFree}
 use Rattle.model.specs.Slots.{free, seen}
 use Rattle.model.specs.Sound.{sound}
 use Rattle.model.specs.Reading.{Atomic}
+use Rattle.model.specs.Clocks.{clocks, clockAbove}
 use Rattle.model.specs.Commit.{highestFree, commit}
 use Rattle.model.specs.Calls.{Commit, txnOf, numberOf}
 use Rattle.model.proofs.Tests.{and-left, and-right, and-intro, and-second, not-of-false, bool-cases}
 use Rattle.model.proofs.ListLaws.{greatest-below}
 use Rattle.model.proofs.StationLaws.{place-hit, unheld-txn, closing-same, slot-marked}
+use Rattle.model.proofs.ClockLaws.{clock-below}
 use Rattle.model.proofs.SoundFacts.{held-not-live}
 use Rattle.history.specs.Ledger.{Draft, Ledger, without, revised, withDrafts, closingAt, feed}
 use Rattle.history.specs.Matches.{Matches}
 use Rattle.history.proofs.Invariant.{Prepared, Slots, draftIn, Ranges, Inv, Good, good-says, row, unrefused, choice}
-use Rattle.history.proofs.DraftLaws.{draft-without, draft-revised, drafts-as, drafts-without, drafts-revised}
+use Rattle.history.proofs.DraftLaws.{draft-without, draft-revised, once-without, once-revised, drafts-as, drafts-without, drafts-revised}
+use Rattle.history.proofs.Reckoning.{reckons, clocks-low}
 use Rattle.history.proofs.LiveLaws.{slots-set, reads-set, ranges-set, cleared}
 
 -- a free slot reads free
@@ -53,12 +56,12 @@ closing-matches : (d c : ℕ) (p : Draft) (l : Live) → Matches p l → Matches
 unfolding withPhase readsOf writesOf
 closing-matches d c p l m = record {
   values = m .values;
-  clock = λ d′ c′ n′ e. closing-same d c 0 d′ c′ n′ e .1;
+  clock = unfold closingClock in refl;
   reads = m .reads;
 }
 
 -- a phase with its clock in range
-pub phase-ranges : (p : Phase) (l : Live) → ((d c n : ℕ) → p ≡ Closing d c n → c < numberRange) → Ranges l → Ranges (withPhase p l)
+pub phase-ranges : (p : Phase) (l : Live) → closingClock p < numberRange → Ranges l → Ranges (withPhase p l)
 unfolding withPhase writesOf
 phase-ranges p l f rg = record { txn = rg .txn; clock = f; filled = rg .filled; values = rg .values }
 
@@ -82,8 +85,9 @@ closed st s b t c d inv h oc n z nc o f = record {
   core = inv .core;
   slots = slots-set st s i l (inv .slots) (place-hit st t z .0) nc (λ d′ c′ n′ e. prepared-none s (liveAt st i) d c d′ c′ n′ o f (sym (phase-of _ (liveAt st i)) ∙ e));
   drafts = drafts-as _ _ _ (draft-revised t (closingAt c) (λ p. refl) (b .drafts)) (drafts-revised st (draftIn b) (inv .drafts) h t n z l (txn-of _ (liveAt st i) ∙ place-hit st t z .1) (closingAt c) (λ p m. closing-matches d c p (liveAt st i) m));
+  once = once-revised t (closingAt c) (λ p. refl) (b .drafts) (inv .once);
   reads = reads-set st i l (place-hit st t z .0) (inv .reads) (phase-reads (st .entries) _ (liveAt st i) (inv .reads i));
-  ranges = ranges-set st i l (place-hit st t z .0) (inv .ranges) (phase-ranges (Closing d c 0) (liveAt st i) (λ d′ c′ n′ e. omega (arith, oc, closing-same d c 0 d′ c′ n′ e .1)) (inv .ranges i));
+  ranges = ranges-set st i l (place-hit st t z .0) (inv .ranges) (phase-ranges (Closing d c 0) (liveAt st i) (unfold closingClock in oc) (inv .ranges i));
 }
   where
     i : ℕ
@@ -99,6 +103,7 @@ retried st s b t inv h hh = record {
   core = inv .core;
   slots = inv .slots;
   drafts = drafts-as _ _ _ (draft-without t (b .drafts)) (drafts-without st (draftIn b) (inv .drafts) t (held-not-live st h t hh));
+  once = once-without t (b .drafts) (inv .once);
   reads = inv .reads;
   ranges = inv .ranges;
 }
@@ -112,14 +117,21 @@ commit-keeps st s b t c inv h oc =
     row s b (Commit t c) st _ 8 _ _ inv λ h8.
     row s b (Commit t c) st _ 9 _ _ inv λ h9.
     row s b (Commit t c) st _ 13 _ _ inv λ h13.
+    row s b (Commit t c) st _ 21 _ _ inv λ h21.
     unrefused s b (Commit t c) st _
     (choice s b (Commit t c) _ _ _ (λ hh. good-says s b (Commit t c) _ _ (retried st s b t inv h hh)) λ hh.
     choice s b (Commit t c) _ _ _ (λ hw. good-says s b (Commit t c) _ _ (cleared st s b inv h t (live hh h8) h9)) λ hw.
     let g = greatest-below (isFree st) slots (some-free hw h13) in
-    good-says s b (Commit t c) _ _ (closed st s b t c _ inv h oc (eqb-false t 0 h3) (live hh h8) h9 (g .0) (free-seen st s (inv .slots) _ (g .0) (g .1))))
+    good-says s b (Commit t c) _ _ (rw (← (reckons st s b inv h c)) (closed st s b t (clockAbove c (clocks st)) _ inv h (low hw h21) (eqb-false t 0 h3) (live hh h8) h9 (g .0) (free-seen st s (inv .slots) _ (g .0) (g .1)))))
   where
     live : isHeld t st ≡ false → (not (isLive t st) and not (isHeld t st)) ≡ false → isLive t st ≡ true
     live hh h8 = ⊎-elim (λ y. y) (λ y. absurd (true≢false (sym (and-intro _ _ (not-of-false _ y) (not-of-false _ hh)) ∙ h8))) (bool-cases (isLive t st))
 
+    written : eqb (liveAt st (placeOf t st) .«write_count») 0 ≡ false → leb 1 (liveAt st (placeOf t st) .«write_count») ≡ true
+    written hw = le-leb 1 (liveAt st (placeOf t st) .«write_count») (omega (arith, eqb-false (liveAt st (placeOf t st) .«write_count») 0 hw))
+
+    low : eqb (liveAt st (placeOf t st) .«write_count») 0 ≡ false → (leb 1 (liveAt st (placeOf t st) .«write_count») and member lastClock (clocks st)) ≡ false → clockAbove c (clocks st) < numberRange
+    low hw h21 = clock-below c (clocks st) oc (clocks-low st s b inv h) (and-second _ _ h21 (written hw))
+
     some-free : eqb (liveAt st (placeOf t st) .«write_count») 0 ≡ false → (leb 1 (liveAt st (placeOf t st) .«write_count») and not (anyBelow (isFree st) slots)) ≡ false → anyBelow (isFree st) slots ≡ true
-    some-free hw h13 = not-false _ (and-second _ _ h13 (le-leb 1 (liveAt st (placeOf t st) .«write_count») (omega (arith, eqb-false (liveAt st (placeOf t st) .«write_count») 0 hw))))
+    some-free hw h13 = not-false _ (and-second _ _ h13 (written hw))

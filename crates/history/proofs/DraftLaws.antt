@@ -1,9 +1,9 @@
 -- Drafts while one live transaction changes.
 use Prim.Native.Nat.{ℕ, _<_}
 use mathlib.Core.Path.{_≡_, refl, sym, ap, subst, _∙_, fun-ext}
-use mathlib.Core.Logic.{_≢_}
+use mathlib.Core.Logic.{_≢_, _⊎_, inl, inr, ⊎-elim}
 use mathlib.Core.Bool.{Bool, true, false, cond, false≢true}
-use mathlib.Core.List.{List, [], _∷_}
+use mathlib.Core.List.{List, [], _∷_, List·Memᴰ, List·Memᴰ·head, List·Memᴰ·tail, List·Memᴰ·not-nil, List·Memᴰ·cases-cons}
 use mathlib.Core.Option.{Option, some, none, Option·none-ne-some, Option·some-injective}
 use lib.Dec.{eqb}
 use lib.ListN.{length}
@@ -19,6 +19,7 @@ use Rattle.model.proofs.StationLaws.{place-hit, setLive-at, liveAt-same, liveAt
 use Rattle.model.proofs.SoundFacts.{one-place, no-other}
 use Rattle.history.specs.Ledger.{Draft, draftOf, without, revised, at}
 use Rattle.history.specs.Matches.{Matches, Correspond}
+use Rattle.history.proofs.Invariant.{Once}
 
 pub some-inj : {A : Type 0} {x y : A} → some x ≡ some y → x ≡ y
 some-inj e = Option·some-injective _ _ e
@@ -104,6 +105,52 @@ pub was-draft : (f : Draft → Draft) (x : Option Draft) (p : Draft) → mapped 
 unfolding mapped
 was-draft f none p e = absurd (Option·none-ne-some p e)
 was-draft f (some q) p e = (q, refl, sym (some-inj e))
+
+-- ── no transaction has two ──
+pub draft-mem : (t : ℕ) (ps : List Draft) (p : Draft) → draftOf t ps ≡ some p → List·Memᴰ p ps
+unfolding draftOf
+draft-mem t [] p e = absurd (Option·none-ne-some p e)
+draft-mem t (q ∷ ps) p e = go (eqb t (q .txn)) refl (draft-mem t ps p)
+  where
+    go : (x : Bool) → eqb t (q .txn) ≡ x → (draftOf t ps ≡ some p → List·Memᴰ p ps) → List·Memᴰ p (q ∷ ps)
+    go true h ih = let r : q ≡ p = some-inj (rw h at e) in List·Memᴰ·head (sym r)
+    go false h ih = List·Memᴰ·tail (ih (rw h at e))
+
+without-mem : (t : ℕ) (ps : List Draft) (p : Draft) → List·Memᴰ p (without t ps) → List·Memᴰ p ps × (p .txn ≢ t)
+unfolding without
+without-mem t [] p m = absurd (List·Memᴰ·not-nil m)
+without-mem t (q ∷ ps) p m = go (eqb t (q .txn)) refl (without-mem t ps p)
+  where
+    go : (x : Bool) → eqb t (q .txn) ≡ x → (List·Memᴰ p (without t ps) → List·Memᴰ p ps × (p .txn ≢ t)) → List·Memᴰ p (q ∷ ps) × (p .txn ≢ t)
+    go true h ih = let r = ih (rw h at m) in (List·Memᴰ·tail (r .0), r .1)
+    go false h ih = ⊎-elim (λ e. (List·Memᴰ·head e, λ y. eqb-false t (q .txn) h (sym y ∙ ap (λ (x : Draft). x .txn) e))) (λ x. let r = ih x in (List·Memᴰ·tail (r .0), r .1)) (List·Memᴰ·cases-cons (rw h at m))
+
+revised-mem : (t : ℕ) (g : Draft → Draft) (ps : List Draft) (p : Draft) → List·Memᴰ p (revised t g ps) → (List·Memᴰ p ps × (p .txn ≢ t)) ⊎ ((q : Draft) × List·Memᴰ q ps × (q .txn ≡ t) × (p ≡ g q))
+unfolding revised
+revised-mem t g [] p m = absurd (List·Memᴰ·not-nil m)
+revised-mem t g (q ∷ ps) p m = ⊎-elim (λ e. go (eqb t (q .txn)) refl e) (λ x. ⊎-elim (λ y. inl (List·Memᴰ·tail (y .0), y .1)) (λ y. inr (y .0, List·Memᴰ·tail (y .1), y .2, y .3)) (revised-mem t g ps p x)) (List·Memᴰ·cases-cons m)
+  where
+    go : (x : Bool) → eqb t (q .txn) ≡ x → p ≡ cond (eqb t (q .txn)) (g q) q → (List·Memᴰ p (q ∷ ps) × (p .txn ≢ t)) ⊎ ((u : Draft) × List·Memᴰ u (q ∷ ps) × (u .txn ≡ t) × (p ≡ g u))
+    go true h e = inr (q, List·Memᴰ·head refl, sym (eqb-true t (q .txn) h), rw h at e)
+    go false h e = let r : p ≡ q = rw h at e in inl (List·Memᴰ·head r, λ y. eqb-false t (q .txn) h (sym y ∙ ap (λ (x : Draft). x .txn) r))
+
+pub once-without : (t : ℕ) (ps : List Draft) → Once ps → Once (without t ps)
+once-without t ps f p m = let r = without-mem t ps p m in draft-without t ps (p .txn) ∙ (at-other t none (λ x. draftOf x ps) (p .txn) (r .1) ∙ f p (r .0))
+
+pub once-new : (p : Draft) (ps : List Draft) → Once ps → Once (p ∷ without (p .txn) ps)
+once-new p ps f q m = draft-new p ps (q .txn) ∙ ⊎-elim
+    (λ e. ap (λ (x : Draft). at (p .txn) (some p) (λ y. draftOf y ps) (x .txn)) e ∙ (at-same (p .txn) (some p) (λ x. draftOf x ps) ∙ ap some (sym e)))
+    (λ x. let r = without-mem (p .txn) ps q x in at-other (p .txn) (some p) (λ y. draftOf y ps) (q .txn) (r .1) ∙ f q (r .0)) (List·Memᴰ·cases-cons m)
+
+pub once-revised : (t : ℕ) (g : Draft → Draft) → ((p : Draft) → g p .txn ≡ p .txn) → (ps : List Draft) → Once ps → Once (revised t g ps)
+unfolding mapped
+once-revised t g k ps f p m = draft-revised t g k ps (p .txn) ∙ go (revised-mem t g ps p m)
+  where
+    go : (List·Memᴰ p ps × (p .txn ≢ t)) ⊎ ((q : Draft) × List·Memᴰ q ps × (q .txn ≡ t) × (p ≡ g q)) → at t (mapped g (draftOf t ps)) (λ x. draftOf x ps) (p .txn) ≡ some p
+    go (inl r) = at-other t _ (λ x. draftOf x ps) (p .txn) (r .1) ∙ f p (r .0)
+    go (inr r) =
+        ap (at t (mapped g (draftOf t ps)) (λ x. draftOf x ps)) (ap (λ (x : Draft). x .txn) (r .3) ∙ (k (r .0) ∙ r .2))
+        ∙ (at-same t _ (λ x. draftOf x ps) ∙ (ap (mapped g) (ap (λ (x : ℕ). draftOf x ps) (sym (r .2)) ∙ f (r .0) (r .1)) ∙ ap some (sym (r .3))))
 
 -- drafts that are the same, one by one
 pub drafts-as : (st : Station) (f g : ℕ → Option Draft) → ((u : ℕ) → g u ≡ f u) → Correspond st f → Correspond st g

@@ -18,7 +18,7 @@ use Rattle.model.specs.declared.Phase.the-variants.{Closing}
 use Rattle.model.specs.declared.Answer.{Answer}
 use Rattle.model.specs.declared.Answer.the-variants as A
 use Rattle.model.specs.Limits.{slots, writeLimit, storeSize, txnRange, numberRange}
-use Rattle.model.specs.Lives.{noWrite, writesOf, readsOf}
+use Rattle.model.specs.Lives.{noWrite, writesOf, readsOf, closingClock}
 use Rattle.model.specs.Entries.{entryFor}
 use Rattle.model.specs.Stations.{liveAt, entryAt}
 use Rattle.model.specs.Records.{versionRecord, recordAt, withRecord}
@@ -60,6 +60,7 @@ pub record Core (s : List ℕ) (standing past : List Committed) : Type 0 where
   pub found : List·Permᴰ (inStore s) standing
   pub kept : (j : Committed) → List·Memᴰ j standing → List·Memᴰ j past
   pub dominated : (j : Committed) → List·Memᴰ j past → Dominated standing j
+  pub clocked : (j : Committed) → List·Memᴰ j past → j .id .clock < numberRange
 
 -- a read of a draft names a standing transaction that wrote its key, and the draft's other reads are atomic with it
 abbrev pub Sure : List Committed → Draft → Type 0
@@ -83,6 +84,10 @@ pub record Slots (st : Station) (s : List ℕ) : Type 0 where
 abbrev pub draftIn : Ledger → ℕ → Option Draft
 draftIn b t = draftOf t (b .drafts)
 
+-- no transaction has two
+abbrev pub Once : List Draft → Type 0
+Once ps = (p : Draft) → List·Memᴰ p ps → draftOf (p .txn) ps ≡ some p
+
 -- 3. read sets against entries
 abbrev pub AtomicReads : Station → Type 0
 AtomicReads st = (i : ℕ) → Atomic (st .entries) (readsOf (liveAt st i))
@@ -90,7 +95,7 @@ AtomicReads st = (i : ℕ) → Atomic (st .entries) (readsOf (liveAt st i))
 -- 4. ranges
 pub record Ranges (l : Live) : Type 0 where
   pub txn : l .txn < txnRange
-  pub clock : (d c n : ℕ) → l .phase ≡ Closing d c n → c < numberRange
+  pub clock : closingClock (l .phase) < numberRange
   pub filled : l .txn ≢ 0 → length (l .writes) ≡ writeLimit
   pub values : (w : Write) → List·Memᴰ w (writesOf l) → w .value < numberRange
 
@@ -98,6 +103,7 @@ pub record Inv (st : Station) (s : List ℕ) (b : Ledger) : Type 0 where
   pub core : Core s (b .standing) (b .past)
   pub slots : Slots st s
   pub drafts : Correspond st (draftIn b)
+  pub once : Once (b .drafts)
   pub reads : AtomicReads st
   pub ranges : (i : ℕ) → Ranges (liveAt st i)
 

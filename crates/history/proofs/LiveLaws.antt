@@ -10,14 +10,14 @@ use Rattle.model.specs.declared.Live.{Live}
 use Rattle.model.specs.declared.Entry.{Entry}
 use Rattle.model.specs.declared.Station.{Station}
 use Rattle.model.specs.declared.Phase.the-variants.{Unused, Closing}
-use Rattle.model.specs.Lives.{noLive, writesOf, readsOf, isClosing}
+use Rattle.model.specs.Lives.{noLive, writesOf, readsOf, isClosing, closingClock}
 use Rattle.model.specs.Stations.{liveAt, setLive, isLive, placeOf}
 use Rattle.model.specs.Sound.{sound}
 use Rattle.model.specs.Reading.{Atomic}
 use Rattle.model.proofs.StationLaws.{place-hit, setLive-at, liveAt-other, setLive-entry, not-closing}
 use Rattle.history.specs.Ledger.{Ledger, without, withDrafts}
 use Rattle.history.proofs.Invariant.{Prepared, Slots, draftIn, AtomicReads, Ranges, Inv}
-use Rattle.history.proofs.DraftLaws.{draft-without, drafts-as, drafts-cleared}
+use Rattle.history.proofs.DraftLaws.{draft-without, once-without, drafts-as, drafts-cleared}
 
 -- a place that is not closing is replaced
 pub slots-set : (st : Station) (s : List ℕ) (i : ℕ) (l : Live) → Slots st s → i < length (st .live) → isClosing (liveAt st i .phase) ≡ false
@@ -55,7 +55,7 @@ pub noLive-ranges : Ranges noLive
 unfolding writesOf isClosing
 noLive-ranges = record {
   txn = lit< tt;
-  clock = λ d c n e. absurd (not-closing Unused d c n refl e);
+  clock = unfold closingClock in lit< tt;
   filled = λ n. absurd (n refl);
   values = λ w m. absurd (List·Memᴰ·not-nil m);
 }
@@ -68,6 +68,7 @@ cleared st s b inv h t z nc = record {
   core = inv .core;
   slots = slots-set st s (placeOf t st) noLive (inv .slots) (place-hit st t z .0) nc (λ d c n e. absurd (not-closing (noLive .phase) d c n noLive-open e));
   drafts = drafts-as _ _ _ (draft-without t (b .drafts)) (drafts-cleared st (draftIn b) (inv .drafts) h t z);
+  once = once-without t (b .drafts) (inv .once);
   reads = reads-set st (placeOf t st) noLive (place-hit st t z .0) (inv .reads) (noLive-reads (st .entries));
   ranges = ranges-set st (placeOf t st) noLive (place-hit st t z .0) (inv .ranges) noLive-ranges;
 }

@@ -97,7 +97,7 @@ module _ (st : Station) (s : List ℕ) (b : Ledger) (h : sound st ≡ true) (inv
       by-choice absent = calm-says _ _ refl
       by-choice (nofit x) = calm-says _ _ refl
       by-choice (version d) = calm-says _ _ refl
-  calm (Commit t c) = off 2 _ _ st _ off2 (row 3 _ _ st _ refl λ h3. row 5 _ _ st _ refl λ h5. row 8 _ _ st _ refl λ h8. row 9 _ _ st _ refl λ h9. row 13 _ _ st _ refl λ h13.
+  calm (Commit t c) = off 2 _ _ st _ off2 (row 3 _ _ st _ refl λ h3. row 5 _ _ st _ refl λ h5. row 8 _ _ st _ refl λ h8. row 9 _ _ st _ refl λ h9. row 13 _ _ st _ refl λ h13. row 21 _ _ st _ refl λ h21.
       unguarded Calm st _ (cond-rule Calm (isHeld t st) _ _ (λ y. calm-says _ _ refl) λ y. cond-rule Calm (eqb (liveAt st (placeOf t st) .«write_count») 0) _ _ (λ w. calm-says _ _ refl) λ w. calm-says _ _ refl))
   calm (Step t) = off 1 _ _ st _ off1 (off 2 _ _ st _ off2 (row 3 _ _ st _ refl λ h3. row 8 _ _ st _ refl λ h8. row 10 _ _ st _ refl λ h10.
       unguarded Calm st _ (cond-rule Calm (ltb (recordsStored (liveAt st (placeOf t st) .phase)) (liveAt st (placeOf t st) .«write_count»)) _ _ (λ y. calm-stores _ _ _ _ _ refl) λ y.

@@ -5,7 +5,7 @@ use mathlib.Core.Logic.{_≢_, ⊎-elim}
 use mathlib.Core.Bool.{Bool, true, false, not, cond, true≢false}
 use mathlib.Core.List.{List, [], _∷_, List·Memᴰ·not-nil}
 use mathlib.Core.Option.{some}
-use lib.Dec.{eqb, ltb, leb}
+use lib.Dec.{eqb, ltb, leb, lit<}
 use lib.ListN.{length}
 use native.Mathlib.Omega.{arith}
 use borrow.Author.Tests.{ltb-true, eqb-true, eqb-false, not-false}
@@ -17,7 +17,7 @@ use Rattle.model.specs.declared.Phase.the-variants.{Open}
 use Rattle.model.specs.declared.Answer.the-variants as A
 use Rattle.model.specs.Lists.{_and_, insert}
 use Rattle.model.specs.Limits.{keys, writeLimit, txnRange, numberRange}
-use Rattle.model.specs.Lives.{noWrite, writesOf, readsOf, writeKey, hasWritten, isClosing, withWrites}
+use Rattle.model.specs.Lives.{noWrite, writesOf, readsOf, writeKey, hasWritten, isClosing, closingClock, withWrites}
 use Rattle.model.specs.Stations.{liveAt, setLive, isLive, placeOf}
 use Rattle.model.specs.Sound.{sound}
 use Rattle.model.specs.Reading.{Atomic}
@@ -33,7 +33,7 @@ use Rattle.model.proofs.SoundFacts.{live-facts, unused-open}
 use Rattle.history.specs.Ledger.{Draft, Ledger, without, revised, withDrafts, at, blankDraft, keeping, feed}
 use Rattle.history.specs.Matches.{lookup, Matches}
 use Rattle.history.proofs.Invariant.{draftIn, Ranges, Inv, Good, good-says, row, unrefused}
-use Rattle.history.proofs.DraftLaws.{some-inj, cond-swap, cond-twice, draft-new, draft-revised, drafts-as, drafts-set, drafts-revised}
+use Rattle.history.proofs.DraftLaws.{some-inj, cond-swap, cond-twice, draft-new, draft-revised, once-new, once-revised, drafts-as, drafts-set, drafts-revised}
 use Rattle.history.proofs.LiveLaws.{slots-set, reads-set, ranges-set, cleared}
 
 -- ── start ──
@@ -45,7 +45,7 @@ opened-ranges : (t : ℕ) → t < txnRange → Ranges (opened t)
 unfolding opened writesOf
 opened-ranges t o = record {
   txn = o;
-  clock = λ d c n e. absurd (not-closing Open d c n (opened-open t) e);
+  clock = unfold closingClock in lit< tt;
   filled = λ n. refl;
   values = λ w m. absurd (List·Memᴰ·not-nil m);
 }
@@ -58,7 +58,7 @@ opened-matches : (t : ℕ) → Matches (blankDraft t) (opened t)
 unfolding opened readsOf writesOf lookup
 opened-matches t = record {
   values = λ k. refl;
-  clock = λ d c n e. absurd (not-closing Open d c n (unfold isClosing in refl) e);
+  clock = unfold closingClock in refl;
   reads = λ r. (λ m. m, λ m. m);
 }
 
@@ -72,6 +72,7 @@ started st s b t inv h o n nl z = record {
       (λ j nj e y. true≢false (sym (subst (λ (u : ℕ). isLive u st ≡ true) e (is-live st j y)) ∙ nl))
       (λ p e. (n, unfold opened in refl, subst (λ (y : Draft). Matches y (opened t)) (some-inj e) (opened-matches t)))
       (λ y. (unfold opened in refl, _, refl)));
+  once = once-new (blankDraft t) (b .drafts) (inv .once);
   reads = reads-set st (placeOf 0 st) (opened t) at-0 (inv .reads) (opened-reads (st .entries) t);
   ranges = ranges-set st (placeOf 0 st) (opened t) at-0 (inv .ranges) (opened-ranges t o);
 }
@@ -125,7 +126,7 @@ put-matches : (k v : ℕ) (p : Draft) (l : Live) → isClosing (l .phase) ≡ fa
 unfolding withWrite withWrites readsOf at
 put-matches k v p l nc m = record {
   values = λ u. rw (writesOf-withWrites (insert writeKey (written k v) (writesOf l)) l) (rw lookup-insert (ap (cond (eqb u k) (some v)) (m .values u)));
-  clock = λ d c n e. absurd (not-closing (l .phase) d c n nc e);
+  clock = m .clock;
   reads = m .reads;
 }
 
@@ -133,7 +134,7 @@ put-ranges : (k v : ℕ) (l : Live) → v < numberRange → isClosing (l .phase)
 unfolding withWrite
 put-ranges k v l o nc len rg = record {
   txn = unfold withWrites in rg .txn;
-  clock = unfold withWrites in (λ d c n e. absurd (not-closing (l .phase) d c n nc e));
+  clock = unfold withWrites in rg .clock;
   filled = λ n. unfold withWrites in padded-length noWrite writeLimit (insert writeKey (written k v) (writesOf l)) len;
   values = λ w m. ⊎-elim (λ e. rw e o) (λ x. rg .values w x) (insert-mem writeKey (written k v) (writesOf l) w (rw writesOf-withWrites at m));
 }
@@ -155,6 +156,7 @@ kept st s b t k v inv h o n z nc h11 = record {
   core = inv .core;
   slots = slots-set st s i l (inv .slots) (place-hit st t z .0) nc (λ d c m e. absurd (not-closing (l .phase) d c m open-still e));
   drafts = drafts-as _ _ _ (draft-revised t (keeping k v) (λ p. refl) (b .drafts)) (drafts-revised st (draftIn b) (inv .drafts) h t n z l same-txn (keeping k v) (λ p m. put-matches k v p (liveAt st i) nc m));
+  once = once-revised t (keeping k v) (λ p. refl) (b .drafts) (inv .once);
   reads = reads-set st i l (place-hit st t z .0) (inv .reads) same-reads;
   ranges = ranges-set st i l (place-hit st t z .0) (inv .ranges)
       (put-ranges k v (liveAt st i) o nc (put-fits st h i k v (λ y. n (sym (place-hit st t z .1) ∙ y)) h11) (inv .ranges i));

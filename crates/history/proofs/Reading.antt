@@ -32,7 +32,7 @@ use Rattle.model.proofs.SoundFacts.{one-slot, wrote-held, live-facts, unused-re
 use Rattle.history.specs.Ledger.{Draft, Ledger, revised, withDrafts, reading, feed}
 use Rattle.history.specs.Matches.{Matches}
 use Rattle.history.proofs.Invariant.{draftIn, Ranges, Inv, Good, good-says, row, unrefused}
-use Rattle.history.proofs.DraftLaws.{draft-revised, drafts-as, drafts-revised}
+use Rattle.history.proofs.DraftLaws.{draft-revised, once-revised, drafts-as, drafts-revised}
 use Rattle.history.proofs.LiveLaws.{slots-set, reads-set, ranges-set}
 
 -- ── the entries of a sound station ──
@@ -105,7 +105,7 @@ module _ (st : Station) (s : List ℕ) (b : Ledger) (inv : Inv st s b) (h : soun
   l-matches : (p : Draft) → Matches p (liveAt st (placeOf t st)) → Matches (reading k (entryAt st d .id) p) l
   l-matches p m = record {
     values = unfold l withRead withReads writesOf in m .values;
-    clock = λ d c n e. absurd (not-closing (l .phase) d c n l-open e);
+    clock = unfold l withRead withReads in m .clock;
     reads = λ r. rw l-reads (
       (λ x. joined r .1 (⊎-elim (λ e. List·Memᴰ·head e) (λ y. List·Memᴰ·tail (m .reads r .0 y)) (List·Memᴰ·cases-cons x))),
       (λ x. ⊎-elim (λ e. List·Memᴰ·head e) (λ y. List·Memᴰ·tail (m .reads r .1 y)) (List·Memᴰ·cases-cons (joined r .0 x))),
@@ -123,6 +123,7 @@ module _ (st : Station) (s : List ℕ) (b : Ledger) (inv : Inv st s b) (h : soun
     core = inv .core;
     slots = slots-set st s i l (inv .slots) (place-hit st t z .0) nc (λ d c m e. absurd (not-closing (l .phase) d c m l-open e));
     drafts = drafts-as _ _ _ (draft-revised t (reading k (entryAt st d .id)) (λ p. refl) (b .drafts)) (drafts-revised st (draftIn b) (inv .drafts) h t n z l (unfold withRead withReads in place-hit st t z .1) (reading k (entryAt st d .id)) l-matches);
+    once = once-revised t (reading k (entryAt st d .id)) (λ p. refl) (b .drafts) (inv .once);
     reads = reads-set st i l (place-hit st t z .0) (inv .reads) (rw l-reads (λ r q mr mq. atomic r q (joined r .0 mr) (joined q .0 mq)));
     ranges = ranges-set st i l (place-hit st t z .0) (inv .ranges) l-ranges;
   }

@@ -18,7 +18,7 @@ use Rattle.model.specs.declared.Answer.the-variants as A
 use Rattle.model.specs.Lists.{count, from}
 use Rattle.model.specs.Limits.{livePlaces, slots}
 use Rattle.model.specs.Ids.{older}
-use Rattle.model.specs.Lives.{noLive, writesOf, readsOf, isClosing, liveBeyond}
+use Rattle.model.specs.Lives.{noLive, writesOf, readsOf, isClosing, closingClock, liveBeyond}
 use Rattle.model.specs.Entries.{wrote}
 use Rattle.model.specs.Stations.{liveAt, entryAt, idleStation}
 use Rattle.model.specs.Slots.{Seen, free, committed, damaged, seen}
@@ -66,10 +66,11 @@ idle-inv es s standing past count entry core = record {
     unused = λ d o z un. was-free d o (seen s d) refl (sym (ap (λ (e : Entry). e .id .txn) (entry d o)) ∙ z);
   };
   drafts = record { live = λ t p e. absurd (Option·none-ne-some p e); drafted = λ i n. absurd (idle es (λ l. l .txn ≢ 0 → ⊥) (λ y. y refl) (λ y. y refl) i n) };
+  once = λ p m. absurd (List·Memᴰ·not-nil m);
   reads = idle es (λ l. Atomic es (readsOf l)) (noLive-reads es) (unfold readsOf in (λ r q m. absurd (List·Memᴰ·not-nil m)));
   ranges = idle es (λ l. Ranges l) noLive-ranges (unfold writesOf in record {
     txn = lit< tt;
-    clock = λ d c n e. absurd (not-closing Unused d c n (unfold isClosing in refl) e);
+    clock = unfold closingClock in lit< tt;
     filled = λ n. absurd (n refl);
     values = λ w m. absurd (List·Memᴰ·not-nil m);
   });

@@ -39,14 +39,14 @@ use Rattle.model.proofs.RecordLaws.{Fits, length-commit, length-version, entry-
 use Rattle.model.proofs.InsideLaws.{entryFor-txn, entryFor-id, entryFor-phase}
 use Rattle.model.proofs.SlotLaws.{committed-injective, committed≢damaged, free≢damaged, seen-frame, seen-free, seen-free-mark, seen-committed}
 use Rattle.model.proofs.ReadingLaws.{wrote-as, as-wrote}
-use Rattle.model.proofs.StationLaws.{place-hit, entry-get, setLive-at, liveAt-same, liveAt-other, setLive-entry, setEntry-at, entryAt-same, entryAt-other, setEntry-live, setEntry-length, not-closing, closing-same}
+use Rattle.model.proofs.StationLaws.{place-hit, entry-get, setLive-at, liveAt-same, liveAt-other, setLive-entry, setEntry-at, entryAt-same, entryAt-other, setEntry-live, setEntry-length, not-closing, closing-same, clock-closing}
 use Rattle.model.proofs.SoundLaws.{sound-at, write-limit, writes-length, entryFor-sound}
 use Rattle.model.proofs.SoundFacts.{live-not-held, one-closing, IsClosing, closing-facts}
 use Rattle.history.specs.Ledger.{Draft, Committed, Ledger, draftOf, without, withDrafts, at, committedFrom, feed}
 use Rattle.history.specs.CutRule.{committedIn}
 use Rattle.history.specs.Matches.{lookup, Matches}
 use Rattle.history.proofs.Invariant.{inStore, nth, Prepared, Dominated, Core, Slots, draftIn, Ranges, Inv, Good, good-says, good-stores, row, unrefused, choice}
-use Rattle.history.proofs.DraftLaws.{draft-txn, draft-without, drafts-as, draft-of, matches-at, drafts-cast, drafts-same, drafts-cleared}
+use Rattle.history.proofs.DraftLaws.{draft-txn, draft-without, once-without, drafts-as, draft-of, matches-at, drafts-cast, drafts-same, drafts-cleared}
 use Rattle.history.proofs.Lasting.{lasting}
 use Rattle.history.proofs.LiveLaws.{reads-set, ranges-set, noLive-open, noLive-reads, noLive-ranges}
 use Rattle.history.proofs.Committing.{phase-ranges, phase-reads, phase-of, txn-of}
@@ -101,21 +101,22 @@ module _ (st : Station) (s s′ : List ℕ) (b : Ledger) (inv : Inv st s b) (h :
   same-matches : (p : Draft) → Matches p (liveAt st i) → Matches p now
   same-matches p mt = record {
     values = unfold withPhase writesOf in mt .values;
-    clock = λ d′ c′ n′ e. mt .clock d c n q ∙ closing-same d c m d′ c′ n′ (sym (phase-of (Closing d c m) (liveAt st i)) ∙ e) .1;
+    clock = mt .clock ∙ (clock-closing _ d c n q ∙ (unfold withPhase closingClock in refl));
     reads = unfold withPhase readsOf in mt .reads;
   }
 
   -- the other slots are as they were
   core-step : (seen s′ d ≡ damaged → ⊥) → ((d′ : ℕ) (e e′ : Entry) → d′ ≢ d → d′ < slots → seen s′ d ≡ committed e → seen s d′ ≡ committed e′ → e .id .txn ≡ e′ .id .txn → ⊥)
       → (standing past : List Committed) → List·Permᴰ (inStore s′) standing → ((j : Committed) → List·Memᴰ j standing → List·Memᴰ j past) → ((j : Committed) → List·Memᴰ j past → Dominated standing j)
-      → Core s′ standing past
-  core-step whole one standing past found kept dominated = record {
+      → ((j : Committed) → List·Memᴰ j past → j .id .clock < numberRange) → Core s′ standing past
+  core-step whole one standing past found kept dominated clocked = record {
     size = size′;
     undamaged = λ d′ o x. go d′ o x (ℕ-discrete d′ d);
     single = λ d₁ d₂ e₁ e₂ o₁ o₂ h₁ h₂ et. two d₁ d₂ e₁ e₂ o₁ o₂ h₁ h₂ et (ℕ-discrete d₁ d) (ℕ-discrete d₂ d);
     found = found;
     kept = kept;
     dominated = dominated;
+    clocked = clocked;
   }
     where
       go : (d′ : ℕ) → d′ < slots → seen s′ d′ ≡ damaged → Dec (d′ ≡ d) → ⊥
@@ -134,8 +135,9 @@ module _ (st : Station) (s s′ : List ℕ) (b : Ledger) (inv : Inv st s b) (h :
     core = cr;
     slots = slots-step pr;
     drafts = drafts-same st (draftIn b) (inv .drafts) h t nz z now (txn-of _ (liveAt st i) ∙ place-hit st t z .1) same-matches;
+    once = inv .once;
     reads = reads-set st i now oi (inv .reads) (phase-reads (st .entries) _ (liveAt st i) (inv .reads i));
-    ranges = ranges-set st i now oi (inv .ranges) (phase-ranges (Closing d c m) (liveAt st i) (λ d′ c′ n′ e. omega (arith, inv .ranges i .clock d c n q, closing-same d c m d′ c′ n′ e .1)) (inv .ranges i));
+    ranges = ranges-set st i now oi (inv .ranges) (phase-ranges (Closing d c m) (liveAt st i) (unfold closingClock in omega (arith, inv .ranges i .clock, clock-closing _ d c n q)) (inv .ranges i));
   }
 
 -- ── the values by key ──
@@ -171,7 +173,7 @@ committed-of-draft s d c n l p q rg mt f = λ y. record { id = same-id y; values
     ks = map writeKey (writesOf l)
 
     same-id : entryFor l .id ≡ record { clock = p .clock; txn = l .txn }
-    same-id = entryFor-id l d c n q ∙ ap (λ (x : ℕ). record { clock = x; txn = l .txn }) (sym (mt .clock d c n q))
+    same-id = entryFor-id l d c n q ∙ ap (λ (x : ℕ). record { clock = x; txn = l .txn }) (sym (mt .clock ∙ clock-closing _ d c n q))
 
     value : (k : ℕ) → member k ks ≡ true → _≡_ {A = Option ℕ} (some (valueIn (recordAt s d (suc (first (eqb k) ks))))) (some (getD (writesOf l) (first (eqb k) ks) noWrite .value))
     value k h =
@@ -201,7 +203,7 @@ module _ (st : Station) (s : List ℕ) (b : Ledger) (inv : Inv st s b) (h : soun
   pub version-stored : n < l .«write_count» → Inv (setLive st (placeOf t st) (withPhase (Closing d c (n + 1)) l)) (withRecord s d (n + 1) content) b
   version-stored o = step-inv st s s′ b inv h t d c n (n + 1) nz z q size′ frame prepared (b .standing) (b .past)
       (core-step st s s′ b inv h t d c n (n + 1) nz z q size′ frame (λ x. free≢damaged (sym unmarked ∙ x)) (λ d′ e e′ nd o′ x. not-free (seen s′ d) e x unmarked) (b .standing) (b .past)
-      (rw (in-store s′, hold-same s s′ slots 0 (λ d′ y. same d′ (ℕ-discrete d′ d)), ← in-store) (inv .core .found)) (inv .core .kept) (inv .core .dominated))
+      (rw (in-store s′, hold-same s s′ slots 0 (λ d′ y. same d′ (ℕ-discrete d′ d)), ← in-store) (inv .core .found)) (inv .core .kept) (inv .core .dominated) (inv .core .clocked))
     where
       s′ : List ℕ
       s′ = withRecord s d (n + 1) content
@@ -246,9 +248,12 @@ module _ (st : Station) (s : List ℕ) (b : Ledger) (inv : Inv st s b) (h : soun
   unfolding entryFor closingClock
   fits = record {
     txn32 = inv .ranges (placeOf t st) .txn;
-    clock64 = subst (λ (p : Phase). closingClock p < numberRange) (sym q) (inv .ranges (placeOf t st) .clock d c n q);
+    clock64 = inv .ranges (placeOf t st) .clock;
     keys8 = length-map (l .writes) writeKey ∙ inv .ranges (placeOf t st) .filled (closes .used .numbered);
   }
+
+  c-low : c < numberRange
+  c-low = omega (arith, inv .ranges (placeOf t st) .clock, clock-closing _ d c n q)
 
   rules : entryRules E ≡ true
   rules = entryFor-sound st (sound-at st h) (placeOf t st) (subst (λ (p : Phase). isClosing p ≡ true) (sym q) (unfold isClosing in refl))
@@ -266,7 +271,8 @@ module _ (st : Station) (s : List ℕ) (b : Ledger) (inv : Inv st s b) (h : soun
       (J ∷ b .standing) (J ∷ b .past)
       (List·Permᴰ·trans perm (List·Permᴰ·cons same (inv .core .found)))
       (λ j m. ⊎-elim (λ e. List·Memᴰ·head e) (λ x. List·Memᴰ·tail (inv .core .kept j x)) (List·Memᴰ·cases-cons m))
-      (λ j m. ⊎-elim (λ e. inl (List·Memᴰ·head e)) (λ x. more j (inv .core .dominated j x)) (List·Memᴰ·cases-cons m)))
+      (λ j m. ⊎-elim (λ e. inl (List·Memᴰ·head e)) (λ x. more j (inv .core .dominated j x)) (List·Memᴰ·cases-cons m))
+      (λ j m. ⊎-elim (λ e. subst (λ (x : Committed). x .id .clock < numberRange) (sym e) (omega (arith, c-low, mt .clock, clock-closing _ d c n q))) (inv .core .clocked j) (List·Memᴰ·cases-cons m)))
     where
       J : Committed
       J = record { id = record { clock = p .clock; txn = l .txn }; values = p .values }
@@ -298,7 +304,7 @@ module _ (st : Station) (s : List ℕ) (b : Ledger) (inv : Inv st s b) (h : soun
       carried : (j : ℕ) → j < length (keysOf E) → carriesVersion (recordAt s′ d (suc j)) (getD (keysOf E) j 0) (E .id) ≡ true
       carried j o =
           let o′ : j < l .«write_count» = omega (arith, o, writes-length l, ap length (keys-for l) ∙ length-map (writesOf l) writeKey) in
-          rw (stored-at j o′, key-at j o′, entryFor-id l d c n q) (version-round _ (record { clock = c; txn = l .txn }) _ (inv .ranges (placeOf t st) .txn) (inv .ranges (placeOf t st) .clock d c n q))
+          rw (stored-at j o′, key-at j o′, entryFor-id l d c n q) (version-round _ (record { clock = c; txn = l .txn }) _ (inv .ranges (placeOf t st) .txn) c-low)
 
       full : seen s′ d ≡ committed E
       full = seen-committed s′ d E (rw at-0 (commit-rules E fits ∙ rules)) (ap entryIn at-0 ∙ entry-round E fits) carried
@@ -375,6 +381,7 @@ module _ (st : Station) (s : List ℕ) (b : Ledger) (inv : Inv st s b) (h : soun
           (λ ok e un. absurd (closes .used .numbered (sym (entryFor-txn l) ∙ e)))
           (λ k nk ok e un. inv .slots .unused k ok e (λ j c′ n′ y. was k nk un j c′ n′ y (ℕ-discrete j (placeOf t st)))) d′ od;
     };
+    once = once-without t (b .drafts) (inv .once);
     drafts = drafts-as _ _ _ (draft-without t (b .drafts)) (drafts-cast cleared-st end (at t none (draftIn b)) (setEntry-live cleared-st d E) (drafts-cleared st (draftIn b) (inv .drafts) h t z));
     reads = live-end (λ j x. Atomic (end .entries) (readsOf x)) (noLive-reads (end .entries)) (λ j nj r q mr mq w. inv .reads j r q mr mq (old-writer j r (q .key) mr w));
     ranges = live-end (λ j x. Ranges x) noLive-ranges (λ j nj. inv .ranges j);

@@ -2,7 +2,7 @@
 -- at first none."
 use Prim.Native.Nat.{ℕ}
 use mathlib.Core.Bool.{cond}
-use mathlib.Core.List.{List, [], _∷_, _++_}
+use mathlib.Core.List.{List, [], _∷_, _++_, map}
 use mathlib.Core.Option.{Option, some, none}
 use lib.Dec.{eqb}
 use Rattle.model.specs.declared.Id.{Id}
@@ -10,6 +10,7 @@ use Rattle.model.specs.declared.Read.{Read}
 use Rattle.model.specs.declared.Phase.the-variants.{Closing}
 use Rattle.model.specs.declared.Answer.{Answer}
 use Rattle.model.specs.declared.Answer.the-variants as A
+use Rattle.model.specs.Clocks.{clockAbove}
 use Rattle.model.specs.Calls.{Call, txnOf, keyOf, numberOf}
 
 -- the draft (page) of a live transaction: its clock once it closes, its values by key, its reads
@@ -80,6 +81,10 @@ unfoldable pub strike : ℕ → List Committed → List Committed
 strike t [] = []
 strike t (j ∷ js) = cond (eqb (j .id .txn) t) (strike t js) (j ∷ strike t js)
 
+-- 02 §3: "The book reckons the same over its standing jobs and its pages with a clock.": their clocks; a draft that has none yet has 0
+unfoldable pub clocksIn : Ledger → List ℕ
+clocksIn b = map (λ (j : Committed). j .id .clock) (b .standing) ++ map (λ (p : Draft). p .clock) (b .drafts)
+
 -- ── the rules, a row for each answer, in 01's order ──
 unfoldable pub feed : Answer → Call → Ledger → Ledger
 -- "started: a blank page for the ticket."
@@ -88,8 +93,8 @@ feed A.Started c b = withDrafts (blankDraft (txnOf c) ∷ without (txnOf c) (b .
 feed A.Kept c b = withDrafts (revised (txnOf c) (keeping (keyOf c) (numberOf c)) (b .drafts)) b
 -- "version: the key asked and the id answered join the page's reads."
 feed (A.Version v i) c b = withDrafts (revised (txnOf c) (reading (keyOf c) i) (b .drafts)) b
--- "closing: the clock given goes on the page."
-feed (A.Closing d) c b = withDrafts (revised (txnOf c) (closingAt (numberOf c)) (b .drafts)) b
+-- "closing: the clock given goes on the page.": by 02 §3 the greater of it and one more than the greatest
+feed (A.Closing d) c b = withDrafts (revised (txnOf c) (closingAt (clockAbove (numberOf c) (clocksIn b))) (b .drafts)) b
 -- "slipped: the page's ticket, clock and values by key become a job, standing and past; the page stays."
 feed (A.Slipped d) c b =
     let j : List Committed = committedFrom (draftOf (txnOf c) (b .drafts)) in

@@ -10,8 +10,7 @@ use Rattle.model.specs.declared.Write.{Write}
 use Rattle.model.specs.declared.Read.{Read}
 use Rattle.model.specs.declared.Live.{Live}
 use Rattle.model.specs.declared.Station.{Station}
-use Rattle.model.specs.declared.Phase.the-variants.{Closing}
-use Rattle.model.specs.Lives.{writesOf, readsOf}
+use Rattle.model.specs.Lives.{writesOf, readsOf, closingClock}
 use Rattle.model.specs.Stations.{liveAt}
 use Rattle.history.specs.Ledger.{Draft}
 
@@ -23,8 +22,8 @@ lookup k (w ∷ ws) = cond (eqb k (w .key)) (some (w .value)) (lookup k ws)
 pub record Matches (p : Draft) (l : Live) : Type 0 where
   -- the same values by key
   pub values : (k : ℕ) → p .values k ≡ lookup k (writesOf l)
-  -- the clock of a closing transaction
-  pub clock : (d c n : ℕ) → l .phase ≡ Closing d c n → p .clock ≡ c
+  -- the clock of a closing transaction; none of any other
+  pub clock : p .clock ≡ closingClock (l .phase)
   -- the same reads
   pub reads : (r : Read) → List·Memᴰ r (p .reads) ↔ List·Memᴰ r (readsOf l)
 

@@ -18,7 +18,7 @@ use Rattle.model.specs.Stations.{liveAt, entryAt, isLive, isHeld, placeO
 use Rattle.model.specs.Sound.{isNoLive, placeRight, sound}
 use Rattle.model.proofs.Tests.{and-left, and-right, bool-cases}
 use Rattle.model.proofs.StationLaws.{place-hit, slot-hit, unheld-txn, mark-closing}
-use Rattle.model.proofs.SoundLaws.{sound-at, Used, used-at, Shut, place-used, closing-used, place-shut, unheld-wrote}
+use Rattle.model.proofs.SoundLaws.{sound-at, Used, used-at, Shut, place-used, closing-used, place-shut, unheld-wrote, unheld-clock}
 
 module _ (st : Station) (h : sound st ≡ true) where
   -- a transaction has one place, or one slot, and not both
@@ -46,6 +46,9 @@ module _ (st : Station) (h : sound st ≡ true) where
   -- an entry that wrote a key is held
   pub wrote-held : (d k : ℕ) → wrote (entryAt st d) k ≡ true → entryAt st d .id .txn ≢ 0
   wrote-held d k w z = false≢true (sym (unheld-wrote (entryAt st d) (sound-at st h .entry d) z k) ∙ w)
+
+  pub unheld-clockless : (d : ℕ) → entryAt st d .id .txn ≡ 0 → entryAt st d .id .clock ≡ 0
+  unheld-clockless d z = unheld-clock (entryAt st d) (sound-at st h .entry d) z
 
   -- a place with a number is in use; one without is not closing, and has read nothing
   pub live-facts : (i : ℕ) → liveAt st i .txn ≢ 0 → Used (st .entries) (liveAt st i)

@@ -384,6 +384,14 @@ unheld-wrote e h z k = ⊎-elim
     none : e .count ≡ 0 → wrote e k ≡ false
     none q = unfold wrote keysOf member any in rw q
 
+-- and has no clock
+pub unheld-clock : (e : Entry) → entryRight e ≡ true → e .id .txn ≡ 0 → e .id .clock ≡ 0
+unfolding entryRight isNoEntry entryRules sameId
+unheld-clock e h z = ⊎-elim
+    (λ n. eqb-true _ _ (and-left _ _ (and-left _ _ (and-left _ _ n))))
+    (λ n. absurd (lt-irrefl 0 (omega (arith, z, leb-true 1 (e .id .txn) (and-right _ _ (and-left _ _ (and-left _ _ (and-left _ _ n))))))))
+    (or-cases _ _ h)
+
 -- a read names what it named, where the entry that is replaced is none that it names
 pub names-setEntry : (st : Station) (d : ℕ) (e : Entry) (r : Read) → names (st .entries) r ≡ true
     → (sameId ((entryAt st d) .id) (r .id) and wrote (entryAt st d) (r .key)) ≡ false → names ((setEntry st d e) .entries) r ≡ true

@@ -171,8 +171,18 @@ closing-is Unused h = absurd (false≢true h)
 closing-is Open h = absurd (false≢true h)
 closing-is (Closing d c n) h = refl
 
+pub open-clock : (p : Phase) → isClosing p ≡ false → closingClock p ≡ 0
+unfolding isClosing closingClock
+open-clock Unused h = refl
+open-clock Open h = refl
+open-clock (Closing d c n) h = absurd (true≢false h)
+
 pub closing-same : (d c n d′ c′ n′ : ℕ) → Closing d c n ≡ Closing d′ c′ n′ → (d ≡ d′) × (c ≡ c′) × (n ≡ n′)
 closing-same d c n d′ c′ n′ e = (cc, cc, cc)
+
+pub clock-closing : (p : Phase) (d c n : ℕ) → p ≡ Closing d c n → closingClock p ≡ c
+unfolding closingClock
+clock-closing p d c n e = rw e
 
 pub mark-closing : (p : Phase) (d c n : ℕ) → p ≡ Closing d c n → slotMark p ≡ suc d
 unfolding slotMark
