@@ -18,13 +18,13 @@ use Rattle.history.proofs.DraftLaws.{some-inj}
 use Rattle.history.proofs.Theorem.{cut-rule}
 
 -- ── a history stays within the types ──
-abbrev TypedNode : Node → Type 0
+abbrev pub TypedNode : Node → Type 0
 TypedNode (running st) = StationFits st
 TypedNode down = Unit {0}
 
-record Typed (w : World) : Type 0 where
-  node : TypedNode (w .node)
-  store : Every IsByte (w .store)
+pub record Typed (w : World) : Type 0 where
+  pub node : TypedNode (w .node)
+  pub store : Every IsByte (w .store)
 
 handed-fits : (c : Call) (k : Node) (st : Station) → TypedNode k → handed c k ≡ some st → StationFits st
 unfolding handed isScan
@@ -54,11 +54,16 @@ typed-next (cut c n) w r tw = go (handed c (w .node)) refl
     go none e = unfold afterCut in tw
     go (some st) e = unfold afterCut in record { node = tt; store = bytes-kept c st (w .store) r (handed-fits c (w .node) st (tw .node) e) (tw .store) n }
 
-typed-begin : Typed begin
+pub typed-begin : Typed begin
 unfolding begin
 typed-begin = record { node = fits-empty; store = bytes-zeros storeSize }
 
-all-in-range : (vs : List Event) → AllTyped vs → AllInRange vs
+pub typed-run : (vs : List Event) (w : World) → AllTyped vs → Typed w → Typed (run vs w)
+unfolding run AllTyped
+typed-run [] w r tw = tw
+typed-run (v ∷ vs) w r tw = typed-run vs (next v w) (r .1) (typed-next v w (r .0) tw)
+
+pub all-in-range : (vs : List Event) → AllTyped vs → AllInRange vs
 unfolding AllTyped AllInRange
 all-in-range [] r = tt
 all-in-range (v ∷ vs) r = (r .0 .0, all-in-range vs (r .1))

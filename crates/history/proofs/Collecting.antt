@@ -41,7 +41,7 @@ use Rattle.history.proofs.CommittedLaws.{stands, wrote-committed, commi
 use Rattle.history.proofs.SlotOwners.{prepared-frame}
 
 -- what supersedence says: for each key a newer entry that wrote it
-newer-entry : (st : Station) (e : Entry) → superseded (st .entries) e ≡ true → (k : ℕ) → wrote e k ≡ true
+pub newer-entry : (st : Station) (e : Entry) → superseded (st .entries) e ≡ true → (k : ℕ) → wrote e k ≡ true
     → (c : ℕ) × (c < length (st .entries)) × (wrote (entryAt st c) k ≡ true) × (older (e .id) (entryAt st c .id) ≡ true)
 unfolding superseded newerOn wrote
 newer-entry st e h k w =

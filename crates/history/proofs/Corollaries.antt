@@ -36,14 +36,17 @@ use Rattle.model.proofs.Tests.{bool-cases}
 use Rattle.model.proofs.RefusalLaws.{accepted, row-off}
 use Rattle.model.proofs.StationLaws.{slot-hit, entry-in}
 use Rattle.model.proofs.GetLaws.{version-entry, get-version}
+use Rattle.model.proofs.InsideLaws.{entryFor-txn}
 use Rattle.model.proofs.SoundFacts.{wrote-held}
 use Rattle.model.proofs.SoundKept.{sound-kept}
 use Rattle.model.proofs.SweepLaws.{NoneLeft, StoppedBy17, IsSweep, sweep-is-collects}
 use Rattle.history.specs.Ledger.{Draft, Committed, Ledger, draftOf, withDrafts, committedFrom, feed}
 use Rattle.history.specs.Histories.{Event, called, cut, running, World, begin, handed, Report, reports, fed, afterCall, afterCut, next, run, AllInRange}
 use Rattle.history.specs.CutRule.{committedIn, Wrote}
+use Rattle.history.specs.Matches.{Matches}
 use Rattle.history.proofs.Invariant.{Prepared, Inv, Reported}
 use Rattle.history.proofs.CommittedLaws.{stands, wrote-committed, committed-id, stands-once}
+use Rattle.history.proofs.Storing.{committed-of-draft}
 use Rattle.history.proofs.Theorem.{call-keeps, running-keeps, cut-rule}
 use Rattle.history.proofs.NeverRefused.{faults, Calm, calm}
 
@@ -115,7 +118,7 @@ unfolding run
 past-run [] w j m = m
 past-run (u ∷ us) w j m = past-run us (next u w) j (past-next u w j m)
 
-run-after : (vs us : List Event) (w : World) → run (vs ++ us) w ≡ run us (run vs w)
+pub run-after : (vs us : List Event) (w : World) → run (vs ++ us) w ≡ run us (run vs w)
 unfolding run
 run-after [] us w = refl
 run-after (v ∷ vs) us w = run-after vs us (next v w)
@@ -135,16 +138,23 @@ last true y k d one two three a i e₁ e₂ e₃ h = let z : _≡_ {A = ℕ} 0 1
 last false true k d one two three a i e₁ e₂ e₃ h = let z : _≡_ {A = ℕ} 0 1 = cc in absurd (omega arith)
 last false false k d one two three a i e₁ e₂ e₃ h = (refl, refl, cc)
 
--- an acknowledging step answers done: its transaction stands in the store
-done-stands : (st : Station) (s : List ℕ) (b : Ledger) → Inv st s b → (t : ℕ) (i : Id) (p : Phase) → liveAt st (placeOf t st) .phase ≡ p → isClosing p ≡ true
-    → stepped st (placeOf t st) (liveAt st (placeOf t st)) p .answer ≡ A.Done i → (j : Committed) × List·Memᴰ j (b .standing) × (j .id ≡ i)
+-- an acknowledging step answers done: its transaction stands in the store, as its draft has it
+pub done-stands : (st : Station) (s : List ℕ) (b : Ledger) → Inv st s b → (t : ℕ) (i : Id) (p : Phase) → liveAt st (placeOf t st) .phase ≡ p → isClosing p ≡ true
+    → stepped st (placeOf t st) (liveAt st (placeOf t st)) p .answer ≡ A.Done i
+    → (j : Committed) × List·Memᴰ j (b .standing) × (j .id ≡ i) × (j .id .txn ≡ liveAt st (placeOf t st) .txn) × ((x : Draft) → Matches x (liveAt st (placeOf t st)) → j .values ≡ x .values)
 unfolding stepped isClosing recordsStored closingSlot saysStoring says
 done-stands st s b inv t i Unused q c h = absurd (false≢true c)
 done-stands st s b inv t i Open q c h = absurd (false≢true c)
 done-stands st s b inv t i (Closing d c n) q _ h =
     let r = last (ltb n (l .«write_count»)) (eqb n (l .«write_count»)) _ d _ _ _ (entryFor l .id) i refl refl refl h in
     let full : l .«write_count» < n = omega (arith, ltb-false n (l .«write_count») (r .0), eqb-false n (l .«write_count») (r .1)) in
-    (committedIn s d (entryFor l), stands s (b .standing) (inv .core .found) d (entryFor l) (pr .low) (pr .marked full), committed-id s d (entryFor l) ∙ r .2)
+    (
+      committedIn s d (entryFor l),
+      stands s (b .standing) (inv .core .found) d (entryFor l) (pr .low) (pr .marked full),
+      committed-id s d (entryFor l) ∙ r .2,
+      ap (λ (y : Id). y .txn) (committed-id s d (entryFor l)) ∙ entryFor-txn l,
+      λ x m. ap (λ (j : Committed). j .values) (committed-of-draft s d c n l x q (inv .ranges (placeOf t st)) m (λ j o. pr .versions j (omega (arith, full)) o)),
+    )
   where
     l : Live
     l = liveAt st (placeOf t st)

@@ -51,6 +51,10 @@ pub record Prepared (s : List ℕ) (l : Live) (d c n : ℕ) : Type 0 where
 abbrev pub Dominated : List Committed → Committed → Type 0
 Dominated standing j = List·Memᴰ j standing ⊎ ((k : ℕ) → Wrote j k → (i : Committed) × List·Memᴰ i standing × Wrote i k × Newer (i .id) (j .id))
 
+-- it has a clock and wrote a key
+abbrev pub Recorded : Committed → Type 0
+Recorded j = (j .id .clock < numberRange) × (k : ℕ) × Wrote j k
+
 -- ── what lasts: it holds of store and ledger, whichever station runs, or none ──
 -- the store keeps the rules, and has the standing transactions: this alone makes every scan succeed
 pub record Core (s : List ℕ) (standing past : List Committed) : Type 0 where
@@ -60,7 +64,7 @@ pub record Core (s : List ℕ) (standing past : List Committed) : Type 0 where
   pub found : List·Permᴰ (inStore s) standing
   pub kept : (j : Committed) → List·Memᴰ j standing → List·Memᴰ j past
   pub dominated : (j : Committed) → List·Memᴰ j past → Dominated standing j
-  pub clocked : (j : Committed) → List·Memᴰ j past → j .id .clock < numberRange
+  pub recorded : (j : Committed) → List·Memᴰ j past → Recorded j
 
 -- a read of a draft names a standing transaction that wrote its key, and the draft's other reads are atomic with it
 abbrev pub Sure : List Committed → Draft → Type 0

@@ -67,16 +67,16 @@ off : (n : ℕ) (b : Bool) (rs : List Row) (st : Station) (e : Effect) → b ≡
 off n b rs st e h c = rw (skipped n b rs st e h) c
 
 module _ (st : Station) (s : List ℕ) (b : Ledger) (h : sound st ≡ true) (inv : Inv st s b) where
-  off1 : wrongLength s ≡ false
+  pub off1 : wrongLength s ≡ false
   unfolding wrongLength
   off1 = not-of-true _ (eq-eqb (length s) storeSize (inv .core .size))
 
-  off2 : unsound st ≡ false
+  pub off2 : unsound st ≡ false
   unfolding unsound
   off2 = not-of-true _ h
 
   -- the version record of an entry carries it
-  off17 : (i k : ℕ) (ch : Choice) → choiceOf st (liveAt st i) k ≡ ch → notCarried st s k ch ≡ false
+  pub off17 : (i k : ℕ) (ch : Choice) → choiceOf st (liveAt st i) k ≡ ch → notCarried st s k ch ≡ false
   unfolding notCarried versionAt
   off17 i k (own v) e = refl
   off17 i k absent e = refl

@@ -48,7 +48,7 @@ module _ (b : Ledger) where
 
 module _ (st : Station) (s : List ℕ) (b : Ledger) (inv : Inv st s b) (h : sound st ≡ true) where
   -- an entry stands
-  entry-stands : (d : ℕ) → entryAt st d .id .txn ≢ 0 → List·Memᴰ (committedIn s d (entryAt st d)) (b .standing)
+  pub entry-stands : (d : ℕ) → entryAt st d .id .txn ≢ 0 → List·Memᴰ (committedIn s d (entryAt st d)) (b .standing)
   entry-stands d n = stands s (b .standing) (inv .core .found) d (entryAt st d) (omega (arith, entry-in st d n, inv .slots .count)) (inv .slots .entered d n)
 
   -- the draft of a live transaction has its clock
@@ -104,4 +104,4 @@ module _ (st : Station) (s : List ℕ) (b : Ledger) (inv : Inv st s b) (h : soun
     where
       entry : (d : ℕ) → Dec (entryAt st d .id .txn ≡ 0) → entryAt st d .id .clock < numberRange
       entry d (yes z) = omega (arith, unheld-clockless st h d z)
-      entry d (no n) = subst (λ (i : Id). i .clock < numberRange) (committed-id s d (entryAt st d)) (inv .core .clocked _ (inv .core .kept _ (entry-stands d n)))
+      entry d (no n) = subst (λ (i : Id). i .clock < numberRange) (committed-id s d (entryAt st d)) (inv .core .recorded _ (inv .core .kept _ (entry-stands d n)) .0)

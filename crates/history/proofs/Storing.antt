@@ -1,5 +1,5 @@
 -- step keeps the invariant: a version record, the commit record, the acknowledgement.
-use Prim.Native.Nat.{ℕ, suc, _+_, _<_}
+use Prim.Native.Nat.{ℕ, suc, _+_, _<_, _≤_}
 use mathlib.Core.Path.{_≡_, refl, sym, ap, subst, _∙_, fun-ext}
 use mathlib.Core.Logic.{_≢_, inl, inr, ⊎-elim}
 use mathlib.Core.Bool.{Bool, true, false, cond, false≢true}
@@ -7,12 +7,12 @@ use mathlib.Core.List.{List, [], _∷_, _++_, map, List·Permᴰ, List·Permᴰ�
 use mathlib.Core.Option.{Option, some, none}
 use lib.Dec.{eqb, ltb, lit<}
 use lib.ListN.{length, getD, length-map, List·getD-map}
-use lib.Seq.{getD-take}
-use native.Mathlib.Nat.{lt-irrefl}
+use lib.Seq.{getD-take, length-take-le}
+use native.Mathlib.Nat.{lt-irrefl, not-suc-le-zero}
 use native.Mathlib.Decide.{ℕ-discrete}
 use native.Mathlib.Omega.{arith}
 use native.Mathlib.Numerals.{add-one}
-use borrow.Author.Tests.{ltb-true, ltb-false, eqb-true, eqb-false, not-false}
+use borrow.Author.Tests.{ltb-true, ltb-false, eqb-true, eqb-false, eq-eqb, not-false}
 use Rattle.model.specs.declared.Id.{Id}
 use Rattle.model.specs.declared.Write.{Write}
 use Rattle.model.specs.declared.Read.{Read}
@@ -45,7 +45,7 @@ use Rattle.model.proofs.SoundFacts.{live-not-held, one-closing, IsClosing, clos
 use Rattle.history.specs.Ledger.{Draft, Committed, Ledger, draftOf, without, withDrafts, at, committedFrom, feed}
 use Rattle.history.specs.CutRule.{committedIn}
 use Rattle.history.specs.Matches.{lookup, Matches}
-use Rattle.history.proofs.Invariant.{inStore, nth, Prepared, Dominated, Core, Slots, draftIn, Ranges, Inv, Good, good-says, good-stores, row, unrefused, choice}
+use Rattle.history.proofs.Invariant.{inStore, nth, Prepared, Dominated, Recorded, Core, Slots, draftIn, Ranges, Inv, Good, good-says, good-stores, row, unrefused, choice}
 use Rattle.history.proofs.DraftLaws.{draft-txn, draft-without, once-without, drafts-as, draft-of, matches-at, drafts-cast, drafts-same, drafts-cleared}
 use Rattle.history.proofs.Lasting.{lasting}
 use Rattle.history.proofs.LiveLaws.{reads-set, ranges-set, noLive-open, noLive-reads, noLive-ranges}
@@ -108,15 +108,15 @@ module _ (st : Station) (s s′ : List ℕ) (b : Ledger) (inv : Inv st s b) (h :
   -- the other slots are as they were
   core-step : (seen s′ d ≡ damaged → ⊥) → ((d′ : ℕ) (e e′ : Entry) → d′ ≢ d → d′ < slots → seen s′ d ≡ committed e → seen s d′ ≡ committed e′ → e .id .txn ≡ e′ .id .txn → ⊥)
       → (standing past : List Committed) → List·Permᴰ (inStore s′) standing → ((j : Committed) → List·Memᴰ j standing → List·Memᴰ j past) → ((j : Committed) → List·Memᴰ j past → Dominated standing j)
-      → ((j : Committed) → List·Memᴰ j past → j .id .clock < numberRange) → Core s′ standing past
-  core-step whole one standing past found kept dominated clocked = record {
+      → ((j : Committed) → List·Memᴰ j past → Recorded j) → Core s′ standing past
+  core-step whole one standing past found kept dominated recorded = record {
     size = size′;
     undamaged = λ d′ o x. go d′ o x (ℕ-discrete d′ d);
     single = λ d₁ d₂ e₁ e₂ o₁ o₂ h₁ h₂ et. two d₁ d₂ e₁ e₂ o₁ o₂ h₁ h₂ et (ℕ-discrete d₁ d) (ℕ-discrete d₂ d);
     found = found;
     kept = kept;
     dominated = dominated;
-    clocked = clocked;
+    recorded = recorded;
   }
     where
       go : (d′ : ℕ) → d′ < slots → seen s′ d′ ≡ damaged → Dec (d′ ≡ d) → ⊥
@@ -141,7 +141,7 @@ module _ (st : Station) (s s′ : List ℕ) (b : Ledger) (inv : Inv st s b) (h :
   }
 
 -- ── the values by key ──
-lookup-first : (ws : List Write) (k : ℕ) → lookup k ws ≡ cond (member k (map writeKey ws)) (some (getD ws (first (eqb k) (map writeKey ws)) noWrite .value)) none
+pub lookup-first : (ws : List Write) (k : ℕ) → lookup k ws ≡ cond (member k (map writeKey ws)) (some (getD ws (first (eqb k) (map writeKey ws)) noWrite .value)) none
 unfolding lookup
 lookup-first [] k = unfold member any in refl
 lookup-first (w ∷ ws) k = go (eqb k (w .key)) refl (lookup-first ws k)
@@ -154,6 +154,11 @@ lookup-first (w ∷ ws) k = go (eqb k (w .key)) refl (lookup-first ws k)
     go true e ih = rw (e, member-yes k (w .key) ks e, first-yes (eqb k) (w .key) ks e)
     go false e ih = rw (e, member-no k (w .key) ks e, first-no (eqb k) (w .key) ks e) ih
 
+first-written : (ws : List Write) → 1 ≤ length ws → (k : ℕ) × (v : ℕ) × (lookup k ws ≡ some v)
+unfolding lookup
+first-written [] o = absurd (not-suc-le-zero o)
+first-written (w ∷ ws) o = (w .key, w .value, rw (eq-eqb (w .key) (w .key) refl))
+
 keys-for : (l : Live) → keysOf (entryFor l) ≡ map writeKey (writesOf l)
 unfolding keysOf entryFor writesOf
 keys-for l = take-map writeKey (l .«write_count») (l .writes)
@@ -163,7 +168,7 @@ unfolding writesOf
 nth-written l j o = getD-take (l .«write_count») (l .writes) j noWrite o
 
 -- the transaction in the slot is the draft's
-committed-of-draft : (s : List ℕ) (d c n : ℕ) (l : Live) (p : Draft) → l .phase ≡ Closing d c n → Ranges l → Matches p l
+pub committed-of-draft : (s : List ℕ) (d c n : ℕ) (l : Live) (p : Draft) → l .phase ≡ Closing d c n → Ranges l → Matches p l
     → ((j : ℕ) → j < l .«write_count» → recordAt s d (suc j) ≡ versionRecord (nth l j .key) (record { clock = c; txn = l .txn }) (nth l j .value))
     → committedIn s d (entryFor l) ≡ record { id = record { clock = p .clock; txn = l .txn }; values = p .values }
 unfolding committedIn
@@ -203,7 +208,7 @@ module _ (st : Station) (s : List ℕ) (b : Ledger) (inv : Inv st s b) (h : soun
   pub version-stored : n < l .«write_count» → Inv (setLive st (placeOf t st) (withPhase (Closing d c (n + 1)) l)) (withRecord s d (n + 1) content) b
   version-stored o = step-inv st s s′ b inv h t d c n (n + 1) nz z q size′ frame prepared (b .standing) (b .past)
       (core-step st s s′ b inv h t d c n (n + 1) nz z q size′ frame (λ x. free≢damaged (sym unmarked ∙ x)) (λ d′ e e′ nd o′ x. not-free (seen s′ d) e x unmarked) (b .standing) (b .past)
-      (rw (in-store s′, hold-same s s′ slots 0 (λ d′ y. same d′ (ℕ-discrete d′ d)), ← in-store) (inv .core .found)) (inv .core .kept) (inv .core .dominated) (inv .core .clocked))
+      (rw (in-store s′, hold-same s s′ slots 0 (λ d′ y. same d′ (ℕ-discrete d′ d)), ← in-store) (inv .core .found)) (inv .core .kept) (inv .core .dominated) (inv .core .recorded))
     where
       s′ : List ℕ
       s′ = withRecord s d (n + 1) content
@@ -272,10 +277,16 @@ module _ (st : Station) (s : List ℕ) (b : Ledger) (inv : Inv st s b) (h : soun
       (List·Permᴰ·trans perm (List·Permᴰ·cons same (inv .core .found)))
       (λ j m. ⊎-elim (λ e. List·Memᴰ·head e) (λ x. List·Memᴰ·tail (inv .core .kept j x)) (List·Memᴰ·cases-cons m))
       (λ j m. ⊎-elim (λ e. inl (List·Memᴰ·head e)) (λ x. more j (inv .core .dominated j x)) (List·Memᴰ·cases-cons m))
-      (λ j m. ⊎-elim (λ e. subst (λ (x : Committed). x .id .clock < numberRange) (sym e) (omega (arith, c-low, mt .clock, clock-closing _ d c n q))) (inv .core .clocked j) (List·Memᴰ·cases-cons m)))
+      (λ j m. ⊎-elim (λ e. subst Recorded (sym e) recorded) (inv .core .recorded j) (List·Memᴰ·cases-cons m)))
     where
       J : Committed
       J = record { id = record { clock = p .clock; txn = l .txn }; values = p .values }
+
+      recorded : Recorded J
+      recorded =
+          let full : length (writesOf l) ≡ l .«write_count» = unfold writesOf in length-take-le (l .«write_count») (l .writes) (omega (arith, write-limit l (closes .used .sets), inv .ranges (placeOf t st) .filled (closes .used .numbered))) in
+          let r = first-written (writesOf l) (omega (arith, closes .keyed, full)) in
+          (omega (arith, c-low, mt .clock, clock-closing _ d c n q), r .0, (r .1, mt .values (r .0) ∙ r .2))
 
       s′ : List ℕ
       s′ = withRecord s d 0 (commitRecord E)

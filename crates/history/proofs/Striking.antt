@@ -91,7 +91,7 @@ module _ (s : List ℕ) (standing past : List Committed) (core : Core s standing
         (strike-perm t (List·Permᴰ·trans (Permᴰ·symm (core .found)) perm)));
     kept = λ j m. core .kept j (strike-sub t standing j m);
     dominated = λ j m. go j (core .dominated j m) (ℕ-discrete (j .id .txn) t);
-    clocked = core .clocked;
+    recorded = core .recorded;
   }
     where
       -- a dominator that is struck hands over to its own

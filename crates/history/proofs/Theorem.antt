@@ -53,7 +53,7 @@ zeros-core = record {
   found = rw (in-store (replicate storeSize 0), none-held (replicate storeSize 0) (zeros-free storeSize) slots 0) (Permᴰ·refl []);
   kept = λ j m. m;
   dominated = λ j m. absurd (List·Memᴰ·not-nil m);
-  clocked = λ j m. absurd (List·Memᴰ·not-nil m);
+  recorded = λ j m. absurd (List·Memᴰ·not-nil m);
 }
 
 begin-inv : Inv emptyStation zeros emptyLedger

@@ -13,6 +13,7 @@ pub mod ScanLaws
 pub mod ConflictLaws
 pub mod OrderLaws
 pub mod ReadingLaws
+pub mod FirstRead
 pub mod StationLaws
 pub mod ClockLaws
 pub mod GetLaws

@@ -1,0 +1,178 @@
+-- 02 §3, of histories: the station and the ledger reckon the same clock, what closes is newest, and the booking just made is the one read.
+use Prim.Native.Nat.{ℕ, _<_, _≤_}
+use mathlib.Core.Path.{_≡_, refl, sym, ap, subst, _∙_}
+use mathlib.Core.Logic.{_≢_, _⊎_, inl, inr, ⊎-elim}
+use mathlib.Core.Bool.{Bool, true, false, not, cond, true≢false, false≢true}
+use mathlib.Core.List.{List, [], _∷_, _++_, map, List·Memᴰ, List·Memᴰ·head}
+use mathlib.Core.Option.{Option, some, none, Option·none-ne-some}
+use lib.Dec.{eqb, leb}
+use lib.ListN.{length}
+use native.Mathlib.Nat.{lt-irrefl}
+use native.Mathlib.Omega.{arith}
+use borrow.Author.Tests.{eqb-true, eqb-false, ltb-true, lt-leb, ne-eqb, not-false}
+use Rattle.model.specs.declared.Id.{Id}
+use Rattle.model.specs.declared.Read.{Read}
+use Rattle.model.specs.declared.Live.{Live}
+use Rattle.model.specs.declared.Entry.{Entry}
+use Rattle.model.specs.declared.Station.{Station}
+use Rattle.model.specs.declared.Answer.{Answer}
+use Rattle.model.specs.declared.Answer.the-variants as A
+use Rattle.model.specs.Lists.{all}
+use Rattle.model.specs.Limits.{numberRange}
+use Rattle.model.specs.Ids.{older}
+use Rattle.model.specs.Lives.{readsOf, hasWritten, isClosing}
+use Rattle.model.specs.Ranges.{StationFits}
+use Rattle.model.specs.Ranges.{StationFits}
+use Rattle.model.specs.Clocks.{clocks, clockAbove}
+use Rattle.model.specs.Stations.{liveAt, entryAt, isLive, placeOf}
+use Rattle.model.specs.Sound.{sound}
+use Rattle.model.specs.Effects.{Effect}
+use Rattle.model.specs.Get.{get}
+use Rattle.model.specs.Step.{step}
+use Rattle.model.specs.Answers.{refusedWith}
+use Rattle.model.specs.Calls.{Call, Get, Commit, Step, does, isSweep, txnOf, numberOf, InRange}
+use Rattle.model.proofs.ClockLaws.{clock-least, clock-above, clock-below, maximum-mem}
+use Rattle.model.proofs.IdLaws.{older-is, older-total, older-trans}
+use Rattle.model.proofs.RefusalLaws.{accepted, row-off}
+use Rattle.model.proofs.StationLaws.{place-hit, is-live}
+use Rattle.model.proofs.CommitLaws.{commit-closes}
+use Rattle.history.specs.Ledger.{Draft, Committed, Ledger, draftOf, without, withDrafts, at, clocksIn, feed}
+use Rattle.history.specs.Histories.{Event, called, running, World, begin, handed, reports, fed, afterCall, next, run, callIn, AllInRange}
+use Rattle.history.specs.CutRule.{committedIn, Wrote, Newer}
+use Rattle.history.specs.Matches.{Matches}
+use Rattle.history.specs.Booking.{Answers, HasClosed, Writes, FirstRead, untilAcknowledged, untilAsked, Booking}
+use Rattle.history.specs.Contracts.{AllTyped}
+use Rattle.history.proofs.Invariant.{Inv, Core, draftIn}
+use Rattle.history.proofs.DraftLaws.{some-inj, at-same, draft-without, matches-at}
+use Rattle.history.proofs.Reckoning.{standing-clock, draft-clock, reckons, clocks-low}
+use Rattle.history.proofs.Acknowledged.{Shown, run-shows}
+use Rattle.history.proofs.Corollaries.{run-after, done-stands}
+use Rattle.history.proofs.Carried.{TypedNode, typed-begin, typed-run, all-in-range}
+use Rattle.history.proofs.FirstGet.{first-get-answers}
+use Rattle.history.proofs.Theorem.{next-keeps, history-keeps, running-keeps}
+
+-- ── "The book reckons the same" ──
+pub reckons-the-same : (vs : List Event) → AllInRange vs → (st : Station) → run vs begin .node ≡ running st → (c : ℕ) → clockAbove c (clocks st) ≡ clockAbove c (clocksIn (run vs begin .ledger))
+reckons-the-same vs f st up c = let r = running-keeps vs f st up in reckons st _ _ (r .1) (r .0) c
+
+-- ── what closes is newest ──
+older-clock : (i j : Id) → older i j ≡ true → i .clock ≤ j .clock
+older-clock i j h = ⊎-elim (λ y. omega (arith, y)) (λ y. omega (arith, y .0)) (older-is i j h)
+
+-- the clock that a commit takes in a history: at least the one given, above that of every transaction that has closed, and below 2^64
+pub record Closing (b : Ledger) (given c : ℕ) : Type 0 where
+  pub least : given ≤ c
+  pub above : (i : Id) → HasClosed b i → i .clock < c
+  pub low : c < numberRange
+
+past-clock : (s : List ℕ) (b : Ledger) → Core s (b .standing) (b .past) → (c : ℕ) (j : Committed) → List·Memᴰ j (b .past) → j .id .clock < clockAbove c (clocksIn b)
+past-clock s b core c j m = ⊎-elim
+    (λ x. clock-above c (clocksIn b) _ (standing-clock b j x))
+    (λ f. let w = core .recorded j m in let r = f (w .1) (w .2) in omega (arith, older-clock (j .id) (r .0 .id) (r .3), clock-above c (clocksIn b) _ (standing-clock b (r .0) (r .1)))) (core .dominated j m)
+
+pub closing-is-newest : (vs : List Event) → AllInRange vs → (t c d : ℕ) → c < numberRange → Answers (run vs begin) (Commit t c) (A.Closing d) → Closing (run vs begin .ledger) c (clockAbove c (clocksIn (run vs begin .ledger)))
+closing-is-newest vs f t c d o a =
+    let r = running-keeps vs f (a .0) (a .1) in
+    let b = run vs begin .ledger in
+    record {
+      least = clock-least c (clocksIn b);
+      above = λ i x. ⊎-elim
+          (λ y. subst (λ (u : Id). u .clock < clockAbove c (clocksIn b)) (y .2) (past-clock _ b (r .1 .core) c (y .0) (y .1)))
+          (λ y. subst (λ (u : Id). u .clock < clockAbove c (clocksIn b)) (y .2) (clock-above c (clocksIn b) _ (draft-clock b (y .0) (y .1)))) x;
+      low = subst (λ (n : ℕ). n < numberRange) (reckons _ _ _ (r .1) (r .0) c) (clock-below c (clocks (a .0)) o (clocks-low _ _ _ (r .1) (r .0)) (commit-closes (a .0) t c d (unfold does in a .2) .next));
+    }
+
+-- ── the acknowledgement ──
+-- what a call leaves of the ledger, if it is no sweep
+after-answer : (w : World) (st : Station) → w .node ≡ running st → (c : Call) → isSweep c ≡ false → next (called c) w .ledger ≡ feed (does c st (w .store) .answer) c (w .ledger)
+unfolding next handed afterCall reports fed
+after-answer w st e c n = rw (e, n)
+
+module _ (st : Station) (s : List ℕ) (b : Ledger) (inv : Inv st s b) (h : sound st ≡ true) where
+  acknowledged-shown : (t k v : ℕ) (i : Id) (p : Draft) → step st s t .answer ≡ A.Done i → draftOf t (b .drafts) ≡ some p → p .values k ≡ some v
+      → (J : Committed) × (J .id ≡ i) × (J .values k ≡ some v) × Shown J k (withDrafts (without t (b .drafts)) b)
+  unfolding step all withDrafts
+  acknowledged-shown t k v i p a e x =
+      let y = accepted _ st _ refl (ap refusedWith a ∙ (unfold refusedWith in refl)) in
+      let r8 = row-off 8 _ _ (row-off 3 _ _ (row-off 2 _ _ (row-off 1 _ _ (y .0) .1) .1) .1) in
+      let r10 = row-off 10 _ _ (r8 .1) in
+      let m = matches-at st (draftIn b) h (inv .drafts) t (not-false _ (r8 .0)) p e in
+      let r = done-stands st s b inv t i _ refl (not-false _ (r10 .0)) (sym (ap (λ (z : Effect). z .answer) (y .1)) ∙ a) in
+      (r .0, r .2, ap (λ (f : ℕ → Option ℕ). f k) (r .4 p m) ∙ x, record { by = r .0; stands = r .1; ended = gone (r .0 .id .txn) (r .3 ∙ place-hit st t (not-false _ (r8 .0)) .1); newest = inl refl })
+    where
+      gone : (n : ℕ) → n ≡ t → draftOf n (without t (b .drafts)) ≡ none
+      gone n q = draft-without t (b .drafts) n ∙ (ap (at t none (draftIn b)) q ∙ at-same t none (draftIn b))
+
+-- ── the booking just made ──
+typed-first : (vs us : List Event) → AllTyped (vs ++ us) → AllTyped vs
+unfolding AllTyped
+typed-first [] us f = tt
+typed-first (v ∷ vs) us f = (f .0, typed-first vs us (f .1))
+
+typed-last : (vs us : List Event) → AllTyped (vs ++ us) → AllTyped us
+unfolding AllTyped
+typed-last [] us f = f
+typed-last (v ∷ vs) us f = typed-last vs us (f .1)
+
+-- It is answered that version with its value, or one that is newer and closed later; in particular none that had closed before it.
+pub booking-just-made : (vs₀ vs₁ vs₂ : List Event) (t c u k v : ℕ) (i : Id) → AllTyped (untilAsked vs₀ t c vs₁ vs₂) → Booking vs₀ vs₁ vs₂ t c u k v i
+    → (x : ℕ) × (j : Id) × Answers (run (untilAsked vs₀ t c vs₁ vs₂) begin) (Get u k) (A.Version x j)
+    × (((j ≡ i) × (x ≡ v)) ⊎ (Newer j i × (HasClosed (run vs₀ begin .ledger) j → ⊥)))
+booking-just-made vs₀ vs₁ vs₂ t c u k v i f bk = (g .0, g .1, (st, bk .runs .1, unfold does in g .2), told (g .3))
+  where
+    h₁ : List Event
+    h₁ = untilAcknowledged vs₀ t c vs₁
+
+    h₂ : List Event
+    h₂ = untilAsked vs₀ t c vs₁ vs₂
+
+    f₁ : AllTyped h₁
+    f₁ = typed-first h₁ _ f
+
+    -- as it is acknowledged
+    w₁ : World
+    w₁ = run h₁ begin
+
+    k₁ : (sound (bk .acknowledged .0) ≡ true) × Inv (bk .acknowledged .0) (w₁ .store) (w₁ .ledger)
+    k₁ = running-keeps h₁ (all-in-range h₁ f₁) _ (bk .acknowledged .1)
+
+    ack : (J : Committed) × (J .id ≡ i) × (J .values k ≡ some v) × Shown J k (withDrafts (without t (w₁ .ledger .drafts)) (w₁ .ledger))
+    ack = acknowledged-shown _ _ _ (k₁ .1) (k₁ .0) t k v i (bk .wrote .0) (unfold does in bk .acknowledged .2) (bk .wrote .1) (bk .wrote .2)
+
+    torn : next (called (Step t)) w₁ .ledger ≡ withDrafts (without t (w₁ .ledger .drafts)) (w₁ .ledger)
+    torn = after-answer w₁ _ (bk .acknowledged .1) (Step t) (unfold isSweep in refl) ∙ (unfold feed txnOf in ap (λ (a : Answer). feed a (Step t) (w₁ .ledger)) (bk .acknowledged .2))
+
+    last : AllTyped (called (Step t) ∷ vs₂)
+    last = typed-last h₁ (called (Step t) ∷ vs₂) f
+
+    both : run h₂ begin ≡ run vs₂ (next (called (Step t)) w₁)
+    both = unfold run in run-after h₁ (called (Step t) ∷ vs₂) begin
+
+    -- as u asks
+    shown : Shown (ack .0) k (run h₂ begin .ledger)
+    shown = subst (λ (w : World). Shown (ack .0) k (w .ledger)) (sym both)
+        (run-shows (ack .0) k (v, ack .2) vs₂ (next (called (Step t)) w₁) (all-in-range vs₂ (unfold AllTyped in last .1))
+        (next-keeps (called (Step t)) w₁ (unfold AllTyped in last .0 .0) (history-keeps h₁ (all-in-range h₁ f₁))) (subst (Shown (ack .0) k) (sym torn) (ack .3)))
+
+    st : Station
+    st = bk .runs .0
+
+    k₂ : (sound st ≡ true) × Inv st (run h₂ begin .store) (run h₂ begin .ledger)
+    k₂ = running-keeps h₂ (all-in-range h₂ f) st (bk .runs .1)
+
+    fits : StationFits st
+    fits = subst TypedNode (bk .runs .1) (typed-run h₂ begin f typed-begin .node)
+
+    g : (x : ℕ) × (j : Id) × (get st (run h₂ begin .store) u k .answer ≡ A.Version x j) × (((j ≡ ack .0 .id) × (ack .0 .values k ≡ some x)) ⊎ Newer j (ack .0 .id))
+    g = first-get-answers st _ _ (k₂ .1) (k₂ .0) fits u k (bk .asks .draft) (bk .asks .live) (bk .asks .open-still) (bk .asks .unread) (bk .asks .unwritten) (ack .0) (v, ack .2) shown
+
+    later : {j : Id} → Newer j i → HasClosed (run vs₀ begin .ledger) j → ⊥
+    later {j} n x =
+        let commit : AllTyped (called (Commit t c) ∷ vs₁) = typed-last vs₀ (called (Commit t c) ∷ vs₁) f₁ in
+        let o : c < numberRange = unfold AllTyped callIn numberOf in (commit .0 .0 .1) in
+        let z = closing-is-newest vs₀ (all-in-range vs₀ (typed-first vs₀ _ f₁)) t c (bk .slot) o (bk .closes) .above j x in
+        lt-irrefl (i .clock) (omega (arith, z, bk .same, older-clock i j n))
+
+    told : {x : ℕ} {j : Id} → ((j ≡ ack .0 .id) × (ack .0 .values k ≡ some x)) ⊎ Newer j (ack .0 .id) → ((j ≡ i) × (x ≡ v)) ⊎ (Newer j i × (HasClosed (run vs₀ begin .ledger) j → ⊥))
+    told (inl y) = inl (y .0 ∙ ack .1, some-inj (sym (y .1) ∙ ack .2))
+    told {j = j} (inr y) = let n : Newer j i = subst (λ (a : Id). Newer j a) (ack .1) y in inr (n, later n)
