@@ -135,5 +135,12 @@ int main(void) {
         }
     } while (swept.kind == GOREHIMU_SWEPT && swept.a > 0);
     printf("%-28s %s\n", "disk", memcmp(disk, store, sizeof store) == 0 ? "as the store" : "not as the store");
+
+    /* the desk's clock was set back by an hour: a clock given is the least that is taken, so the price just made is the one read */
+    say("start 10", GOREHIMU_START, 10, 0, 0);
+    say("put price", GOREHIMU_PUT, 10, 2, 270);
+    close_all(10, say("commit at 45", GOREHIMU_COMMIT, 10, 0, 45));
+    say("start 11", GOREHIMU_START, 11, 0, 0);
+    say("get price", GOREHIMU_GET, 11, 2, 0);
     return start_again();
 }

@@ -57,7 +57,9 @@ extern "C" {
  *   start    transaction                 makes it live and open
  *   put      transaction, key, number    the value under a key of its write set; key 0 to 63, at most 8 keys
  *   get      transaction, key            its own value, or the version that fits its reads
- *   commit   transaction, number         begins to close it at the clock given; again once it is committed: done (a retry)
+ *   commit   transaction, number         begins to close it at a clock that is at least the one given, 1 to 2^64 - 1; again once it is committed:
+ *                                        done (a retry). A clock that was set back is no harm: the clock taken is one more than the greatest of any
+ *                                        entry or closing transaction, where that is greater than the one given. Done says it, in b
  *   step     transaction                 stores its next record; the last step acknowledges
  *   abort    transaction                 forgets an open transaction
  *   collect  key                         frees a slot (0 to 63) whose entry is superseded and read by no one
@@ -88,7 +90,7 @@ enum gorehimu_kind {
                              * abort, start again, and read a first */
     GOREHIMU_CLOSING = 7,   /* commit: a the slot; now step until done */
     GOREHIMU_EMPTY = 8,     /* commit: nothing was put, the transaction is over */
-    GOREHIMU_DONE = 9,      /* commit of a committed transaction, or the last step: b the clock, c the transaction */
+    GOREHIMU_DONE = 9,      /* commit of a committed transaction, or the last step: b the clock taken, c the transaction */
     GOREHIMU_STORED = 10,   /* step: a the key whose version record was written; keys come from the lowest up */
     GOREHIMU_SLIPPED = 11,  /* step: a the slot; the commit record was written, the transaction is committed */
     GOREHIMU_DROPPED = 12,  /* abort */
@@ -120,7 +122,8 @@ enum gorehimu_refusal {
     GOREHIMU_RECORD_CHANGED = 17,   /* get, collect: the record in the store is not the station's: the store was changed from outside */
     GOREHIMU_DAMAGED = 18,          /* scan: slot b, and none below it, breaks the format's rules or has the transaction of a lower slot */
     GOREHIMU_MALFORMED = 19,        /* no request: an unknown verb, or a byte that must be 0 is not */
-    GOREHIMU_LIMIT_RANGE = 20       /* sweep: the limit is 0 or above 64 */
+    GOREHIMU_LIMIT_RANGE = 20,      /* sweep: the limit is 0 or above 64 */
+    GOREHIMU_NO_CLOCK = 21          /* commit: the write set is not empty, and an entry or closing transaction has the last clock, 2^64 - 1: none is left */
 };
 
 /* Each function returns 0; or 1, with nothing written, where a length is wrong: image_len must be GOREHIMU_IMAGE, a request

@@ -55,7 +55,11 @@ impl Book {
                 self.pages.get_mut(&call.txn).unwrap().values.insert(call.key, call.number);
             }
             Answer::Version(_, id) => self.pages.get_mut(&call.txn).unwrap().reads.push((call.key, id)),
-            Answer::Closing(_) => self.pages.get_mut(&call.txn).unwrap().clock = call.number,
+            Answer::Closing(_) => {
+                let clocks = self.standing.iter().map(|j| j.id.clock).chain(self.pages.values().map(|p| p.clock));
+                let clock = clock_above(call.number, clocks).expect("a transaction closes, and no clock is left");
+                self.pages.get_mut(&call.txn).unwrap().clock = clock;
+            }
             Answer::Slipped(_) => {
                 let page = &self.pages[&call.txn];
                 let job = Job { id: Id { clock: page.clock, txn: call.txn }, values: page.values.clone() };

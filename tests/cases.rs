@@ -251,6 +251,6 @@ fn main() {
         outcomes.push(outcome);
     }
     held(title, &outcomes);
-    assert!(refusals.into_iter().eq(1..=20), "a refusal is missing");
+    assert!(refusals.into_iter().eq(1..=21), "a refusal is missing");
     assert!(words.len() == 16, "an answer is missing");
 }

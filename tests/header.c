@@ -71,7 +71,7 @@ int main(void) {
 
     /* by clock, then transaction, whichever the slot; a record that is no commit where the store lasts, or is one in the store, is none */
     static uint8_t cleared[GOREHIMU_STORE], lasting[GOREHIMU_STORE];
-    const uint64_t by_id[] = {9, 5, 63, 0, 20}, by_sweep[] = {62, 60, 61};
+    const uint64_t by_id[] = {9, 5, 63, 0, 20}, by_sweep[] = {62, 63};
     CHECK(gorehimu_cleared(cleared, lasting) == 64);
     commit_at(lasting, 0, 1, 300, 1);
     commit_at(lasting, 5, 1, 100, 7);
@@ -86,10 +86,11 @@ int main(void) {
     commit_at(lasting, 63, 1, 256, 2);
     CHECK(cleared_are(cleared, lasting, by_id, 5));
 
-    /* a sweep: 9 came first and is the newest, 6 is the oldest, 7 is older than 8 */
+    /* a sweep: 8 has the slot that 9 had, and is newer than 6 */
     CHECK(gorehimu_empty(image, sizeof image) == 0);
     whole(image, store, 9, 1, 200);
     whole(image, store, 6, 1, 50);
+    CHECK(gorehimu_ask(image, store, GOREHIMU_SWEEP, 0, 0, 64).a == 1);
     whole(image, store, 8, 1, 100);
     whole(image, store, 7, 1, 100);
     memcpy(lasting, store, sizeof lasting);
@@ -101,9 +102,17 @@ int main(void) {
     CHECK(gorehimu_ask(image, store, GOREHIMU_SWEEP + 1, 0, 0, 1).a == GOREHIMU_MALFORMED);
     CHECK(gorehimu_cleared(store, lasting) == 64);
     struct gorehimu_answer swept = gorehimu_ask(image, store, GOREHIMU_SWEEP, 0, 0, 64);
-    CHECK(swept.kind == GOREHIMU_SWEPT && swept.a == 3 && swept.b == 0 && swept.c == 0);
-    CHECK(cleared_are(store, lasting, by_sweep, 3) && memcmp(store, lasting, sizeof lasting) == 0);
+    CHECK(swept.kind == GOREHIMU_SWEPT && swept.a == 2 && swept.b == 0 && swept.c == 0);
+    CHECK(cleared_are(store, lasting, by_sweep, 2) && memcmp(store, lasting, sizeof lasting) == 0);
     swept = gorehimu_ask(image, store, GOREHIMU_SWEEP, 0, 0, 64);
     CHECK(swept.kind == GOREHIMU_SWEPT && swept.a == 0);
+
+    /* the clock given is the least that is taken; after the last there is none */
+    struct gorehimu_answer done = gorehimu_ask(image, store, GOREHIMU_COMMIT, 7, 0, 1);
+    CHECK(done.kind == GOREHIMU_DONE && done.b == 203 && done.c == 7);
+    whole(image, store, 5, 1, most);
+    CHECK(gorehimu_ask(image, store, GOREHIMU_START, 4, 0, 0).kind == GOREHIMU_STARTED);
+    CHECK(gorehimu_ask(image, store, GOREHIMU_PUT, 4, 1, 5).kind == GOREHIMU_KEPT);
+    CHECK(gorehimu_ask(image, store, GOREHIMU_COMMIT, 4, 0, 1).a == GOREHIMU_NO_CLOCK);
     return failures != 0;
 }

@@ -83,6 +83,15 @@ fn refused(number: u8) -> Answer {
     Answer::Refused(number, 0)
 }
 
+/// The clock that a closing transaction takes beside these: the one given or one more than the greatest, whichever is the greater. None where the
+/// greatest is the last.
+pub fn clock_above(given: u64, clocks: impl Iterator<Item = u64>) -> Option<u64> {
+    match clocks.max() {
+        None => Some(given),
+        Some(c) => Some(given.max(c.checked_add(1)?)),
+    }
+}
+
 /// Strictly ascending and below 64.
 fn ascends(keys: impl Iterator<Item = u8>) -> bool {
     let mut low = 0;
@@ -280,6 +289,12 @@ impl Station {
         self.entries.iter().position(|e| e.id.txn == txn)
     }
 
+    /// Of entries and closing transactions.
+    fn clocks(&self) -> impl Iterator<Item = u64> + '_ {
+        let closing = self.live.iter().filter_map(|l| if let Phase::Closing { clock, .. } = l.phase { Some(clock) } else { None });
+        self.held().map(|(_, e)| e.id.clock).chain(closing)
+    }
+
     fn highest_free(&self) -> Option<usize> {
         let closing = |d: usize| self.live.iter().any(|l| matches!(l.phase, Phase::Closing { slot, .. } if usize::from(slot) == d));
         (0..SLOTS).rev().find(|d| self.entries[*d].id.txn == 0 && !closing(*d))
@@ -413,6 +428,7 @@ impl Station {
             return Answer::Empty;
         }
         let Some(d) = self.highest_free() else { return refused(13) };
+        let Some(clock) = clock_above(clock, self.clocks()) else { return refused(21) };
         self.live[i].phase = Phase::Closing { slot: d as u8, clock, stored: 0 };
         Answer::Closing(d as u8)
     }

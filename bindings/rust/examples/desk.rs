@@ -85,5 +85,13 @@ fn main() {
         println!("brought {slot}");
     }
     assert_eq!(desk.store(), &*disk.0);
+
+    // the desk's clock was set back by an hour: a clock given is the least that is taken, so the price just made is the one read
+    desk.start(8);
+    desk.put(8, 2, 270);
+    let closing = desk.commit(8, 45);
+    println!("{:?}", close(&mut desk, &mut disk, 8, closing).last());
+    desk.start(9);
+    println!("{:?}", desk.get(9, 2));
     println!("{:?}", Desk::recover(disk.0).1);
 }

@@ -117,7 +117,8 @@ pub enum Request {
     Put(u32, u8, u64),
     /// Reads a key: transaction, key.
     Get(u32, u8),
-    /// Begins to close a transaction at a clock; again once it is committed, says so (a retry).
+    /// Begins to close a transaction at a clock that is at least the one given; again once it is committed, says so (a retry). The clock given may go
+    /// back: the one taken is one more than the greatest of any entry or closing transaction, where that is greater. [`Answer::Done`] says it.
     Commit(u32, u64),
     /// Stores the next record of a closing transaction; the last step acknowledges.
     Step(u32),
@@ -183,7 +184,7 @@ pub enum Answer {
     Empty,
     /// The transaction is committed and acknowledged.
     Done {
-        /// Its clock.
+        /// The clock that it took.
         clock: u64,
         /// Its number.
         transaction: u32,
@@ -205,7 +206,7 @@ pub enum Answer {
     Found(u8),
     /// Nothing was done, but that a refused scan leaves the empty station. [`Answer::refusal`] says why.
     Refused {
-        /// 1 to 20, the number of a [`Refusal`].
+        /// 1 to 21, the number of a [`Refusal`].
         number: u8,
         /// The slot that is damaged, with 18.
         slot: u8,
@@ -268,11 +269,13 @@ pub enum Refusal {
     Malformed = 19,
     /// Sweep: the limit is 0 or above 64.
     LimitRange = 20,
+    /// Commit: the write set is not empty, and an entry or closing transaction has the last clock, 2^64 - 1: none is left.
+    NoClock = 21,
 }
 
 impl Refusal {
     /// All of them, by number from 1.
-    pub const ALL: [Refusal; 20] = [
+    pub const ALL: [Refusal; 21] = [
         Refusal::StoreLength,
         Refusal::Unsound,
         Refusal::TransactionZero,
@@ -293,16 +296,17 @@ impl Refusal {
         Refusal::Damaged,
         Refusal::Malformed,
         Refusal::LimitRange,
+        Refusal::NoClock,
     ];
 
-    /// The refusal of a number; none where it is not 1 to 20.
+    /// The refusal of a number; none where it is not 1 to 21.
     ///
     /// ```
     /// use gorehimu::Refusal;
     ///
     /// assert!(Refusal::ALL.iter().all(|r| Refusal::numbered(*r as u8) == Some(*r)));
-    /// assert_eq!(Refusal::numbered(20), Some(Refusal::LimitRange));
-    /// assert_eq!((Refusal::numbered(0), Refusal::numbered(21)), (None, None));
+    /// assert_eq!(Refusal::numbered(21), Some(Refusal::NoClock));
+    /// assert_eq!((Refusal::numbered(0), Refusal::numbered(22)), (None, None));
     /// ```
     pub fn numbered(number: u8) -> Option<Refusal> {
         Refusal::ALL.into_iter().find(|r| *r as u8 == number)
@@ -423,25 +427,31 @@ impl Desk {
     /// ```
     /// use gorehimu::{record_place, Answer, Desk, RECORD};
     ///
-    /// let mut desk = Desk::new();
-    /// for (t, clock) in [(5, 200), (9, 300), (6, 100), (7, 100)] {
+    /// fn transaction(desk: &mut Desk, t: u32) {
     ///     desk.start(t);
     ///     desk.put(t, 0, 400);
-    ///     desk.commit(t, clock);
+    ///     desk.commit(t, 100);
     ///     while !matches!(desk.step(t), Answer::Done { .. }) {}
     /// }
+    ///
+    /// let mut desk = Desk::new();
+    /// transaction(&mut desk, 5);
+    /// transaction(&mut desk, 9);
+    /// assert_eq!(desk.sweep(64), Answer::Swept(1)); // slot 63 is free again, and the next to be used
+    /// transaction(&mut desk, 6);
+    /// transaction(&mut desk, 7);
     /// let mut disk = Box::new(*desk.store());
-    /// assert_eq!(desk.sweep(64), Answer::Swept(3));
+    /// assert_eq!(desk.sweep(64), Answer::Swept(2));
     /// let mut brought = Vec::new();
     /// while let Some(slot) = desk.cleared(&disk) {
     ///     let place = record_place(slot, 0).unwrap();
     ///     disk[place..place + RECORD].copy_from_slice(desk.record(slot, 0).unwrap());
     ///     brought.push(slot);
     ///     // power may go here
-    ///     let left = 4 - brought.len() as u8;
+    ///     let left = 3 - brought.len() as u8;
     ///     assert_eq!(Desk::recover(disk.clone()).1, Answer::Found(left));
     /// }
-    /// assert_eq!(brought, [61, 60, 63]);
+    /// assert_eq!(brought, [62, 63]);
     /// assert_eq!(desk.store(), &*disk);
     /// ```
     pub fn cleared(&self, lasting: &[u8; STORE]) -> Option<u8> {

@@ -8,12 +8,10 @@ use mathlib.Core.Option.{Option, some, none, Option·none-ne-some}
 use lib.Dec.{eqb, leb, ltb}
 use lib.ListN.{length}
 use native.Mathlib.Decide.{ℕ-discrete}
-use native.Mathlib.Omega.{arith}
-use borrow.Author.Tests.{eqb-false, leb-false, not-false}
+use borrow.Author.Tests.{not-false}
 use Rattle.model.specs.declared.Id.{Id}
 use Rattle.model.specs.declared.Entry.{Entry}
 use Rattle.model.specs.declared.Station.{Station}
-use Rattle.model.specs.declared.Phase.the-variants.{Closing}
 use Rattle.model.specs.declared.Answer.{Answer}
 use Rattle.model.specs.declared.Answer.the-variants as A
 use Rattle.model.specs.Limits.{slots}
@@ -24,7 +22,7 @@ use Rattle.model.specs.Stations.{liveAt, entryAt, isHeld, placeOf}
 use Rattle.model.specs.Sound.{sound}
 use Rattle.model.specs.Supersedence.{superseded}
 use Rattle.model.specs.Reading.{Choice, own, absent, nofit, version}
-use Rattle.model.specs.Effects.{Effect, stored, says, saysStoring, Row, _when_, refusals}
+use Rattle.model.specs.Effects.{Effect, says, saysStoring, Row, _when_, refusals}
 use Rattle.model.specs.Start.{start}
 use Rattle.model.specs.Put.{put}
 use Rattle.model.specs.Get.{choiceOf, answered, get}
@@ -34,26 +32,26 @@ use Rattle.model.specs.Abort.{abort}
 use Rattle.model.specs.Collect.{collect}
 use Rattle.model.specs.Scan.{scan}
 use Rattle.model.specs.Sweep.{collections, sweep}
-use Rattle.model.specs.Calls.{Call, Start, Put, Get, Commit, Step, Abort, Collect, Scan, Sweep, does, isScan, isSweep, txnOf, keyOf, numberOf, InRange}
-use Rattle.model.proofs.Tests.{or-left, or-right}
+use Rattle.model.specs.Calls.{Call, Start, Put, Get, Commit, Step, Abort, Collect, Scan, Sweep, does, isScan, isSweep, txnOf, keyOf, numberOf}
+use Rattle.model.proofs.Tests.{or-right}
 use Rattle.model.proofs.IdLaws.{older-irrefl, older-trans}
 use Rattle.model.proofs.RefusalLaws.{guard, unguarded, cond-rule}
-use Rattle.model.proofs.StationLaws.{entry-in, is-held, held-txn}
+use Rattle.model.proofs.StationLaws.{is-held, held-txn}
 use Rattle.model.proofs.SoundFacts.{live-not-held, wrote-held, one-slot, closing-facts}
 use Rattle.model.proofs.SoundKept.{sound-kept}
 use Rattle.model.proofs.InsideLaws.{entryFor-txn}
 use Rattle.model.proofs.CollectionLaws.{Ends, Goes, ends-or-goes, ends, nextStation, nextStore, goes}
-use Rattle.history.specs.Ledger.{Draft, Committed, Ledger, draftOf, without, revised, withDrafts, at, blankDraft, closingAt, committedFrom, strike, clocksIn, feed}
-use Rattle.history.specs.Histories.{Event, called, cut, Node, running, down, World, handed, Report, reportOf, reports, fed, givenAfter, afterCall, afterCut, next, run, callIn, AllInRange}
+use Rattle.history.specs.Ledger.{Draft, Committed, Ledger, draftOf, without, revised, withDrafts, at, blankDraft, committedFrom, strike, feed}
+use Rattle.history.specs.Histories.{Event, called, cut, Node, running, down, World, handed, Report, reportOf, reports, fed, givenAfter, afterCall, afterCut, next, run, AllInRange}
 use Rattle.history.specs.CutRule.{committedIn, Wrote, Newer}
 use Rattle.history.proofs.Invariant.{Core, Inv}
 use Rattle.history.proofs.DraftLaws.{some-inj, at-same, at-other, mapped, draft-without, draft-new, draft-revised}
-use Rattle.history.proofs.CommittedLaws.{stands-in, stands, committed-wrote, wrote-committed, committed-id, strike-keeps, stands-once}
+use Rattle.history.proofs.CommittedLaws.{stands-in, stands, committed-wrote, wrote-committed, committed-id, strike-keeps}
 use Rattle.history.proofs.SlotOwners.{Owner, by-entry, by-live, owner}
 use Rattle.history.proofs.Reckoning.{entry-stands}
 use Rattle.history.proofs.Collecting.{newer-entry, collect-keeps}
 use Rattle.history.proofs.Recovering.{scan-is}
-use Rattle.history.proofs.Theorem.{Running, State, run-keeps, next-keeps}
+use Rattle.history.proofs.Theorem.{Running, State, next-keeps}
 
 -- ── a standing transaction with no draft is an entry, and an entry's has none ──
 module _ (st : Station) (s : List ℕ) (b : Ledger) (inv : Inv st s b) (h : sound st ≡ true) where

@@ -1,46 +1,38 @@
 -- 02 §3, of histories: the station and the ledger reckon the same clock, what closes is newest, and the booking just made is the one read.
 use Prim.Native.Nat.{ℕ, _<_, _≤_}
 use mathlib.Core.Path.{_≡_, refl, sym, ap, subst, _∙_}
-use mathlib.Core.Logic.{_≢_, _⊎_, inl, inr, ⊎-elim}
-use mathlib.Core.Bool.{Bool, true, false, not, cond, true≢false, false≢true}
-use mathlib.Core.List.{List, [], _∷_, _++_, map, List·Memᴰ, List·Memᴰ·head}
-use mathlib.Core.Option.{Option, some, none, Option·none-ne-some}
-use lib.Dec.{eqb, leb}
-use lib.ListN.{length}
+use mathlib.Core.Logic.{_⊎_, inl, inr, ⊎-elim}
+use mathlib.Core.Bool.{true, false}
+use mathlib.Core.List.{List, [], _∷_, _++_, List·Memᴰ}
+use mathlib.Core.Option.{Option, some, none}
 use native.Mathlib.Nat.{lt-irrefl}
 use native.Mathlib.Omega.{arith}
-use borrow.Author.Tests.{eqb-true, eqb-false, ltb-true, lt-leb, ne-eqb, not-false}
+use borrow.Author.Tests.{not-false}
 use Rattle.model.specs.declared.Id.{Id}
-use Rattle.model.specs.declared.Read.{Read}
-use Rattle.model.specs.declared.Live.{Live}
-use Rattle.model.specs.declared.Entry.{Entry}
 use Rattle.model.specs.declared.Station.{Station}
 use Rattle.model.specs.declared.Answer.{Answer}
 use Rattle.model.specs.declared.Answer.the-variants as A
 use Rattle.model.specs.Lists.{all}
 use Rattle.model.specs.Limits.{numberRange}
 use Rattle.model.specs.Ids.{older}
-use Rattle.model.specs.Lives.{readsOf, hasWritten, isClosing}
 use Rattle.model.specs.Ranges.{StationFits}
 use Rattle.model.specs.Ranges.{StationFits}
 use Rattle.model.specs.Clocks.{clocks, clockAbove}
-use Rattle.model.specs.Stations.{liveAt, entryAt, isLive, placeOf}
 use Rattle.model.specs.Sound.{sound}
 use Rattle.model.specs.Effects.{Effect}
 use Rattle.model.specs.Get.{get}
 use Rattle.model.specs.Step.{step}
 use Rattle.model.specs.Answers.{refusedWith}
-use Rattle.model.specs.Calls.{Call, Get, Commit, Step, does, isSweep, txnOf, numberOf, InRange}
-use Rattle.model.proofs.ClockLaws.{clock-least, clock-above, clock-below, maximum-mem}
-use Rattle.model.proofs.IdLaws.{older-is, older-total, older-trans}
+use Rattle.model.specs.Calls.{Call, Get, Commit, Step, does, isSweep, txnOf, numberOf}
+use Rattle.model.proofs.ClockLaws.{clock-least, clock-above, clock-below}
+use Rattle.model.proofs.IdLaws.{older-is}
 use Rattle.model.proofs.RefusalLaws.{accepted, row-off}
-use Rattle.model.proofs.StationLaws.{place-hit, is-live}
+use Rattle.model.proofs.StationLaws.{place-hit}
 use Rattle.model.proofs.CommitLaws.{commit-closes}
 use Rattle.history.specs.Ledger.{Draft, Committed, Ledger, draftOf, without, withDrafts, at, clocksIn, feed}
 use Rattle.history.specs.Histories.{Event, called, running, World, begin, handed, reports, fed, afterCall, next, run, callIn, AllInRange}
-use Rattle.history.specs.CutRule.{committedIn, Wrote, Newer}
-use Rattle.history.specs.Matches.{Matches}
-use Rattle.history.specs.Booking.{Answers, HasClosed, Writes, FirstRead, untilAcknowledged, untilAsked, Booking}
+use Rattle.history.specs.CutRule.{Newer}
+use Rattle.history.specs.Booking.{Answers, HasClosed, untilAcknowledged, untilAsked, Booking}
 use Rattle.history.specs.Contracts.{AllTyped}
 use Rattle.history.proofs.Invariant.{Inv, Core, draftIn}
 use Rattle.history.proofs.DraftLaws.{some-inj, at-same, draft-without, matches-at}

@@ -1,12 +1,11 @@
 -- In a history: a get by a transaction that is open, has read nothing and has not written the key, where J or a newer transaction that wrote the key has been
 -- acknowledged.
-use Prim.Native.Nat.{ℕ, _<_, _≤_}
+use Prim.Native.Nat.{ℕ, _<_}
 use mathlib.Core.Path.{_≡_, refl, sym, ap, subst, _∙_}
 use mathlib.Core.Logic.{_≢_, _⊎_, inl, inr, ⊎-elim}
 use mathlib.Core.Bool.{Bool, true, false, cond}
-use mathlib.Core.List.{List, [], _∷_, map, List·Memᴰ, List·Memᴰ·head}
+use mathlib.Core.List.{List, [], _∷_, List·Memᴰ, List·Memᴰ·head}
 use mathlib.Core.Option.{Option, some, none, Option·none-ne-some}
-use lib.Dec.{leb}
 use lib.ListN.{length, getD}
 use lib.Seq.{length-take-le}
 use native.Mathlib.Nat.{lt-irrefl}
@@ -26,7 +25,7 @@ use Rattle.model.specs.Stations.{liveAt, entryAt, isLive, placeOf}
 use Rattle.model.specs.Ranges.{LiveFits, StationFits}
 use Rattle.model.specs.Records.{valueIn}
 use Rattle.model.specs.Sound.{sound}
-use Rattle.model.specs.Reading.{version, choose}
+use Rattle.model.specs.Reading.{version}
 use Rattle.model.specs.Effects.{Effect, says}
 use Rattle.model.specs.Get.{choiceOf, versionAt, noRoom, answered, get}
 use Rattle.model.proofs.Tests.{bool-cases, and-none-right, not-of-true}
@@ -38,7 +37,7 @@ use Rattle.model.proofs.RefusalLaws.{skipped, refusals-none}
 use Rattle.model.proofs.FirstRead.{first-read}
 use Rattle.model.proofs.StationLaws.{place-hit, is-live, entry-in, entry-get, closing-is}
 use Rattle.model.proofs.SoundLaws.{sound-at, read-limit}
-use Rattle.model.proofs.SoundFacts.{one-slot, wrote-held, live-facts, closing-facts}
+use Rattle.model.proofs.SoundFacts.{one-slot, live-facts, closing-facts}
 use Rattle.history.specs.Ledger.{Draft, Committed, Ledger, draftOf}
 use Rattle.history.specs.Matches.{Matches}
 use Rattle.history.specs.CutRule.{committedIn, Wrote, Newer}

@@ -9,7 +9,7 @@ use native.Mathlib.Decide.{ℕ-discrete}
 use Rattle.model.specs.declared.Live.{Live}
 use Rattle.model.specs.declared.Entry.{Entry}
 use Rattle.model.specs.declared.Station.{Station}
-use Rattle.model.specs.declared.Phase.the-variants.{Unused, Closing}
+use Rattle.model.specs.declared.Phase.the-variants.{Closing}
 use Rattle.model.specs.Lives.{noLive, writesOf, readsOf, isClosing, closingClock}
 use Rattle.model.specs.Stations.{liveAt, setLive, isLive, placeOf}
 use Rattle.model.specs.Sound.{sound}

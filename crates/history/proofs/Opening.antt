@@ -13,7 +13,6 @@ use Rattle.model.specs.declared.Write.{Write}
 use Rattle.model.specs.declared.Live.{Live}
 use Rattle.model.specs.declared.Entry.{Entry}
 use Rattle.model.specs.declared.Station.{Station}
-use Rattle.model.specs.declared.Phase.the-variants.{Open}
 use Rattle.model.specs.declared.Answer.the-variants as A
 use Rattle.model.specs.Lists.{_and_, insert}
 use Rattle.model.specs.Limits.{keys, writeLimit, txnRange, numberRange}

@@ -1,16 +1,14 @@
 -- 02 §3: in a history the clocks of the station, of its entries and closing transactions, are those of the ledger, of its standing transactions and
 -- its drafts with a clock: so both reckon the same.
 use Prim.Native.Nat.{ℕ, _<_, _≤_}
-use mathlib.Core.Path.{_≡_, refl, sym, ap, subst, _∙_}
-use mathlib.Core.Logic.{_≢_, _⊎_, ⊎-elim}
+use mathlib.Core.Path.{_≡_, sym, ap, subst, _∙_}
+use mathlib.Core.Logic.{_≢_, ⊎-elim}
 use mathlib.Core.Bool.{true}
 use mathlib.Core.List.{List, map, List·Memᴰ, Memᴰ·append-left, Memᴰ·append-right, List·Memᴰ·append-cases}
-use lib.ListN.{length}
 use native.Mathlib.Nat.{le-antisymm}
 use native.Mathlib.Decide.{ℕ-discrete}
 use native.Mathlib.Omega.{arith}
 use Rattle.model.specs.declared.Id.{Id}
-use Rattle.model.specs.declared.Live.{Live}
 use Rattle.model.specs.declared.Entry.{Entry}
 use Rattle.model.specs.declared.Station.{Station}
 use Rattle.model.specs.Lists.{maximum}
@@ -23,11 +21,10 @@ use Rattle.model.specs.Sound.{sound}
 use Rattle.model.proofs.ClockLaws.{maximum-mem, maximum-most, map-mem, mem-map, entry-clock, live-clock, clock-of}
 use Rattle.model.proofs.StationLaws.{live-in, entry-in, open-clock, closing-in}
 use Rattle.model.proofs.SoundFacts.{one-place, unheld-clockless, unused-open}
-use Rattle.history.specs.Ledger.{Draft, Committed, Ledger, draftOf, clocksIn}
+use Rattle.history.specs.Ledger.{Draft, Committed, Ledger, clocksIn}
 use Rattle.history.specs.CutRule.{committedIn}
-use Rattle.history.specs.Matches.{Matches}
-use Rattle.history.proofs.Invariant.{draftIn, Inv}
-use Rattle.history.proofs.DraftLaws.{draft-mem, draft-of, some-inj}
+use Rattle.history.proofs.Invariant.{Inv}
+use Rattle.history.proofs.DraftLaws.{draft-mem}
 use Rattle.history.proofs.CommittedLaws.{stands-in, stands, committed-id}
 use Rattle.history.proofs.SlotOwners.{Owner, by-entry, by-live, owner}
 

@@ -1,9 +1,8 @@
 -- 01 'Bench sheet': the ★ cases, and for each of 01's 'Slips of thought seen before' a case that a definition with that slip fails,
 -- as one table of calls with their answers under one claim; and 02's rows, request by request. All keys, values and numbers are run through
 -- the definitions.
-use Prim.Native.Nat.{ℕ, max}
+use Prim.Native.Nat.{ℕ}
 use mathlib.Core.Path.{_≡_, refl}
-use mathlib.Core.Bool.{true}
 use mathlib.Core.List.{List, [], _∷_, _++_, map}
 use mathlib.Core.Option.{Option·elim}
 use lib.ListN.{length, replicate}

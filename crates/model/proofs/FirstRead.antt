@@ -1,21 +1,19 @@
 -- A get by a transaction that has read nothing and has not written the key: it is answered the newest entry that wrote it.
 use Prim.Native.Nat.{ℕ, _<_}
-use mathlib.Core.Path.{_≡_, refl, sym, ap, subst, _∙_}
-use mathlib.Core.Bool.{Bool, true, false, not, true≢false}
+use mathlib.Core.Path.{_≡_, refl, sym, _∙_}
+use mathlib.Core.Bool.{true, false, not, true≢false}
 use mathlib.Core.List.{List, []}
 use mathlib.Core.Option.{Option, some, none, Option·elim}
 use lib.ListN.{length, getD}
-use Rattle.model.specs.declared.Id.{Id}
 use Rattle.model.specs.declared.Entry.{Entry}
 use Rattle.model.specs.Lists.{_and_, filter, least}
-use Rattle.model.specs.Ids.{older, noId, greatest}
+use Rattle.model.specs.Ids.{older, greatest}
 use Rattle.model.specs.Entries.{noEntry, wrote}
 use Rattle.model.specs.Orders.{newest}
 use Rattle.model.specs.Reading.{lowerBound, lowestConflict, conflicts, passes, version, chosen, choose}
 use Rattle.model.proofs.Tests.{and-intro, not-of-false}
 use Rattle.model.proofs.IdLaws.{none-older}
-use Rattle.model.proofs.OrderLaws.{IsNewest, newest-is, newest-none}
-use Rattle.model.proofs.ReadingLaws.{passes-wrote}
+use Rattle.model.proofs.OrderLaws.{newest-is, newest-none}
 
 module _ (es : List Entry) (k : ℕ) where
   -- no read bounds or is in the way
