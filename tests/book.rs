@@ -22,6 +22,8 @@ pub struct Book {
     pages: BTreeMap<u32, Page>,
     standing: Vec<Job>,
     past: Vec<Job>,
+    /// The ids of all that closed, in that order.
+    closed: Vec<Id>,
 }
 
 /// A call with what it was handed: transaction, key or slot, value, clock or limit.
@@ -59,6 +61,7 @@ impl Book {
                 let clocks = self.standing.iter().map(|j| j.id.clock).chain(self.pages.values().map(|p| p.clock));
                 let clock = clock_above(call.number, clocks).expect("a transaction closes, and no clock is left");
                 self.pages.get_mut(&call.txn).unwrap().clock = clock;
+                self.closed.push(Id { clock, txn: call.txn });
             }
             Answer::Slipped(_) => {
                 let page = &self.pages[&call.txn];
@@ -73,6 +76,17 @@ impl Book {
             Answer::Found(_) => self.pages.clear(),
             _ => {}
         }
+    }
+
+    /// Whether a is b, or closed after it: by the order of the calls, not by their ids.
+    pub fn not_before(&self, a: Id, b: Id) -> bool {
+        let place = |id: Id| self.closed.iter().rposition(|c| *c == id).unwrap();
+        place(a) >= place(b)
+    }
+
+    /// The value under a key of a standing job.
+    pub fn value(&self, id: Id, key: u8) -> Option<u64> {
+        self.standing.iter().find(|j| j.id == id)?.values.get(&key).copied()
     }
 
     /// The cut rule, of a store and this book; what is wrong, where something is.

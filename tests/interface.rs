@@ -218,6 +218,8 @@ struct Style {
     keys: u64,
     weights: [u64; 9],
     clocks: u64,
+    /// The last clocks come too, in few histories: after the last nothing more is written.
+    last: bool,
 }
 
 fn style(r: &mut Chance) -> Style {
@@ -232,7 +234,7 @@ fn style(r: &mut Chance) -> Style {
     if r.one_in(2) {
         weights[8] = 1 + r.below(3);
     }
-    Style { txns, keys, weights, clocks: [3, 50, u64::MAX][r.below(3) as usize] }
+    Style { txns, keys, weights, clocks: [3, 50, u64::MAX][r.below(3) as usize], last: r.one_in(8) }
 }
 
 /// One of a list, mostly; else whatever comes.
@@ -274,7 +276,7 @@ fn call(r: &mut Chance, z: &Style, image: &[u8], time: u64) -> Call {
     };
     let clock = match r.below(40) {
         0 => 0,
-        1 => u64::MAX,
+        1 if z.last => u64::MAX - r.below(4),
         _ if z.clocks == u64::MAX => time,
         _ => 1 + r.below(z.clocks),
     };
@@ -415,6 +417,30 @@ fn checked(image: &mut Vec<u8>, store: &mut Vec<u8>, c: Call, book: &mut Book, c
     let (from, to) = closings.written(c, a).map_or((0, 0), |at| (at, at + RECORD));
     assert!(before.1[..from] == store[..from] && before.1[to..] == store[to..], "{what}: {c:?}, answered {a:?}, wrote past its record");
     fed(book, c, a, store, what);
+    if let (5, Answer::Done(id)) = (c.verb, a) {
+        booking(image, store, id, book, seen, what);
+    }
+}
+
+/// The booking just made is the one read: a transaction that is started after an acknowledgement, and first gets a key that was written, is answered
+/// that version or one closed later.
+fn booking(image: &[u8], store: &[u8], id: Id, book: &Book, seen: &mut Seen, what: &str) {
+    let station = decode(image).unwrap();
+    let entry = *station.held().find(|(_, e)| e.id == id).expect("an entry").1;
+    let taken = |t: u32| station.live.iter().any(|l| l.txn == t) || station.held().any(|(_, e)| e.id.txn == t);
+    let txn = (1_000_000..).find(|t| !taken(*t)).unwrap();
+    for key in entry.keys() {
+        let start = Call { verb: 1, txn, key: 0, number: 0 };
+        let get = Call { verb: 3, txn, key: *key, number: 0 };
+        match compare(&mut image.to_vec(), &mut store.to_vec(), &[start, get], seen, what)[..] {
+            [Answer::Started, Answer::Version(value, read)] => {
+                assert!(book.not_before(read, id), "{what}: after {id:?}, {key} gives {read:?}, which closed before");
+                assert_eq!(Some(value), book.value(read, *key), "{what}: the value of {read:?} under {key}");
+            }
+            [Answer::Refused(7, 0), _] => {}
+            ref other => panic!("{what}: after {id:?}, {key} gives {other:?}"),
+        }
+    }
 }
 
 /// A sweep's single collects, oldest id first, and what they leave. Power may go after each of its records: what lasts then is what so many collects
@@ -528,7 +554,8 @@ fn made_up(seed: u64, seen: &mut Seen) {
     let mut r = Chance(seed);
     let mut station = Station::empty();
     let mut store = vec![0; STORE];
-    let (keys, clocks) = ([3, 6, 20, 64][r.below(4) as usize], [1, 3, 1000][r.below(3) as usize]);
+    let (keys, clocks) = ([3, 6, 20, 64][r.below(4) as usize], [1, 3, 1000, u64::MAX][r.below(4) as usize]);
+    let last = if r.one_in(4) { r.below(64) as usize } else { SLOTS };
     for d in 0..SLOTS {
         if r.one_in(3) {
             continue;
@@ -536,7 +563,8 @@ fn made_up(seed: u64, seen: &mut Seen) {
         let mut list: Vec<u8> = (0..1 + r.below(8)).map(|_| r.below(keys) as u8).collect();
         list.sort_unstable();
         list.dedup();
-        let mut e = Entry { id: Id { clock: 1 + r.below(clocks), txn: 1 + d as u32 * 37 % 64 * 3 + r.below(3) as u32 }, count: list.len() as u8, ..Entry::default() };
+        let clock = if d == last { u64::MAX - r.below(2) } else { 1 + r.below(clocks) };
+        let mut e = Entry { id: Id { clock, txn: 1 + d as u32 * 37 % 64 * 3 + r.below(3) as u32 }, count: list.len() as u8, ..Entry::default() };
         e.keys[..list.len()].copy_from_slice(&list);
         store[d * SLOT..][..RECORD].copy_from_slice(&commit_record(&e));
         for (n, k) in list.iter().enumerate() {
@@ -563,6 +591,10 @@ fn made_up(seed: u64, seen: &mut Seen) {
         for key in 0..keys as u8 {
             compare(&mut image.clone(), &mut store.clone(), &[Call { verb: 3, txn, key, number: 0 }], seen, &what);
         }
+    }
+    for clock in [1, 2, 1 + r.below(1100), u64::MAX - 1, u64::MAX] {
+        let calls = [(2, r.below(64) as u8, 7), (4, 0, clock), (5, 0, 0)].map(|(verb, key, number)| Call { verb, txn: 1000, key, number });
+        compare(&mut image.clone(), &mut store.clone(), &calls, seen, &what);
     }
     for d in 0..64 {
         compare(&mut image.clone(), &mut store.clone(), &[collect(d)], seen, &what);
@@ -689,9 +721,9 @@ fn main() {
     }
     if count >= 300 {
         assert_eq!(seen.words.len(), 16, "an answer never came up: {:?}", seen.words);
-        for n in 1..=20 {
+        for n in 1..=21 {
             assert!(seen.refusals.contains_key(&n), "refusal {n} never came up: {:?}", seen.refusals);
         }
     }
-    println!("{count} histories, {} calls through the C interface: the library and the model agree, and the cut rule holds", seen.calls);
+    println!("{count} histories, {} calls through the C interface: the library and the model agree, the cut rule holds, and the booking just made is the one read", seen.calls);
 }
