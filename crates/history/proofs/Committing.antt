@@ -1,6 +1,6 @@
 -- commit keeps the invariant.
 use Prim.Native.Nat.{ℕ, _<_}
-use mathlib.Core.Path.{_≡_, refl, sym, _∙_}
+use mathlib.Core.Path.{_≡_, refl, sym, subst, _∙_}
 use mathlib.Core.Logic.{_≢_, ⊎-elim}
 use mathlib.Core.Bool.{true, false, not, true≢false}
 use mathlib.Core.List.{List}
@@ -122,7 +122,8 @@ commit-keeps st s b t c inv h oc =
     (choice s b (Commit t c) _ _ _ (λ hh. good-says s b (Commit t c) _ _ (retried st s b t inv h hh)) λ hh.
     choice s b (Commit t c) _ _ _ (λ hw. good-says s b (Commit t c) _ _ (cleared st s b inv h t (live hh h8) h9)) λ hw.
     let g = greatest-below (isFree st) slots (some-free hw h13) in
-    good-says s b (Commit t c) _ _ (rw (← (reckons st s b inv h c)) (closed st s b t (clockAbove c (clocks st)) _ inv h (low hw h21) (eqb-false t 0 h3) (live hh h8) h9 (g .0) (free-seen st s (inv .slots) _ (g .0) (g .1)))))
+    good-says s b (Commit t c) _ _ (subst (λ (n : ℕ). Inv (setLive st (placeOf t st) (withPhase (Closing (highestFree st) (clockAbove c (clocks st)) 0) (liveAt st (placeOf t st)))) s (withDrafts (revised t (closingAt n) (b .drafts)) b))
+    (reckons st s b inv h c) (closed st s b t (clockAbove c (clocks st)) _ inv h (low hw h21) (eqb-false t 0 h3) (live hh h8) h9 (g .0) (free-seen st s (inv .slots) _ (g .0) (g .1)))))
   where
     live : isHeld t st ≡ false → (not (isLive t st) and not (isHeld t st)) ≡ false → isLive t st ≡ true
     live hh h8 = ⊎-elim (λ y. y) (λ y. absurd (true≢false (sym (and-intro _ _ (not-of-false _ y) (not-of-false _ hh)) ∙ h8))) (bool-cases (isLive t st))

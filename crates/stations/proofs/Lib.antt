@@ -2,6 +2,7 @@ pub mod Search
 pub mod Fill
 pub mod Joined
 pub mod Free
+pub mod Clocks
 pub mod Sets
 pub mod Callers
 pub mod Changes

@@ -3,13 +3,14 @@
 ghost use mathlib.Core.Path.{_≡_};
 ghost use mathlib.Core.Bool.{true, false, not, cond};
 ghost use mathlib.Core.List.{map, [], _∷_};
-ghost use Prim.Native.Nat.{_<_, _≤_};
+ghost use Prim.Native.Nat.{_<_, _≤_, max};
 ghost use lib.Dec.{eqb, leb};
 ghost use lib.ListN.{length, take};
-ghost use Rattle.model.specs.Lists.{_and_, first, member, anyBelow};
+ghost use Rattle.model.specs.Lists.{_and_, first, member, maximum, anyBelow};
 ghost use Rattle.model.specs.Limits.{keys, livePlaces, slots, writeLimit, readLimit};
 ghost use Rattle.model.specs.Lives.{noLive, writesOf, writeKey, readKey, hasWritten, hasRead, valueUnder, isClosing, closingClock, slotMark, withPhase};
 ghost use Rattle.model.specs.Entries.{recordOf, entryFor};
+ghost use Rattle.model.specs.Clocks.{entryClock, liveClock, clocks};
 ghost use Rattle.model.specs.Stations.{isFree, placeOf, setLive, setEntry};
 ghost use Rattle.model.specs.Sound.{zeroPastCounts, setsRight};
 ghost use Rattle.model.specs.Effects.{says, _when_};
@@ -354,6 +355,67 @@ pub fn with_read(l: Live, key: u8, id: Id) -> Live
     m
 }
 
+// ---- clocks
+// The clock of a closing transaction; 0 of any other.
+fn closing_clock(p: Phase) -> u64
+    ensures { λ r. ⌜ r ≡ closingClock p ⌝ }
+{
+    match p {
+        Phase::Unused => 0,
+        Phase::Open => 0,
+        Phase::Closing(_, c, _) => c,
+    }
+}
+
+pub fn greater(a: u64, b: u64) -> u64
+    ensures { λ r. ⌜ r ≡ max a b ⌝ }
+{
+    if a < b {
+        return b;
+    }
+    a
+}
+
+// The greatest clock of the entries; 0 where there is none.
+fn greatest_entry_clock(entries: [Entry; Station::SLOTS]) -> u64
+    ensures { λ r. ⌜ r ≡ maximum (map entryClock entries) ⌝ }
+{
+    let mut most = 0;
+    let mut i = 0;
+    while i < Station::SLOTS {
+        let e = entries[i];
+        let id = e.id;
+        most = greater(most, id.clock);
+        i += 1;
+    }
+    most
+}
+
+// The greatest clock of the closing transactions; 0 where there is none.
+fn greatest_closing_clock(live: [Live; Station::LIVE]) -> u64
+    ensures { λ r. ⌜ r ≡ maximum (map liveClock live) ⌝ }
+{
+    let mut most = 0;
+    let mut i = 0;
+    while i < Station::LIVE {
+        let l = live[i];
+        let p = l.phase;
+        let c = closing_clock(p);
+        most = greater(most, c);
+        i += 1;
+    }
+    most
+}
+
+// The greatest clock of the entries and the closing transactions; 0 where there is none.
+pub fn greatest_clock(live: [Live; Station::LIVE], entries: [Entry; Station::SLOTS]) -> u64
+    ensures { λ r. ⌜ r ≡ maximum (clocks (stationOf live entries)) ⌝ }
+{
+    let held = greatest_entry_clock(entries);
+    let closing = greatest_closing_clock(live);
+    greater(held, closing)
+}
+
 // ---- a commit
 pub fn with_phase(l: Live, p: Phase) -> Live
     ensures { λ r. ⌜ r ≡ withPhase p l ⌝ }
@@ -367,17 +429,6 @@ pub fn with_phase(l: Live, p: Phase) -> Live
         writes: writes,
         read_count: l.read_count,
         reads: reads,
-    }
-}
-
-// The clock of a closing transaction; 0 of any other.
-fn closing_clock(p: Phase) -> u64
-    ensures { λ r. ⌜ r ≡ closingClock p ⌝ }
-{
-    match p {
-        Phase::Unused => 0,
-        Phase::Open => 0,
-        Phase::Closing(_, c, _) => c,
     }
 }
 

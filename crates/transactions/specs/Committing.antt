@@ -8,10 +8,11 @@ use Rattle.model.specs.declared.Station.{Station}
 use Rattle.model.specs.declared.Phase.the-variants.{Closing}
 use Rattle.model.specs.declared.Answer.{Answer}
 use Rattle.model.specs.declared.Answer.the-variants as A
-use Rattle.model.specs.Lists.{_and_, anyBelow}
-use Rattle.model.specs.Limits.{livePlaces, slots}
+use Rattle.model.specs.Lists.{_and_, member, anyBelow}
+use Rattle.model.specs.Limits.{livePlaces, slots, lastClock}
 use Rattle.model.specs.Lives.{noLive, withPhase}
 use Rattle.model.specs.Stations.{isFree}
+use Rattle.model.specs.Clocks.{clocks, clockAbove}
 use Rattle.model.specs.Effects.{Row, _when_}
 use Rattle.model.specs.Commit.{highestFree}
 
@@ -22,6 +23,10 @@ unknownRows t c j i b = 2 when not b ∷ 3 when eqb t 0 ∷ 5 when eqb c 0 ∷ 8
 -- the slot that a commit of so many writes takes; none has the number 64
 unfoldable pub slotFor : ℕ → Station → ℕ
 slotFor n st = cond (eqb n 0) 0 (cond (anyBelow (isFree st) slots) (highestFree st) slots)
+
+-- the clock that a commit of so many writes takes where c is given; where none is left 0, which is no clock. Without writes it takes none: c
+unfoldable pub clockFor : ℕ → ℕ → Station → ℕ
+clockFor n c st = cond (eqb n 0) c (cond (member lastClock (clocks st)) 0 (clockAbove c (clocks st)))
 
 -- 01 'Calls': "Open with an empty write list: empty, nothing stored, the ticket is forgotten. Else it becomes closing"
 unfoldable pub afterCommit : ℕ → ℕ → Live → Live

@@ -7,6 +7,8 @@ use model::Live;
 use model::Phase;
 use model::Station;
 use stations::Change;
+use stations::greater;
+use stations::greatest_clock;
 use stations::has_written;
 use stations::highest_free;
 use stations::is_closing;
@@ -29,7 +31,7 @@ ghost use Rattle.model.specs.Commit.{commit};
 ghost use Rattle.model.specs.Abort.{abort};
 ghost use Rattle.stations.specs.Found.{stationOf, firstRow};
 ghost use Rattle.stations.specs.Changes.{IsChange};
-ghost use Rattle.transactions.specs.Committing.{unknownRows, slotFor, afterCommit, commitAnswer};
+ghost use Rattle.transactions.specs.Committing.{unknownRows, slotFor, clockFor, afterCommit, commitAnswer};
 
 // ---- start
 // Makes a transaction live and open, with empty sets, in the lowest unused place.
@@ -82,6 +84,9 @@ pub fn put(station: Station, tested: bool, txn: u32, key: u8, value: u64) -> Cha
 }
 
 // ---- commit
+// After it there is no clock.
+const LAST_CLOCK: u64 = 18446744073709551615;
+
 // The first of rows 2, 3, 5 and 8 that applies; 0 where none does.
 fn unknown_row(tested: bool, txn: u32, clock: u64, held: usize, place: usize) -> u8
     ensures { λ r. ⌜ r ≡ firstRow (unknownRows txn clock held place tested) ⌝ }
@@ -114,6 +119,26 @@ fn slot_for(live: [Live; Station::LIVE], entries: [Entry; Station::SLOTS], write
     highest_free(live, entries)
 }
 
+// The clock for this many writes: the greater of the one given and the next after all that are taken; 0 where there is no next. Nothing
+// written takes no clock: the one given is handed back.
+fn clock_for(
+    live: [Live; Station::LIVE],
+    entries: [Entry; Station::SLOTS],
+    writes: u8,
+    given: u64,
+) -> u64
+    ensures { λ r. ⌜ r ≡ clockFor writes given (stationOf live entries) ⌝ }
+{
+    if writes == 0 {
+        return given;
+    }
+    let greatest = greatest_clock(live, entries);
+    if greatest == LAST_CLOCK {
+        return 0;
+    }
+    greater(given, greatest + 1)
+}
+
 // What stands in the place afterwards.
 fn after_commit(l: Live, slot: u8, clock: u64) -> Live
     ensures { λ r. ⌜ r ≡ afterCommit slot clock l ⌝ }
@@ -133,7 +158,8 @@ fn commit_answer(writes: u8, slot: u8) -> Answer
     Answer::Closing(slot)
 }
 
-// Begins to close a transaction, in the highest free slot. A read-only one is over at once, and a retry of a held one changes nothing.
+// Begins to close a transaction, in the highest free slot and with a clock above all that are taken. A read-only one is over at once, and
+// a retry of a held one changes nothing.
 pub fn commit(station: Station, tested: bool, txn: u32, clock: u64) -> Change
     requires { ⌜ tested ≡ sound station ⌝ }
     ensures { λ r. ⌜ IsChange station (commit station txn clock) r ⌝ }
@@ -146,7 +172,7 @@ pub fn commit(station: Station, tested: bool, txn: u32, clock: u64) -> Change
     if row != 0 {
         return refused(station, row);
     }
-    // A held transaction is not live, so rows 9 and 13 are for the others.
+    // A held transaction is not live, so rows 9, 13 and 21 are for the others.
     if held < Station::SLOTS {
         // Measured: from the station this costs less than from `entries`.
         let e = station.entries[held];
@@ -163,8 +189,12 @@ pub fn commit(station: Station, tested: bool, txn: u32, clock: u64) -> Change
     if slot >= Station::SLOTS {
         return refused(station, 13);
     }
+    let taken = clock_for(live, entries, writes, clock);
+    if taken == 0 {
+        return refused(station, 21);
+    }
     let d = slot as u8;
-    let after = after_commit(l, d, clock);
+    let after = after_commit(l, d, taken);
     live_changed(station, commit_answer(writes, d), place, after)
 }
 

@@ -3,7 +3,8 @@ use mathlib.Core.Path.{_≡_, sym, _∙_}
 use lib.ListN.{length, length-map}
 use borrow.Author.Needs.{needs}
 use Rattle.stations.proofs.Changes.{as-effect}
-use Rattle.transactions.proofs.Rows.{placed, Sought, commit-unknown, known, commit-retry, commit-9, commit-13, commit-done}
+use Rattle.transactions.proofs.Rows.{placed, Sought}
+use Rattle.transactions.proofs.CommitRows.{Known, IsOpen, commit-unknown, known, commit-retry, commit-9, is-open, commit-13, commit-21, commit-done}
 use Rattle.transactions.proofs.commit.Statement.{statement}
 use Rattle.transactions.proofs.commit.Tie as tie
 
@@ -16,6 +17,14 @@ entries64 c = simp length-map at (c .good .0 .1 .1 .1 .0 .1 .0 .1)
 -- what the searches have found
 sought : (c : tie.After-unknown-row) → Sought (c .before .before .before .before .before .args .t1) (c .before .before .before .before .before .args .txn) (c .before .before .before .slot-of .result) (c .before .place-of .result)
 sought c = record { slotAt = c .before .before .before .slot-of .ensures; placeAt = c .before .place-of .ensures; entries64 = entries64 (c .before .before .before .before .before); live8 = live8 (c .before .before .before .before .before) }
+
+-- after rows 2, 3, 5 and 8
+known-at : (c : tie.Else1) → Known (c .before .before .before .before .before .before .args .t1) (c .before .before .before .before .before .before .args .txn) (c .before .before .before .before .before .before .args .clock) (c .before .before .before .before .slot-of .result) (c .before .before .place-of .result)
+known-at c = known _ _ _ _ (sought (c .before)) _ _ (c .before .before .before .before .before .before .pre) _ (c .before .unknown-row .ensures) (c .if1 .left)
+
+-- after row 9
+is-open-at : (c : tie.Else3) → IsOpen (c .before .before .before .before .before .before .before .before .before .before .args .t1) (c .before .before .before .before .before .before .before .before .before .before .args .txn) (c .before .before .before .before .before .before .before .before .before .before .args .clock) (c .before .before .before .before .before .before .place-of .result) (c .before .before .live-at .result)
+is-open-at c = is-open (known-at (c .before .before .before .before)) (c .before .before .before .if2 .left) _ (c .before .before .live-at .ensures) (sym (c .before .is-closing .ensures) ∙ c .if3 .left)
 
 slot-of-requires : tie.Need-slot-of-requires
 slot-of-requires c κs = search needs
@@ -44,14 +53,10 @@ unchanged-requires : tie.Need-unchanged-requires
 unchanged-requires c κs = search needs
 
 returns-2 : tie.Need-returns-2
-returns-2 c =
-    let u = c .before .before .before .before .before in
-    as-effect _ _ _ _ (commit-retry _ _ _ _ (sought u) _ _ (u .before .before .before .before .before .pre) _ (u .unknown-row .ensures) (c .before .before .before .before .if1 .left) (c .before .before .before .if2 .taken) _) (c .unchanged .ensures)
+returns-2 c = as-effect _ _ _ _ (commit-retry (known-at (c .before .before .before .before)) (c .before .before .before .if2 .taken) _) (c .unchanged .ensures)
 
 live-at-requires : tie.Need-live-at-requires
-live-at-requires c κs =
-    let u = c .before .before in
-    known _ _ _ _ (sought u) _ _ (u .before .before .before .before .before .pre) _ (u .unknown-row .ensures) (c .before .if1 .left) .somewhere (c .if2 .left)
+live-at-requires c κs = known-at (c .before) .somewhere (c .if2 .left)
 
 is-closing-requires : tie.Need-is-closing-requires
 is-closing-requires c κs = search needs
@@ -61,9 +66,8 @@ refused-requires-2 c κs = search needs
 
 returns-3 : tie.Need-returns-3
 returns-3 c =
-    let u = c .before .before .before .before .before .before in
     as-effect _ _ _ _
-    (commit-9 _ _ _ _ (sought u) _ _ (u .before .before .before .before .before .pre) _ (u .unknown-row .ensures) (c .before .before .before .before .before .if1 .left) (c .before .before .before .before .if2 .left) _ (c .before .before .before .live-at .ensures) (sym (c .before .before .is-closing .ensures) ∙ c .before .if3 .taken))
+    (commit-9 (known-at (c .before .before .before .before .before)) (c .before .before .before .before .if2 .left) _ (c .before .before .before .live-at .ensures) (sym (c .before .before .is-closing .ensures) ∙ c .before .if3 .taken))
     (c .refused2 .ensures)
 
 slot-for-requires : tie.Need-slot-for-requires
@@ -73,11 +77,19 @@ refused-requires-3 : tie.Need-refused-requires-3
 refused-requires-3 c κs = search needs
 
 returns-4 : tie.Need-returns-4
-returns-4 c =
-    let u = c .before .before .before .before .before .before .before .before in
+returns-4 c = as-effect _ _ _ _ (commit-13 (is-open-at (c .before .before .before)) _ (c .before .before .slot-for .ensures) (c .before .if4 .taken)) (c .refused3 .ensures)
+
+clock-for-requires : tie.Need-clock-for-requires
+clock-for-requires c κs = search needs
+
+refused-requires-4 : tie.Need-refused-requires-4
+refused-requires-4 c κs = search needs
+
+returns-5 : tie.Need-returns-5
+returns-5 c =
     as-effect _ _ _ _
-    (commit-13 _ _ _ _ (sought u) _ _ (u .before .before .before .before .before .pre) _ (u .unknown-row .ensures) (c .before .before .before .before .before .before .before .if1 .left) (c .before .before .before .before .before .before .if2 .left) _ (c .before .before .before .before .before .live-at .ensures) (sym (c .before .before .before .before .is-closing .ensures) ∙ c .before .before .before .if3 .left) _ (c .before .before .slot-for .ensures) (c .before .if4 .taken))
-    (c .refused3 .ensures)
+    (commit-21 (is-open-at (c .before .before .before .before .before)) _ (c .before .before .before .before .slot-for .ensures) (c .before .before .before .if4 .left) _ (c .before .before .clock-for .ensures) (c .before .if5 .taken))
+    (c .refused4 .ensures)
 
 cast-d : tie.Need-cast-d
 cast-d c = search needs
@@ -90,15 +102,14 @@ commit-answer-requires c κs = search needs
 
 live-changed-requires : tie.Need-live-changed-requires
 live-changed-requires c κs =
-    let u = c .before .before .before .before .before .before .before .before .before in
-    known _ _ _ _ (sought u) _ _ (u .before .before .before .before .before .pre) _ (u .unknown-row .ensures) (c .before .before .before .before .before .before .before .before .if1 .left) .somewhere (c .before .before .before .before .before .before .before .if2 .left)
+    let e = c .before .before .before .before .before .before .before .before .before in
+    known-at (e .before) .somewhere (e .if2 .left)
 
-returns-5 : tie.Need-returns-5
-returns-5 c =
-    let u = c .before .before .before .before .before .before .before .before .before .before in
+returns-6 : tie.Need-returns-6
+returns-6 c =
     as-effect _ _ _ _
     (placed _ _ _ _ _ _ _ (c .before .commit-answer .ensures) (c .before .before .after-commit .ensures)
-    (commit-done _ _ _ _ (sought u) _ _ (u .before .before .before .before .before .pre) _ (u .unknown-row .ensures) (c .before .before .before .before .before .before .before .before .before .if1 .left) (c .before .before .before .before .before .before .before .before .if2 .left) _ (c .before .before .before .before .before .before .before .live-at .ensures) (sym (c .before .before .before .before .before .before .is-closing .ensures) ∙ c .before .before .before .before .before .if3 .left) _ (c .before .before .before .before .slot-for .ensures) (c .before .before .before .if4 .left)))
+    (commit-done (is-open-at (c .before .before .before .before .before .before .before)) _ (c .before .before .before .before .before .before .slot-for .ensures) (c .before .before .before .before .before .if4 .left) _ (c .before .before .before .before .clock-for .ensures) (c .before .before .before .if5 .left)))
     (c .live-changed .ensures)
 
 pub commit-spec : {M : Type 1} → statement M
@@ -121,8 +132,11 @@ commit-spec =
     slot-for-requires
     refused-requires-3
     returns-4
+    clock-for-requires
+    refused-requires-4
+    returns-5
     cast-d
     after-commit-requires
     commit-answer-requires
     live-changed-requires
-    returns-5)
+    returns-6)
