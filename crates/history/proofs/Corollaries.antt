@@ -147,8 +147,7 @@ done-stands st s b inv t i Unused q c h = absurd (false≢true c)
 done-stands st s b inv t i Open q c h = absurd (false≢true c)
 done-stands st s b inv t i (Closing d c n) q _ h =
     let r = last (ltb n (l .«write_count»)) (eqb n (l .«write_count»)) _ d _ _ _ (entryFor l .id) i refl refl refl h in
-    let full : l .«write_count» < n = omega (arith, ltb-false n (l .«write_count») (r .0), eqb-false n (l .«write_count») (r .1)) in
-    (
+    let full : l .«write_count» < n = omega (arith, ltb-false n (l .«write_count») (r .0), eqb-false n (l .«write_count») (r .1)) in (
       committedIn s d (entryFor l),
       stands s (b .standing) (inv .core .found) d (entryFor l) (pr .low) (pr .marked full),
       committed-id s d (entryFor l) ∙ r .2,
