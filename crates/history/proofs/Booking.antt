@@ -1,10 +1,10 @@
 -- 02 §3, of histories: the station and the ledger reckon the same clock, what closes is newest, and the booking just made is the one read.
 use Prim.Native.Nat.{ℕ, _<_, _≤_}
 use mathlib.Core.Path.{_≡_, refl, sym, ap, subst, _∙_}
-use mathlib.Core.Logic.{_⊎_, inl, inr, ⊎-elim}
+use mathlib.Core.Logic.{_≢_, _⊎_, inl, inr, ⊎-elim}
 use mathlib.Core.Bool.{true, false}
-use mathlib.Core.List.{List, [], _∷_, _++_, List·Memᴰ}
-use mathlib.Core.Option.{Option, some, none}
+use mathlib.Core.List.{List, _∷_, List·Memᴰ}
+use mathlib.Core.Option.{some, none}
 use native.Mathlib.Nat.{lt-irrefl}
 use native.Mathlib.Omega.{arith}
 use borrow.Author.Tests.{not-false}
@@ -24,12 +24,13 @@ use Rattle.model.specs.Get.{get}
 use Rattle.model.specs.Step.{step}
 use Rattle.model.specs.Answers.{refusedWith}
 use Rattle.model.specs.Calls.{Call, Get, Commit, Step, does, isSweep, txnOf, numberOf}
-use Rattle.model.proofs.ClockLaws.{clock-least, clock-above, clock-below}
+use Rattle.model.proofs.ClockLaws.{clock-least, clock-real, clock-above, clock-below}
 use Rattle.model.proofs.IdLaws.{older-is}
+use Rattle.model.proofs.ListLaws.{every-first, every-last}
 use Rattle.model.proofs.RefusalLaws.{accepted, row-off}
 use Rattle.model.proofs.StationLaws.{place-hit}
 use Rattle.model.proofs.CommitLaws.{commit-closes}
-use Rattle.history.specs.Ledger.{Draft, Committed, Ledger, draftOf, without, withDrafts, at, clocksIn, feed}
+use Rattle.history.specs.Ledger.{Draft, Committed, Ledger, draftOf, without, revised, withDrafts, at, closingAt, clocksIn, feed}
 use Rattle.history.specs.Histories.{Event, called, running, World, begin, handed, reports, fed, afterCall, next, run, callIn, AllInRange}
 use Rattle.history.specs.CutRule.{Newer}
 use Rattle.history.specs.Booking.{Answers, HasClosed, untilAcknowledged, untilAsked, Booking}
@@ -41,6 +42,7 @@ use Rattle.history.proofs.Acknowledged.{Shown, run-shows}
 use Rattle.history.proofs.Corollaries.{run-after, done-stands}
 use Rattle.history.proofs.Carried.{TypedNode, typed-begin, typed-run, all-in-range}
 use Rattle.history.proofs.FirstGet.{first-get-answers}
+use Rattle.history.proofs.ClosingClock.{KeepsClock, clocked-is, closing-clocked, run-keeps-clock}
 use Rattle.history.proofs.Theorem.{next-keeps, history-keeps, running-keeps}
 
 -- ── "The book reckons the same" ──
@@ -82,7 +84,7 @@ after-answer w st e c n = rw (e, n)
 
 module _ (st : Station) (s : List ℕ) (b : Ledger) (inv : Inv st s b) (h : sound st ≡ true) where
   acknowledged-shown : (t k v : ℕ) (i : Id) (p : Draft) → step st s t .answer ≡ A.Done i → draftOf t (b .drafts) ≡ some p → p .values k ≡ some v
-      → (J : Committed) × (J .id ≡ i) × (J .values k ≡ some v) × Shown J k (withDrafts (without t (b .drafts)) b)
+      → (J : Committed) × (J .id ≡ i) × (J .values k ≡ some v) × Shown J k (withDrafts (without t (b .drafts)) b) × (i .clock ≡ p .clock)
   unfolding step all withDrafts
   acknowledged-shown t k v i p a e x =
       let y = accepted _ st _ refl (ap refusedWith a ∙ (unfold refusedWith in refl)) in
@@ -90,22 +92,18 @@ module _ (st : Station) (s : List ℕ) (b : Ledger) (inv : Inv st s b) (h : soun
       let r10 = row-off 10 _ _ (r8 .1) in
       let m = matches-at st (draftIn b) h (inv .drafts) t (not-false _ (r8 .0)) p e in
       let r = done-stands st s b inv t i _ refl (not-false _ (r10 .0)) (sym (ap (λ (z : Effect). z .answer) (y .1)) ∙ a) in
-      (r .0, r .2, ap (λ (f : ℕ → Option ℕ). f k) (r .4 p m) ∙ x, record { by = r .0; stands = r .1; ended = gone (r .0 .id .txn) (r .3 ∙ place-hit st t (not-false _ (r8 .0)) .1); newest = inl refl })
+      let d = r .3 p m in (
+        r .0,
+        r .2,
+        ap (λ (j : Committed). j .values k) d ∙ x,
+        record { by = r .0; stands = r .1; ended = gone (r .0 .id .txn) (ap (λ (j : Committed). j .id .txn) d ∙ place-hit st t (not-false _ (r8 .0)) .1); newest = inl refl },
+        ap (λ (y : Id). y .clock) (sym (r .2)) ∙ ap (λ (j : Committed). j .id .clock) d,
+      )
     where
       gone : (n : ℕ) → n ≡ t → draftOf n (without t (b .drafts)) ≡ none
       gone n q = draft-without t (b .drafts) n ∙ (ap (at t none (draftIn b)) q ∙ at-same t none (draftIn b))
 
 -- ── the booking just made ──
-typed-first : (vs us : List Event) → AllTyped (vs ++ us) → AllTyped vs
-unfolding AllTyped
-typed-first [] us f = tt
-typed-first (v ∷ vs) us f = (f .0, typed-first vs us (f .1))
-
-typed-last : (vs us : List Event) → AllTyped (vs ++ us) → AllTyped us
-unfolding AllTyped
-typed-last [] us f = f
-typed-last (v ∷ vs) us f = typed-last vs us (f .1)
-
 -- It is answered that version with its value, or one that is newer and closed later; in particular none that had closed before it.
 pub booking-just-made : (vs₀ vs₁ vs₂ : List Event) (t c u k v : ℕ) (i : Id) → AllTyped (untilAsked vs₀ t c vs₁ vs₂) → Booking vs₀ vs₁ vs₂ t c u k v i
     → (x : ℕ) × (j : Id) × Answers (run (untilAsked vs₀ t c vs₁ vs₂) begin) (Get u k) (A.Version x j)
@@ -119,7 +117,30 @@ booking-just-made vs₀ vs₁ vs₂ t c u k v i f bk = (g .0, g .1, (st, bk .run
     h₂ = untilAsked vs₀ t c vs₁ vs₂
 
     f₁ : AllTyped h₁
-    f₁ = typed-first h₁ _ f
+    f₁ = unfold AllTyped in every-first _ h₁ _ f
+
+    f₀ : AllTyped vs₀
+    f₀ = unfold AllTyped in every-first _ vs₀ _ f₁
+
+    middle : AllTyped (called (Commit t c) ∷ vs₁)
+    middle = unfold AllTyped in every-last _ vs₀ (called (Commit t c) ∷ vs₁) f₁
+
+    -- as it closes, and from there on
+    x₀ : ℕ
+    x₀ = clockAbove c (clocksIn (run vs₀ begin .ledger))
+
+    real : x₀ ≢ 0
+    real = clock-real c (clocksIn (run vs₀ begin .ledger))
+
+    drafted : next (called (Commit t c)) (run vs₀ begin) .ledger ≡ withDrafts (revised t (closingAt x₀) (run vs₀ begin .ledger .drafts)) (run vs₀ begin .ledger)
+    drafted = after-answer (run vs₀ begin) _ (bk .closes .1) (Commit t c) (unfold isSweep in refl)
+        ∙ (unfold feed txnOf numberOf in ap (λ (a : Answer). feed a (Commit t c) (run vs₀ begin .ledger)) (bk .closes .2))
+
+    closed : KeepsClock t x₀ real (next (called (Commit t c)) (run vs₀ begin) .ledger)
+    closed = subst (KeepsClock t x₀ real) (sym drafted) (closing-clocked t x₀ real (run vs₀ begin .ledger))
+
+    from-closing : run h₁ begin ≡ run vs₁ (next (called (Commit t c)) (run vs₀ begin))
+    from-closing = unfold run in run-after vs₀ (called (Commit t c) ∷ vs₁) begin
 
     -- as it is acknowledged
     w₁ : World
@@ -128,14 +149,19 @@ booking-just-made vs₀ vs₁ vs₂ t c u k v i f bk = (g .0, g .1, (st, bk .run
     k₁ : (sound (bk .acknowledged .0) ≡ true) × Inv (bk .acknowledged .0) (w₁ .store) (w₁ .ledger)
     k₁ = running-keeps h₁ (all-in-range h₁ f₁) _ (bk .acknowledged .1)
 
-    ack : (J : Committed) × (J .id ≡ i) × (J .values k ≡ some v) × Shown J k (withDrafts (without t (w₁ .ledger .drafts)) (w₁ .ledger))
+    ack : (J : Committed) × (J .id ≡ i) × (J .values k ≡ some v) × Shown J k (withDrafts (without t (w₁ .ledger .drafts)) (w₁ .ledger)) × (i .clock ≡ bk .wrote .0 .clock)
     ack = acknowledged-shown _ _ _ (k₁ .1) (k₁ .0) t k v i (bk .wrote .0) (unfold does in bk .acknowledged .2) (bk .wrote .1) (bk .wrote .2)
+
+    kept : bk .wrote .0 .clock ≡ x₀
+    kept = clocked-is t x₀ real (w₁ .ledger) (bk .wrote .0) (subst (λ (w : World). KeepsClock t x₀ real (w .ledger)) (sym from-closing)
+        (run-keeps-clock t x₀ real vs₁ (next (called (Commit t c)) (run vs₀ begin)) (bk .same) (all-in-range vs₁ (unfold AllTyped in middle .1))
+        (next-keeps (called (Commit t c)) (run vs₀ begin) (unfold AllTyped in middle .0 .0) (history-keeps vs₀ (all-in-range vs₀ f₀))) closed)) (bk .wrote .1)
 
     torn : next (called (Step t)) w₁ .ledger ≡ withDrafts (without t (w₁ .ledger .drafts)) (w₁ .ledger)
     torn = after-answer w₁ _ (bk .acknowledged .1) (Step t) (unfold isSweep in refl) ∙ (unfold feed txnOf in ap (λ (a : Answer). feed a (Step t) (w₁ .ledger)) (bk .acknowledged .2))
 
     last : AllTyped (called (Step t) ∷ vs₂)
-    last = typed-last h₁ (called (Step t) ∷ vs₂) f
+    last = unfold AllTyped in every-last _ h₁ (called (Step t) ∷ vs₂) f
 
     both : run h₂ begin ≡ run vs₂ (next (called (Step t)) w₁)
     both = unfold run in run-after h₁ (called (Step t) ∷ vs₂) begin
@@ -160,10 +186,9 @@ booking-just-made vs₀ vs₁ vs₂ t c u k v i f bk = (g .0, g .1, (st, bk .run
 
     later : {j : Id} → Newer j i → HasClosed (run vs₀ begin .ledger) j → ⊥
     later {j} n x =
-        let commit : AllTyped (called (Commit t c) ∷ vs₁) = typed-last vs₀ (called (Commit t c) ∷ vs₁) f₁ in
-        let o : c < numberRange = unfold AllTyped callIn numberOf in (commit .0 .0 .1) in
-        let z = closing-is-newest vs₀ (all-in-range vs₀ (typed-first vs₀ _ f₁)) t c (bk .slot) o (bk .closes) .above j x in
-        lt-irrefl (i .clock) (omega (arith, z, bk .same, older-clock i j n))
+        let o : c < numberRange = unfold AllTyped callIn numberOf in (middle .0 .0 .1) in
+        let z = closing-is-newest vs₀ (all-in-range vs₀ f₀) t c (bk .slot) o (bk .closes) .above j x in
+        lt-irrefl (i .clock) (omega (arith, z, ack .4, kept, older-clock i j n))
 
     told : {x : ℕ} {j : Id} → ((j ≡ ack .0 .id) × (ack .0 .values k ≡ some x)) ⊎ Newer j (ack .0 .id) → ((j ≡ i) × (x ≡ v)) ⊎ (Newer j i × (HasClosed (run vs₀ begin .ledger) j → ⊥))
     told (inl y) = inl (y .0 ∙ ack .1, some-inj (sym (y .1) ∙ ack .2))

@@ -4,7 +4,7 @@ use mathlib.Core.Path.{_≡_, refl, sym, ap, subst, _∙_}
 use mathlib.Core.Logic.{_≢_, _⊎_, inl, inr, ⊎-elim}
 use mathlib.Core.Bool.{Bool, true, false, cond, true≢false, false≢true}
 use mathlib.Core.List.{List, [], _∷_, _++_, List·Memᴰ, Memᴰ·append-right}
-use mathlib.Core.Option.{Option, some, none}
+use mathlib.Core.Option.{some}
 use lib.Dec.{eqb, ltb}
 use lib.ListN.{length}
 use native.Mathlib.Nat.{lt-irrefl}
@@ -30,24 +30,25 @@ use Rattle.model.specs.Get.{versionAt}
 use Rattle.model.specs.Commit.{commit}
 use Rattle.model.specs.Step.{stepped, step}
 use Rattle.model.specs.Sweep.{sweep}
-use Rattle.model.specs.Calls.{Call, Get, Commit, Step, Collect, Sweep, does, txnOf, numberOf}
+use Rattle.model.specs.Calls.{Get, Commit, Step, Collect, Sweep, does, txnOf, numberOf}
 use Rattle.model.specs.Answers.{refusedWith}
 use Rattle.model.proofs.Tests.{bool-cases}
+use Rattle.model.proofs.ListLaws.{every-first, every-last}
 use Rattle.model.proofs.RefusalLaws.{accepted, row-off}
 use Rattle.model.proofs.StationLaws.{slot-hit, entry-in}
 use Rattle.model.proofs.GetLaws.{version-entry, get-version}
-use Rattle.model.proofs.InsideLaws.{entryFor-txn}
 use Rattle.model.proofs.SoundFacts.{wrote-held}
 use Rattle.model.proofs.SoundKept.{sound-kept}
 use Rattle.model.proofs.SweepLaws.{NoneLeft, StoppedBy17, IsSweep, sweep-is-collects}
-use Rattle.history.specs.Ledger.{Draft, Committed, Ledger, draftOf, withDrafts, committedFrom, feed}
-use Rattle.history.specs.Histories.{Event, called, cut, running, World, begin, handed, Report, reports, fed, afterCall, afterCut, next, run, AllInRange}
+use Rattle.history.specs.Ledger.{Draft, Committed, Ledger, draftOf, withDrafts}
+use Rattle.history.specs.Histories.{Event, cut, running, World, begin, reports, next, run, AllInRange}
 use Rattle.history.specs.CutRule.{committedIn, Wrote}
 use Rattle.history.specs.Matches.{Matches}
 use Rattle.history.proofs.Invariant.{Prepared, Inv, Reported}
 use Rattle.history.proofs.CommittedLaws.{stands, wrote-committed, committed-id, stands-once}
 use Rattle.history.proofs.Storing.{committed-of-draft}
-use Rattle.history.proofs.Theorem.{call-keeps, running-keeps, cut-rule}
+use Rattle.history.proofs.Theorem.{call-keeps, State, history-keeps, running-keeps, cut-rule}
+use Rattle.history.proofs.Feeding.{any-event, Keeping, run-feeds}
 use Rattle.history.proofs.NeverRefused.{faults, Calm, calm}
 
 -- ── no dirty read: a version that a get answers is a committed transaction's, which stands, under that key with that value ──
@@ -76,47 +77,21 @@ no-fractured-read vs f t p e r q mr mq j mj ej w =
 
 -- ── acknowledged means durable ──
 -- a transaction that is past stays past
-past-fed : (a : Answer) (c : Call) (b : Ledger) (j : Committed) → List·Memᴰ j (b .past) → List·Memᴰ j (feed a c b .past)
-unfolding feed withDrafts
-past-fed A.Started c b j m = m
-past-fed A.Kept c b j m = m
-past-fed (A.Own v) c b j m = m
-past-fed (A.Version v i) c b j m = m
-past-fed A.None c b j m = m
-past-fed (A.Nofit k) c b j m = m
-past-fed (A.Closing d) c b j m = m
-past-fed A.Empty c b j m = m
-past-fed (A.Done i) c b j m = m
-past-fed (A.Stored k) c b j m = m
-past-fed (A.Slipped d) c b j m = Memᴰ·append-right (committedFrom (draftOf (txnOf c) (b .drafts))) m
-past-fed A.Dropped c b j m = m
-past-fed (A.Collected i) c b j m = m
-past-fed (A.Found n) c b j m = m
-past-fed (A.Refused n d) c b j m = m
-past-fed (A.Swept n) c b j m = m
+past-kept : (j : Committed) (st : Station) (b : Ledger) → List·Memᴰ j (b .past) → Keeping (λ (x : Ledger). List·Memᴰ j (x .past)) (λ c. Unit {0}) st b
+unfolding withDrafts
+past-kept j st b m = record {
+  started = λ t a nh. m;
+  kept = λ t x v. m;
+  read = λ t x i. m;
+  closing = λ t c z nc. m;
+  slipped = λ js. Memᴰ·append-right js m;
+  torn = λ t. m;
+  collected = λ d nz sup. m;
+}
 
-past-all : (rs : List Report) (b : Ledger) (j : Committed) → List·Memᴰ j (b .past) → List·Memᴰ j (fed rs b .past)
-unfolding fed
-past-all [] b j m = m
-past-all (r ∷ rs) b j m = past-all rs _ j (past-fed (r .answer) (r .call) b j m)
-
-past-next : (v : Event) (w : World) (j : Committed) → List·Memᴰ j (w .ledger .past) → List·Memᴰ j (next v w .ledger .past)
-unfolding next
-past-next (called c) w j m = go (handed c (w .node))
-  where
-    go : (x : Option Station) → List·Memᴰ j (afterCall x c w .ledger .past)
-    go none = unfold afterCall in m
-    go (some st) = unfold afterCall in past-all _ (w .ledger) j m
-past-next (cut c n) w j m = go (handed c (w .node))
-  where
-    go : (x : Option Station) → List·Memᴰ j (afterCut x c n w .ledger .past)
-    go none = unfold afterCut in m
-    go (some st) = unfold afterCut in past-all _ (w .ledger) j m
-
-past-run : (us : List Event) (w : World) (j : Committed) → List·Memᴰ j (w .ledger .past) → List·Memᴰ j (run us w .ledger .past)
-unfolding run
-past-run [] w j m = m
-past-run (u ∷ us) w j m = past-run us (next u w) j (past-next u w j m)
+past-run : (us : List Event) (w : World) → AllInRange us → State w → (j : Committed) → List·Memᴰ j (w .ledger .past) → List·Memᴰ j (run us w .ledger .past)
+unfolding withDrafts
+past-run us w f sw j m = run-feeds (λ (x : Ledger). List·Memᴰ j (x .past)) (λ c. Unit {0}) (λ b x. x) (λ d. tt) (λ st s b inv h x. past-kept j st b x) us w (any-event us) f sw m
 
 pub run-after : (vs us : List Event) (w : World) → run (vs ++ us) w ≡ run us (run vs w)
 unfolding run
@@ -127,7 +102,7 @@ run-after (v ∷ vs) us w = run-after vs us (next v w)
 pub durable : (vs us : List Event) → AllInRange (vs ++ us) → (j : Committed) → List·Memᴰ j (run vs begin .ledger .past) → (k : ℕ) → Wrote j k
     → (i : Committed) × List·Memᴰ i (run (vs ++ us) begin .ledger .standing) × Wrote i k × (older (i .id) (j .id) ≡ false)
 durable vs us f j m k w =
-    let m′ : List·Memᴰ j (run (vs ++ us) begin .ledger .past) = subst (λ (x : World). List·Memᴰ j (x .ledger .past)) (sym (run-after vs us begin)) (past-run us (run vs begin) j m) in
+    let m′ : List·Memᴰ j (run (vs ++ us) begin .ledger .past) = subst (λ (x : World). List·Memᴰ j (x .ledger .past)) (sym (run-after vs us begin)) (past-run us (run vs begin) (unfold AllInRange in every-last _ vs us f) (history-keeps vs (unfold AllInRange in every-first _ vs us f)) j m) in
     let r = cut-rule (vs ++ us) f .newest k j m′ w in
     (r .0, r .1, r .2, ⊎-elim (λ y. absurd (r .3 j m′ w y)) (λ y. y) (bool-cases (older (r .0 .id) (j .id))))
 
@@ -141,7 +116,8 @@ last false false k d one two three a i e₁ e₂ e₃ h = (refl, refl, cc)
 -- an acknowledging step answers done: its transaction stands in the store, as its draft has it
 pub done-stands : (st : Station) (s : List ℕ) (b : Ledger) → Inv st s b → (t : ℕ) (i : Id) (p : Phase) → liveAt st (placeOf t st) .phase ≡ p → isClosing p ≡ true
     → stepped st (placeOf t st) (liveAt st (placeOf t st)) p .answer ≡ A.Done i
-    → (j : Committed) × List·Memᴰ j (b .standing) × (j .id ≡ i) × (j .id .txn ≡ liveAt st (placeOf t st) .txn) × ((x : Draft) → Matches x (liveAt st (placeOf t st)) → j .values ≡ x .values)
+    → (j : Committed) × List·Memᴰ j (b .standing) × (j .id ≡ i)
+    × ((x : Draft) → Matches x (liveAt st (placeOf t st)) → j ≡ record { id = record { clock = x .clock; txn = liveAt st (placeOf t st) .txn }; values = x .values })
 unfolding stepped isClosing recordsStored closingSlot saysStoring says
 done-stands st s b inv t i Unused q c h = absurd (false≢true c)
 done-stands st s b inv t i Open q c h = absurd (false≢true c)
@@ -151,8 +127,7 @@ done-stands st s b inv t i (Closing d c n) q _ h =
       committedIn s d (entryFor l),
       stands s (b .standing) (inv .core .found) d (entryFor l) (pr .low) (pr .marked full),
       committed-id s d (entryFor l) ∙ r .2,
-      ap (λ (y : Id). y .txn) (committed-id s d (entryFor l)) ∙ entryFor-txn l,
-      λ x m. ap (λ (j : Committed). j .values) (committed-of-draft s d c n l x q (inv .ranges (placeOf t st)) m (λ j o. pr .versions j (omega (arith, full)) o)),
+      λ x m. committed-of-draft s d c n l x q (inv .ranges (placeOf t st)) m (λ j o. pr .versions j (omega (arith, full)) o),
     )
   where
     l : Live

@@ -9,10 +9,10 @@ use Rattle.model.specs.declared.Read.{Read}
 use Rattle.model.specs.declared.Station.{Station}
 use Rattle.model.specs.declared.Answer.{Answer}
 use Rattle.model.specs.declared.Answer.the-variants as A
-use Rattle.model.specs.Clocks.{clockAbove}
-use Rattle.model.specs.Calls.{Call, Commit, Step, does}
-use Rattle.history.specs.Ledger.{Draft, Committed, Ledger, draftOf, committedOf, clocksIn}
-use Rattle.history.specs.Histories.{Event, called, running, World, begin, run}
+use Rattle.model.specs.Ranges.{Every}
+use Rattle.model.specs.Calls.{Call, Start, Commit, Step, does}
+use Rattle.history.specs.Ledger.{Draft, Committed, Ledger, draftOf, committedOf}
+use Rattle.history.specs.Histories.{Event, called, running, World, begin, run, callIn}
 
 -- the call is answered so by the station that runs
 abbrev pub Answers : World → Call → Answer → Type 0
@@ -33,6 +33,10 @@ pub record FirstRead (w : World) (t k : ℕ) : Type 0 where
   pub unread : (r : Read) → List·Memᴰ r (draft .reads) → ⊥
   pub unwritten : draft .values k ≡ none
 
+-- the call starts another transaction, or none
+abbrev pub IsNoStart : ℕ → Call → Type 0
+IsNoStart t c = c ≡ Start t → ⊥
+
 -- A history in which transaction t closes after vs₀, given the clock c; is acknowledged after vs₁, with the id i and the value v under key k; and
 -- after vs₂ transaction u asks for k, whenever it was started.
 abbrev pub untilAcknowledged : List Event → ℕ → ℕ → List Event → List Event
@@ -45,8 +49,8 @@ pub record Booking (vs₀ vs₁ vs₂ : List Event) (t c u k v : ℕ) (i : Id) :
   pub slot : ℕ
   pub closes : Answers (run vs₀ begin) (Commit t c) (A.Closing slot)
   pub acknowledged : Answers (run (untilAcknowledged vs₀ t c vs₁) begin) (Step t) (A.Done i)
-  -- it is the transaction that closed there: a number may be started again, and close with another clock
-  pub same : i .clock ≡ clockAbove c (clocksIn (run vs₀ begin .ledger))
+  -- it is the transaction that closed there: after a cut its number may be started again, and close with another clock
+  pub same : Every (λ (v : Event). IsNoStart t (callIn v)) vs₁
   pub wrote : Writes (run (untilAcknowledged vs₀ t c vs₁) begin) t k v
   pub runs : (st : Station) × (run (untilAsked vs₀ t c vs₁ vs₂) begin .node ≡ running st)
   pub asks : FirstRead (run (untilAsked vs₀ t c vs₁ vs₂) begin) u k

@@ -85,5 +85,4 @@ runBy f (v ∷ vs) w = runBy f vs (nextBy f v w)
 
 -- the only hypothesis: numbers are in the ranges of their types
 unfoldable pub AllTyped : List Event → Type 0
-AllTyped [] = Unit {0}
-AllTyped (v ∷ vs) = IsTyped (callIn v) × AllTyped vs
+AllTyped vs = Every (λ (v : Event). IsTyped (callIn v)) vs

@@ -8,6 +8,7 @@ use lib.ListN.{length, take, replicate}
 use Rattle.model.specs.declared.Station.{Station}
 use Rattle.model.specs.Limits.{storeSize}
 use Rattle.model.specs.Stations.{emptyStation}
+use Rattle.model.specs.Ranges.{Every}
 use Rattle.model.specs.Effects.{Effect, stored}
 use Rattle.model.specs.declared.Answer.{Answer}
 use Rattle.model.specs.Answers.{sweptIn}
@@ -93,5 +94,4 @@ callIn (called c) = c
 callIn (cut c n) = c
 
 unfoldable pub AllInRange : List Event → Type 0
-AllInRange [] = Unit {0}
-AllInRange (v ∷ vs) = InRange (callIn v) × AllInRange vs
+AllInRange vs = Every (λ (v : Event). InRange (callIn v)) vs

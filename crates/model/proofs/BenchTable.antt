@@ -151,13 +151,13 @@ nofitNames =
 -- 02 §3: "the greater of the clock given and one more than the greatest clock of any entry or closing ticket"
 pub clocksTaken : List Case
 clocksTaken =
-    -- "the greater of the clock given and one more": a clock set back by an hour and then put right; the first closes with the clock given
-    fresh (whole 5 3600 63 (w K 5 ∷ []) ++ taking 6 1 3601 62 (w K 6 ∷ []) ++ taking 7 2 3602 61 (w K 7 ∷ []) ++ whole 8 3700 60 (w K 8 ∷ []) ++ ((Start 1, A.Started) ∷ (Get 1 K, A.Version 8 (id 3700 8)) ∷ []))
+    -- "the greater of the clock given and one more": the first takes the clock given; the clock is set back by an hour, and then put right. A retry answers
+    -- the stored id
+    fresh (whole 5 3600 63 (w K 5 ∷ []) ++ taking 6 1 3601 62 (w K 6 ∷ []) ++ whole 8 3700 61 (w K 8 ∷ [])
+    ++ ((Commit 6 1, A.Done (id 3601 6)) ∷ (Start 1, A.Started) ∷ (Get 1 K, A.Version 8 (id 3700 8)) ∷ []))
     -- "of any entry or closing ticket": 5 is closing and has no entry yet. It takes its clock at commit, so it keeps 100 though 9 is acknowledged
     -- before it: then an entry appears below another, and K still gives 9
     ∷ fresh (begun 5 100 63 (w K 5 ∷ []) ++ taking 9 7 101 62 (w K 9 ∷ []) ++ ((Step 5, A.Slipped 63) ∷ (Step 5, A.Done (id 100 5)) ∷ (Start 1, A.Started) ∷ (Get 1 K, A.Version 9 (id 101 9)) ∷ (Collect 63, A.Collected (id 100 5)) ∷ []))
-    -- a retry still answers the stored id
-    ∷ fresh (whole 5 100 63 (w K 5 ∷ []) ++ taking 9 50 101 62 (w K 9 ∷ []) ++ ((Commit 9 50, A.Done (id 101 9)) ∷ (Commit 5 500, A.Done (id 100 5)) ∷ []))
     ∷ []
 
 -- "(21: write list not empty, and some entry or closing ticket has clock 2^64 − 1, after 13.)"

@@ -1,5 +1,5 @@
 -- 02 §3: the clock that a closing transaction takes.
-use Prim.Native.Nat.{ℕ, _<_, _≤_, zero-le}
+use Prim.Native.Nat.{ℕ, _+_, _<_, _≤_, zero-le}
 use mathlib.Core.Path.{_≡_, refl, sym, ap, subst, _∙_}
 use mathlib.Core.Logic.{_≢_, _⊎_, inl, inr, ⊎-elim}
 use mathlib.Core.Bool.{Bool, true, false, true≢false}
@@ -63,6 +63,9 @@ module _ {A : Type 0} (f : A → ℕ) where
   mem-map (y ∷ ys) n m = ⊎-elim (λ e. (y, List·Memᴰ·head refl, sym e)) (λ r. let x = mem-map ys n r in (x .0, List·Memᴰ·tail (x .1), x .2)) (List·Memᴰ·cases-cons m)
 
 -- ── the clock taken ──
+pub last-clock : lastClock + 1 ≡ numberRange
+last-clock = refl
+
 module _ (c : ℕ) (taken : List ℕ) where
   pub clock-least : c ≤ clockAbove c taken
   unfolding clockAbove

@@ -335,6 +335,14 @@ module _ {A : Type 0} (P : A → Type 0) where
   every-append [] ys h k = k
   every-append (x ∷ xs) ys h k = (h .0, every-append xs ys (h .1) k)
 
+  pub every-first : (xs ys : List A) → Every P (xs ++ ys) → Every P xs
+  every-first [] ys h = tt
+  every-first (x ∷ xs) ys h = (h .0, every-first xs ys (h .1))
+
+  pub every-last : (xs ys : List A) → Every P (xs ++ ys) → Every P ys
+  every-last [] ys h = h
+  every-last (x ∷ xs) ys h = every-last xs ys (h .1)
+
   pub every-replicate : (n : ℕ) (x : A) → P x → Every P (replicate n x)
   every-replicate zero x q = tt
   every-replicate (suc n) x q = (q, every-replicate n x q)

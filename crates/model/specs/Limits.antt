@@ -1,5 +1,5 @@
 -- 01 'Words': the limits, by name.
-use Prim.Native.Nat.{ℕ, _+_, _-_, _*_, _^_}
+use Prim.Native.Nat.{ℕ, _+_, _*_, _^_}
 
 -- "Key: 0 to 63."
 abbrev pub keys : ℕ
@@ -44,9 +44,9 @@ txnRange = 2 ^ 32
 abbrev pub numberRange : ℕ
 numberRange = 2 ^ 64
 
--- "Clock: 1 to 2^64 − 1": after it there is none
+-- "Clock: 1 to 2^64 − 1": that number, after which there is no clock (written out: the table computes with it often; ClockLaws, `last-clock`)
 abbrev pub lastClock : ℕ
-lastClock = numberRange - 1
+lastClock = 18446744073709551615
 
 abbrev pub byteRange : ℕ
 byteRange = 2 ^ 8
