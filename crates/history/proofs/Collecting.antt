@@ -4,7 +4,6 @@ use mathlib.Core.Path.{_≡_, refl, sym, ap, subst, _∙_}
 use mathlib.Core.Logic.{_≢_}
 use mathlib.Core.Bool.{true, false≢true}
 use mathlib.Core.List.{List, List·Memᴰ}
-use lib.Dec.{eqb}
 use lib.ListN.{length}
 use native.Mathlib.Omega.{arith}
 use borrow.Author.Tests.{leb-false, not-false}
@@ -13,19 +12,18 @@ use Rattle.model.specs.declared.Live.{Live}
 use Rattle.model.specs.declared.Entry.{Entry}
 use Rattle.model.specs.declared.Station.{Station}
 use Rattle.model.specs.declared.Phase.the-variants.{Closing}
-use Rattle.model.specs.Lists.{_and_, first}
 use Rattle.model.specs.Limits.{slots, width}
 use Rattle.model.specs.Ids.{older}
-use Rattle.model.specs.Entries.{noEntry, keysOf, wrote, wroteAs}
+use Rattle.model.specs.Entries.{noEntry, wrote, wroteAs}
 use Rattle.model.specs.Stations.{liveAt, entryAt, setEntry}
 use Rattle.model.specs.Records.{zeroRecord, recordAt, withRecord}
 use Rattle.model.specs.Slots.{free, committed, seen}
 use Rattle.model.specs.Sound.{sound}
-use Rattle.model.specs.Supersedence.{newerOn, superseded}
+use Rattle.model.specs.Supersedence.{superseded}
 use Rattle.model.specs.Collect.{collect}
 use Rattle.model.specs.Calls.{Collect}
-use Rattle.model.proofs.Tests.{and-left, and-right, or-left, or-right}
-use Rattle.model.proofs.ListLaws.{all-at, any-finds, member-finds}
+use Rattle.model.proofs.Tests.{or-left, or-right}
+use Rattle.model.proofs.CollectionLaws.{newer-writer}
 use Rattle.model.proofs.ReadingLaws.{wrote-as, as-wrote}
 use Rattle.model.proofs.InsideLaws.{noEntry-wrote}
 use Rattle.model.proofs.StationLaws.{entry-get, held-txn, setEntry-at, entryAt-same, entryAt-other, setEntry-live, setEntry-length}
@@ -40,16 +38,13 @@ use Rattle.history.proofs.DraftLaws.{drafts-cast}
 use Rattle.history.proofs.CommittedLaws.{stands, wrote-committed, committed-id}
 use Rattle.history.proofs.SlotOwners.{prepared-frame}
 
--- what supersedence says: for each key a newer entry that wrote it
+-- what supersedence says, of a station
 pub newer-entry : (st : Station) (e : Entry) → superseded (st .entries) e ≡ true → (k : ℕ) → wrote e k ≡ true
     → (c : ℕ) × (c < length (st .entries)) × (wrote (entryAt st c) k ≡ true) × (older (e .id) (entryAt st c .id) ≡ true)
-unfolding superseded newerOn wrote
 newer-entry st e h k w =
-    let f = member-finds k (keysOf e) w in
-    let a = all-at (newerOn (st .entries) e) (keysOf e) 0 h (first (eqb k) (keysOf e)) (f .0) in
-    let r = any-finds (λ x. wrote x k and older (e .id) (x .id)) (st .entries) noEntry (subst (λ (x : ℕ). newerOn (st .entries) e x ≡ true) (f .1) a) in
-    let g = subst (λ (x : Entry). (wrote x k and older (e .id) (x .id)) ≡ true) (entry-get st (r .0) (r .1)) (r .2) in
-    (r .0, r .1, and-left _ _ g, and-right _ _ g)
+    let r = newer-writer (st .entries) e h k w in
+    let g = subst (λ (x : Entry). (wrote x k ≡ true) × (older (e .id) (x .id) ≡ true)) (entry-get st (r .0) (r .1)) (r .2, r .3) in
+    (r .0, r .1, g .0, g .1)
 
 module _ (st : Station) (s : List ℕ) (b : Ledger) (inv : Inv st s b) (h : sound st ≡ true) (d : ℕ) (o : d < slots) (nz : entryAt st d .id .txn ≢ 0)
     (sup : superseded (st .entries) (entryAt st d) ≡ true) where

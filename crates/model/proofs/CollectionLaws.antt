@@ -1,29 +1,42 @@
 -- The single collects that a sweep is: where they end, where they go on, and what every collect keeps they keep.
 use Prim.Native.Nat.{ℕ, zero, suc, _<_}
-use mathlib.Core.Path.{_≡_, refl, ap, _∙_}
+use mathlib.Core.Path.{_≡_, refl, ap, subst, _∙_}
 use mathlib.Core.Logic.{_≢_, _⊎_, inl, inr}
 use mathlib.Core.Bool.{true, false, not}
 use mathlib.Core.List.{List, [], _∷_, _++_}
 use mathlib.Core.Option.{Option, some, none, Option·elim}
-use lib.ListN.{length}
+use lib.ListN.{length, getD}
 use native.Mathlib.Decide.{ℕ-discrete}
 use borrow.Author.Tests.{not-false, eq-eqb, ne-eqb, leb-false}
+use Rattle.model.specs.declared.Entry.{Entry}
 use Rattle.model.specs.declared.Station.{Station}
 use Rattle.model.specs.declared.Answer.the-variants as A
-use Rattle.model.specs.Lists.{all}
+use Rattle.model.specs.Lists.{_and_, all}
 use Rattle.model.specs.Limits.{slots, storeSize}
-use Rattle.model.specs.Entries.{noEntry, carriesEntry}
+use Rattle.model.specs.Entries.{noEntry, keysOf, wrote, carriesEntry}
+use Rattle.model.specs.Ids.{older}
 use Rattle.model.specs.Stations.{entryAt, setEntry, holds}
 use Rattle.model.specs.Records.{zeroRecord, recordAt, withRecord}
-use Rattle.model.specs.Supersedence.{superseded, isRead}
+use Rattle.model.specs.Supersedence.{newerOn, superseded, isRead}
 use Rattle.model.specs.Effects.{RecordWrite, Effect, stored, saysStoring}
 use Rattle.model.specs.Collect.{collect}
 use Rattle.model.specs.Answers.{refusedWith}
 use Rattle.model.specs.Sweep.{oldestToCollect, Collection, collections, stationAfter, recordsOf}
-use Rattle.model.proofs.Tests.{or-left, or-right}
+use Rattle.model.proofs.Tests.{and-left, and-right, or-left, or-right}
+use Rattle.model.proofs.ListLaws.{all-at, any-finds, member-finds}
 use Rattle.model.proofs.RefusalLaws.{accepted, row-off}
 use Rattle.model.proofs.RecordLaws.{length-zero, with-length}
 use native.Mathlib.Omega.{arith}
+
+-- ── what supersedence says: for each key that it wrote a newer entry that wrote it ──
+pub newer-writer : (es : List Entry) (e : Entry) → superseded es e ≡ true → (k : ℕ) → wrote e k ≡ true
+    → (c : ℕ) × (c < length es) × (wrote (getD es c noEntry) k ≡ true) × (older (e .id) (getD es c noEntry .id) ≡ true)
+unfolding superseded newerOn wrote
+newer-writer es e h k w =
+    let f = member-finds k (keysOf e) w in
+    let a = subst (λ (x : ℕ). newerOn es e x ≡ true) (f .1) (all-at (newerOn es e) (keysOf e) 0 h _ (f .0)) in
+    let r = any-finds (λ x. wrote x k and older (e .id) (x .id)) es noEntry a in
+    (r .0, r .1, and-left _ _ (r .2), and-right _ _ (r .2))
 
 -- ── a collect that is not refused ──
 pub record Collected (st : Station) (s : List ℕ) (d : ℕ) : Type 0 where

@@ -28,26 +28,22 @@ use Rattle.model.specs.Collect.{collect}
 use Rattle.model.specs.Answers.{refusedWith}
 use Rattle.model.specs.Sweep.{mayCollect, oldestToCollect, Collection, collections, stationAfter, recordsOf, sweep}
 use Rattle.model.proofs.Tests.{and-left, and-right, and-intro, or-none, or-intro-left, or-intro-right, not-of-true, not-of-false, bool-cases}
-use Rattle.model.proofs.ListLaws.{any-finds, any-at, any-none-of, all-at, member-finds}
+use Rattle.model.proofs.ListLaws.{any-finds, any-at, any-none-of}
 use Rattle.model.proofs.IdLaws.{older-irrefl, older-trans}
 use Rattle.model.proofs.InsideLaws.{noEntry-wrote}
 use Rattle.model.proofs.OrderLaws.{IsOldest, oldest-is, oldest-none}
 use Rattle.model.proofs.RefusalLaws.{refusals-none, skipped, hit}
 use Rattle.model.proofs.StationLaws.{entry-get, entryAt-same, entryAt-other, setEntry-length}
 use Rattle.model.proofs.SoundKept.{collect-keeps, Keeps}
-use Rattle.model.proofs.CollectionLaws.{Collected, collected-station, stored-append, Ends, Goes, ends-or-goes, ends, nextStation, nextStore, goes, collections-keep, collect-length}
+use Rattle.model.proofs.CollectionLaws.{newer-writer, Collected, collected-station, stored-append, Ends, Goes, ends-or-goes, ends, nextStation, nextStore, goes, collections-keep, collect-length}
 
 -- ── collecting an entry that is superseded changes no other entry's 15 or 16 ──
 module _ (es : List Entry) (d : ℕ) (sup : superseded es (getD es d noEntry) ≡ true) where
   -- on a key that it wrote, another entry is newer than it
   over : (k : ℕ) → wrote (getD es d noEntry) k ≡ true → (c : ℕ) × (c < length es) × (c ≢ d) × (wrote (getD es c noEntry) k ≡ true) × (older (getD es d noEntry .id) (getD es c noEntry .id) ≡ true)
-  unfolding superseded newerOn wrote
   over k w =
-      let f = member-finds k (keysOf (getD es d noEntry)) w in
-      let a = subst (λ (x : ℕ). newerOn es (getD es d noEntry) x ≡ true) (f .1) (all-at (newerOn es (getD es d noEntry)) (keysOf (getD es d noEntry)) 0 sup _ (f .0)) in
-      let r = any-finds (λ x. wrote x k and older (getD es d noEntry .id) (x .id)) es noEntry a in
-      let o = and-right _ _ (r .2) in
-      (r .0, r .1, λ z. true≢false (sym o ∙ (ap (λ (j : ℕ). older (getD es d noEntry .id) (getD es j noEntry .id)) z ∙ older-irrefl (getD es d noEntry .id))), and-left _ _ (r .2), o)
+      let r = newer-writer es (getD es d noEntry) sup k w in
+      (r .0, r .1, λ z. true≢false (sym (r .3) ∙ (ap (λ (j : ℕ). older (getD es d noEntry .id) (getD es j noEntry .id)) z ∙ older-irrefl (getD es d noEntry .id))), r .2, r .3)
 
   -- wrote the key, and is newer than e
   abbrev newerWriter : Entry → ℕ → Entry → Bool
