@@ -57,9 +57,9 @@ extern "C" {
  *   start    transaction                 makes it live and open
  *   put      transaction, key, number    the value under a key of its write set; key 0 to 63, at most 8 keys
  *   get      transaction, key            its own value, or the version that fits its reads
- *   commit   transaction, number         begins to close it at a clock that is at least the one given, 1 to 2^64 - 1; again once it is committed:
- *                                        done (a retry). A clock that was set back is no harm: the clock taken is one more than the greatest of any
- *                                        entry or closing transaction, where that is greater than the one given. Done says it, in b
+ *   commit   transaction, number         begins to close it; again once it is committed: done (a retry). The number is a clock, 1 to 2^64 - 1, and a lower
+ *                                        bound: the clock taken is the one given, or one more than the greatest of any entry or closing transaction,
+ *                                        whichever is the greater. So a clock that was set back is no harm. Done says the one taken, in b
  *   step     transaction                 stores its next record; the last step acknowledges
  *   abort    transaction                 forgets an open transaction
  *   collect  key                         frees a slot (0 to 63) whose entry is superseded and read by no one

@@ -117,8 +117,9 @@ pub enum Request {
     Put(u32, u8, u64),
     /// Reads a key: transaction, key.
     Get(u32, u8),
-    /// Begins to close a transaction at a clock that is at least the one given; again once it is committed, says so (a retry). The clock given may go
-    /// back: the one taken is one more than the greatest of any entry or closing transaction, where that is greater. [`Answer::Done`] says it.
+    /// Begins to close a transaction; again once it is committed, says so (a retry). The clock given, 1 to 2^64 - 1, is a lower bound: the one taken is that,
+    /// or one more than the greatest of any entry or closing transaction, whichever is the greater. So a clock that was set back is no harm.
+    /// [`Answer::Done`] says the one taken.
     Commit(u32, u64),
     /// Stores the next record of a closing transaction; the last step acknowledges.
     Step(u32),
