@@ -10,7 +10,6 @@ use native.Mathlib.Decide.{ℕ-discrete}
 use Rattle.model.specs.declared.Id.{Id}
 use Rattle.model.specs.declared.Entry.{Entry}
 use Rattle.model.specs.declared.Station.{Station}
-use Rattle.model.specs.Limits.{slots}
 use Rattle.model.specs.Ids.{older}
 use Rattle.model.specs.Entries.{wrote}
 use Rattle.model.specs.Stations.{liveAt, entryAt, isHeld}
@@ -25,11 +24,11 @@ use Rattle.history.specs.Histories.{Event, World, run, AllInRange}
 use Rattle.history.specs.CutRule.{committedIn, Wrote, Newer}
 use Rattle.history.proofs.Invariant.{Inv}
 use Rattle.history.proofs.DraftLaws.{at-same, at-other, mapped, draft-without, draft-new, draft-revised}
-use Rattle.history.proofs.CommittedLaws.{stands-in, stands, committed-wrote, wrote-committed, committed-id, strike-keeps}
+use Rattle.history.proofs.CommittedLaws.{stands-in, committed-wrote, wrote-committed, committed-id, strike-keeps}
 use Rattle.history.proofs.SlotOwners.{Owner, by-entry, by-live, owner}
 use Rattle.history.proofs.Reckoning.{entry-stands}
 use Rattle.history.proofs.Collecting.{newer-entry}
-use Rattle.history.proofs.Feeding.{any-event, Keeping, run-feeds}
+use Rattle.history.proofs.Feeding.{any-event, RowsKeep, run-feeds}
 use Rattle.history.proofs.Theorem.{State}
 
 -- ── a standing transaction with no draft is an entry, and an entry's has none ──
@@ -152,7 +151,7 @@ module _ (J : Committed) (k : ℕ) (wrote-k : Wrote J k) where
             above = ⊎-elim (λ y. subst (λ (i : Id). Newer (entryAt st c .id) i) (sym at-id ∙ ap (λ (j : Committed). j .id) y) (w .3))
                 (λ y. older-trans (J .id) (entryAt st d .id) (entryAt st c .id) (subst (λ (i : Id). older (J .id) i ≡ true) at-id (y .1)) (w .3)) (sh .newest)
 
-    each : Keeping (Shown J k) (λ c. Unit {0}) st b
+    each : RowsKeep (Shown J k) (λ c. Unit {0}) st b
     each = record {
       started = λ t a. started t;
       kept = λ t x v. changed b sh t _ (λ p. refl);

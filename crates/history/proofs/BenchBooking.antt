@@ -4,12 +4,11 @@ use Prim.Native.Nat.{ℕ}
 use mathlib.Core.Path.{_≡_, refl}
 use mathlib.Core.List.{List, [], _∷_, List·Memᴰ·not-nil}
 use native.Mathlib.Omega.{arith}
-use Rattle.model.specs.declared.Answer.the-variants as A
-use Rattle.model.specs.Lists.{_and_, _or_, all, any, first, insert, padded, from, member, maximum, ascending, distinct, same, anyBelow, greatestBelow}
+use Rattle.model.specs.Lists.{_and_, _or_, all, any, first, insert, padded, from, member, maximum, ascending, distinct, anyBelow, greatestBelow}
 use Rattle.model.specs.Ids.{sameId}
 use Rattle.model.specs.Bytes.{bytes, headBytes}
 use Rattle.model.specs.Lives.{writesOf, readsOf, hasWritten, isClosing, closingSlot, closingClock, recordsStored, slotMark, withWrites, withPhase}
-use Rattle.model.specs.Entries.{keysOf, wrote, commitRecord, entryRules, isNoEntry, entryFor}
+use Rattle.model.specs.Entries.{keysOf, commitRecord, entryRules, isNoEntry, entryFor}
 use Rattle.model.specs.Stations.{emptyStation, liveAt, entryAt, setLive, setEntry, liveTxns, heldTxns, isLive, isHeld, placeOf, slotOf, holds, closingSlots, isFree}
 use Rattle.model.specs.Records.{versionRecord, withRecord}
 use Rattle.model.specs.Sound.{isNoWrite, isNoRead, isNoLive, zeroPastCounts, setsRight, names, inUse, closingRight, placeRight, entryRight, sound}

@@ -7,27 +7,21 @@ use mathlib.Core.List.{List, _∷_, List·Memᴰ}
 use mathlib.Core.Option.{some, none}
 use native.Mathlib.Nat.{lt-irrefl}
 use native.Mathlib.Omega.{arith}
-use borrow.Author.Tests.{not-false}
 use Rattle.model.specs.declared.Id.{Id}
 use Rattle.model.specs.declared.Station.{Station}
 use Rattle.model.specs.declared.Answer.{Answer}
 use Rattle.model.specs.declared.Answer.the-variants as A
-use Rattle.model.specs.Lists.{all}
 use Rattle.model.specs.Limits.{numberRange}
 use Rattle.model.specs.Ids.{older}
 use Rattle.model.specs.Ranges.{StationFits}
-use Rattle.model.specs.Ranges.{StationFits}
 use Rattle.model.specs.Clocks.{clocks, clockAbove}
 use Rattle.model.specs.Sound.{sound}
-use Rattle.model.specs.Effects.{Effect}
 use Rattle.model.specs.Get.{get}
 use Rattle.model.specs.Step.{step}
-use Rattle.model.specs.Answers.{refusedWith}
 use Rattle.model.specs.Calls.{Call, Get, Commit, Step, does, isSweep, txnOf, numberOf}
 use Rattle.model.proofs.ClockLaws.{clock-least, clock-real, clock-above, clock-below}
 use Rattle.model.proofs.IdLaws.{older-is}
 use Rattle.model.proofs.ListLaws.{every-first, every-last}
-use Rattle.model.proofs.RefusalLaws.{accepted, row-off}
 use Rattle.model.proofs.StationLaws.{place-hit}
 use Rattle.model.proofs.CommitLaws.{commit-closes}
 use Rattle.history.specs.Ledger.{Draft, Committed, Ledger, draftOf, without, revised, withDrafts, at, closingAt, clocksIn, feed}
@@ -39,7 +33,7 @@ use Rattle.history.proofs.Invariant.{Inv, Core, draftIn}
 use Rattle.history.proofs.DraftLaws.{some-inj, at-same, draft-without, matches-at}
 use Rattle.history.proofs.Reckoning.{standing-clock, draft-clock, reckons, clocks-low}
 use Rattle.history.proofs.Acknowledged.{Shown, run-shows}
-use Rattle.history.proofs.Corollaries.{run-after, done-stands}
+use Rattle.history.proofs.Corollaries.{run-after, step-done}
 use Rattle.history.proofs.Carried.{TypedNode, typed-begin, typed-run, all-in-range}
 use Rattle.history.proofs.FirstGet.{first-get-answers}
 use Rattle.history.proofs.ClosingClock.{KeepsClock, clocked-is, closing-clocked, run-keeps-clock}
@@ -54,7 +48,7 @@ older-clock : (i j : Id) → older i j ≡ true → i .clock ≤ j .clock
 older-clock i j h = ⊎-elim (λ y. omega (arith, y)) (λ y. omega (arith, y .0)) (older-is i j h)
 
 -- the clock that a commit takes in a history: at least the one given, above that of every transaction that has closed, and below 2^64
-pub record Closing (b : Ledger) (given c : ℕ) : Type 0 where
+pub record TakenIn (b : Ledger) (given c : ℕ) : Type 0 where
   pub least : given ≤ c
   pub above : (i : Id) → HasClosed b i → i .clock < c
   pub low : c < numberRange
@@ -64,7 +58,7 @@ past-clock s b core c j m = ⊎-elim
     (λ x. clock-above c (clocksIn b) _ (standing-clock b j x))
     (λ f. let w = core .recorded j m in let r = f (w .1) (w .2) in omega (arith, older-clock (j .id) (r .0 .id) (r .3), clock-above c (clocksIn b) _ (standing-clock b (r .0) (r .1)))) (core .dominated j m)
 
-pub closing-is-newest : (vs : List Event) → AllInRange vs → (t c d : ℕ) → c < numberRange → Answers (run vs begin) (Commit t c) (A.Closing d) → Closing (run vs begin .ledger) c (clockAbove c (clocksIn (run vs begin .ledger)))
+pub closing-is-newest : (vs : List Event) → AllInRange vs → (t c d : ℕ) → c < numberRange → Answers (run vs begin) (Commit t c) (A.Closing d) → TakenIn (run vs begin .ledger) c (clockAbove c (clocksIn (run vs begin .ledger)))
 closing-is-newest vs f t c d o a =
     let r = running-keeps vs f (a .0) (a .1) in
     let b = run vs begin .ledger in
@@ -85,19 +79,15 @@ after-answer w st e c n = rw (e, n)
 module _ (st : Station) (s : List ℕ) (b : Ledger) (inv : Inv st s b) (h : sound st ≡ true) where
   acknowledged-shown : (t k v : ℕ) (i : Id) (p : Draft) → step st s t .answer ≡ A.Done i → draftOf t (b .drafts) ≡ some p → p .values k ≡ some v
       → (J : Committed) × (J .id ≡ i) × (J .values k ≡ some v) × Shown J k (withDrafts (without t (b .drafts)) b) × (i .clock ≡ p .clock)
-  unfolding step all withDrafts
+  unfolding withDrafts
   acknowledged-shown t k v i p a e x =
-      let y = accepted _ st _ refl (ap refusedWith a ∙ (unfold refusedWith in refl)) in
-      let r8 = row-off 8 _ _ (row-off 3 _ _ (row-off 2 _ _ (row-off 1 _ _ (y .0) .1) .1) .1) in
-      let r10 = row-off 10 _ _ (r8 .1) in
-      let m = matches-at st (draftIn b) h (inv .drafts) t (not-false _ (r8 .0)) p e in
-      let r = done-stands st s b inv t i _ refl (not-false _ (r10 .0)) (sym (ap (λ (z : Effect). z .answer) (y .1)) ∙ a) in
-      let d = r .3 p m in (
-        r .0,
-        r .2,
+      let r = step-done st s b inv t i a in
+      let d = r .4 p (matches-at st (draftIn b) h (inv .drafts) t (r .0) p e) in (
+        r .1,
+        r .3,
         ap (λ (j : Committed). j .values k) d ∙ x,
-        record { by = r .0; stands = r .1; ended = gone (r .0 .id .txn) (ap (λ (j : Committed). j .id .txn) d ∙ place-hit st t (not-false _ (r8 .0)) .1); newest = inl refl },
-        ap (λ (y : Id). y .clock) (sym (r .2)) ∙ ap (λ (j : Committed). j .id .clock) d,
+        record { by = r .1; stands = r .2; ended = gone (r .1 .id .txn) (ap (λ (j : Committed). j .id .txn) d ∙ place-hit st t (r .0) .1); newest = inl refl },
+        ap (λ (y : Id). y .clock) (sym (r .3)) ∙ ap (λ (j : Committed). j .id .clock) d,
       )
     where
       gone : (n : ℕ) → n ≡ t → draftOf n (without t (b .drafts)) ≡ none
@@ -136,8 +126,8 @@ booking-just-made vs₀ vs₁ vs₂ t c u k v i f bk = (g .0, g .1, (st, bk .run
     drafted = after-answer (run vs₀ begin) _ (bk .closes .1) (Commit t c) (unfold isSweep in refl)
         ∙ (unfold feed txnOf numberOf in ap (λ (a : Answer). feed a (Commit t c) (run vs₀ begin .ledger)) (bk .closes .2))
 
-    closed : KeepsClock t x₀ real (next (called (Commit t c)) (run vs₀ begin) .ledger)
-    closed = subst (KeepsClock t x₀ real) (sym drafted) (closing-clocked t x₀ real (run vs₀ begin .ledger))
+    closed : KeepsClock t x₀ (next (called (Commit t c)) (run vs₀ begin) .ledger)
+    closed = subst (KeepsClock t x₀) (sym drafted) (closing-clocked t x₀ (run vs₀ begin .ledger))
 
     from-closing : run h₁ begin ≡ run vs₁ (next (called (Commit t c)) (run vs₀ begin))
     from-closing = unfold run in run-after vs₀ (called (Commit t c) ∷ vs₁) begin
@@ -153,7 +143,7 @@ booking-just-made vs₀ vs₁ vs₂ t c u k v i f bk = (g .0, g .1, (st, bk .run
     ack = acknowledged-shown _ _ _ (k₁ .1) (k₁ .0) t k v i (bk .wrote .0) (unfold does in bk .acknowledged .2) (bk .wrote .1) (bk .wrote .2)
 
     kept : bk .wrote .0 .clock ≡ x₀
-    kept = clocked-is t x₀ real (w₁ .ledger) (bk .wrote .0) (subst (λ (w : World). KeepsClock t x₀ real (w .ledger)) (sym from-closing)
+    kept = clocked-is t x₀ (w₁ .ledger) (bk .wrote .0) (subst (λ (w : World). KeepsClock t x₀ (w .ledger)) (sym from-closing)
         (run-keeps-clock t x₀ real vs₁ (next (called (Commit t c)) (run vs₀ begin)) (bk .same) (all-in-range vs₁ (unfold AllTyped in middle .1))
         (next-keeps (called (Commit t c)) (run vs₀ begin) (unfold AllTyped in middle .0 .0) (history-keeps vs₀ (all-in-range vs₀ f₀))) closed)) (bk .wrote .1)
 

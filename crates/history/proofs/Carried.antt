@@ -3,7 +3,7 @@
 use Prim.Native.Nat.{ℕ}
 use mathlib.Core.Path.{_≡_, refl, sym, ap, subst, _∙_}
 use mathlib.Core.List.{List, [], _∷_}
-use mathlib.Core.Option.{Option, some, none, Option·none-ne-some}
+use mathlib.Core.Option.{Option, some, none}
 use Rattle.model.specs.declared.Station.{Station}
 use Rattle.model.specs.Limits.{storeSize}
 use Rattle.model.specs.Ranges.{Every, IsByte, StationFits}
@@ -15,7 +15,7 @@ use Rattle.history.specs.Histories.{Event, called, cut, Node, running, d
 use Rattle.history.specs.CutRule.{CutRule}
 use Rattle.history.specs.Contracts.{Functions, Meets, returned, afterReturn, nextBy, runBy, AllTyped}
 use Rattle.history.proofs.DraftLaws.{some-inj}
-use Rattle.history.proofs.Theorem.{cut-rule}
+use Rattle.history.proofs.Theorem.{only-scan, cut-rule}
 
 -- ── a history stays within the types ──
 abbrev pub TypedNode : Node → Type 0
@@ -29,15 +29,10 @@ pub record Typed (w : World) : Type 0 where
 handed-fits : (c : Call) (k : Node) (st : Station) → TypedNode k → handed c k ≡ some st → StationFits st
 unfolding handed isScan
 handed-fits c (running st₀) st f e = subst StationFits (some-inj e) f
-handed-fits (Start t) down st f e = absurd (Option·none-ne-some st e)
-handed-fits (Put t k v) down st f e = absurd (Option·none-ne-some st e)
-handed-fits (Get t k) down st f e = absurd (Option·none-ne-some st e)
-handed-fits (Commit t c) down st f e = absurd (Option·none-ne-some st e)
-handed-fits (Step t) down st f e = absurd (Option·none-ne-some st e)
-handed-fits (Abort t) down st f e = absurd (Option·none-ne-some st e)
-handed-fits (Collect d) down st f e = absurd (Option·none-ne-some st e)
-handed-fits Scan down st f e = subst StationFits (some-inj e) fits-empty
-handed-fits (Sweep n) down st f e = absurd (Option·none-ne-some st e)
+handed-fits c down st f e = scan-fits (subst (λ (x : Call). handed x down ≡ some st) (only-scan c st e) e)
+  where
+    scan-fits : handed Scan down ≡ some st → StationFits st
+    scan-fits q = subst StationFits (some-inj q) fits-empty
 
 typed-next : (v : Event) (w : World) → IsTyped (callIn v) → Typed w → Typed (next v w)
 unfolding next callIn

@@ -19,10 +19,10 @@ use Rattle.history.specs.Histories.{Event, World, run, callIn, AllInRang
 use Rattle.history.specs.Booking.{IsNoStart}
 use Rattle.history.proofs.Invariant.{draftIn, Inv}
 use Rattle.history.proofs.DraftLaws.{at-same, at-other, mapped, was-draft, draft-without, draft-new, draft-revised, matches-at}
-use Rattle.history.proofs.Feeding.{Keeping, run-feeds}
+use Rattle.history.proofs.Feeding.{RowsKeep, run-feeds}
 use Rattle.history.proofs.Theorem.{State}
 
-module _ (t c : ℕ) (real : c ≢ 0) where
+module _ (t c : ℕ) where
   -- of t's draft, if there is one
   pub Clocked : Option Draft → Type 0
   Clocked x = (p : Draft) → x ≡ some p → p .clock ≡ c
@@ -58,7 +58,7 @@ module _ (t c : ℕ) (real : c ≢ 0) where
   unfolding Clocked
   unclocked p e = absurd (Option·none-ne-some p e)
 
-  module _ (st : Station) (s : List ℕ) (b : Ledger) (inv : Inv st s b) (h : sound st ≡ true) (k : KeepsClock b) where
+  module _ (real : c ≢ 0) (st : Station) (s : List ℕ) (b : Ledger) (inv : Inv st s b) (h : sound st ≡ true) (k : KeepsClock b) where
     revised-keeps : (u : ℕ) (g : Draft → Draft) → ((p : Draft) → g p .txn ≡ p .txn) → (u ≡ t → Clocked (mapped g (draftOf u (b .drafts)))) → Clocked (draftOf t (revised u g (b .drafts)))
     revised-keeps u g same own = rw (draft-revised u g same (b .drafts) t) (clocked-at u _ (draftIn b) k own)
 
@@ -70,7 +70,7 @@ module _ (t c : ℕ) (real : c ≢ 0) where
         let m = matches-at st (draftIn b) h (inv .drafts) u z (r .0) (r .1) in
         absurd (real (sym (k (r .0) (ap (draftIn b) (sym e) ∙ r .1)) ∙ (m .clock ∙ open-clock _ nc)))
 
-    each : Keeping KeepsClock (IsNoStart t) st b
+    each : RowsKeep KeepsClock (IsNoStart t) st b
     unfolding withDrafts
     each = record {
       started = λ u a nh. rw (draft-new (blankDraft u) (b .drafts) t) (clocked-at u _ (draftIn b) k (λ e. absurd (a (ap Start e))));
@@ -89,5 +89,5 @@ module _ (t c : ℕ) (real : c ≢ 0) where
   no-collect : (d : ℕ) → IsNoStart t (Collect d)
   no-collect d e = let z : _≡_ {A = ℕ} 0 1 = cc in absurd (omega arith)
 
-  pub run-keeps-clock : (vs : List Event) (w : World) → Every (λ (v : Event). IsNoStart t (callIn v)) vs → AllInRange vs → State w → KeepsClock (w .ledger) → KeepsClock (run vs w .ledger)
-  run-keeps-clock vs w a f sw k = run-feeds KeepsClock (IsNoStart t) cleared no-collect (λ st s b inv h x. each st s b inv h x) vs w a f sw k
+  pub run-keeps-clock : c ≢ 0 → (vs : List Event) (w : World) → Every (λ (v : Event). IsNoStart t (callIn v)) vs → AllInRange vs → State w → KeepsClock (w .ledger) → KeepsClock (run vs w .ledger)
+  run-keeps-clock real vs w a f sw k = run-feeds KeepsClock (IsNoStart t) cleared no-collect (λ st s b inv h x. each real st s b inv h x) vs w a f sw k

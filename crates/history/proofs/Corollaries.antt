@@ -23,7 +23,7 @@ use Rattle.model.specs.Limits.{slots, sweepLimit}
 use Rattle.model.specs.Ids.{older}
 use Rattle.model.specs.Lives.{isClosing, closingSlot, recordsStored}
 use Rattle.model.specs.Entries.{entryFor}
-use Rattle.model.specs.Stations.{liveAt, entryAt, isHeld, placeOf, slotOf}
+use Rattle.model.specs.Stations.{liveAt, entryAt, isLive, isHeld, placeOf, slotOf}
 use Rattle.model.specs.Sound.{sound}
 use Rattle.model.specs.Effects.{Effect, stored, says, saysStoring}
 use Rattle.model.specs.Get.{versionAt}
@@ -48,7 +48,7 @@ use Rattle.history.proofs.Invariant.{Prepared, Inv, Reported}
 use Rattle.history.proofs.CommittedLaws.{stands, wrote-committed, committed-id, stands-once}
 use Rattle.history.proofs.Storing.{committed-of-draft}
 use Rattle.history.proofs.Theorem.{call-keeps, State, history-keeps, running-keeps, cut-rule}
-use Rattle.history.proofs.Feeding.{any-event, Keeping, run-feeds}
+use Rattle.history.proofs.Feeding.{any-event, RowsKeep, run-feeds}
 use Rattle.history.proofs.NeverRefused.{faults, Calm, calm}
 
 -- ── no dirty read: a version that a get answers is a committed transaction's, which stands, under that key with that value ──
@@ -77,7 +77,7 @@ no-fractured-read vs f t p e r q mr mq j mj ej w =
 
 -- ── acknowledged means durable ──
 -- a transaction that is past stays past
-past-kept : (j : Committed) (st : Station) (b : Ledger) → List·Memᴰ j (b .past) → Keeping (λ (x : Ledger). List·Memᴰ j (x .past)) (λ c. Unit {0}) st b
+past-kept : (j : Committed) (st : Station) (b : Ledger) → List·Memᴰ j (b .past) → RowsKeep (λ (x : Ledger). List·Memᴰ j (x .past)) (λ c. Unit {0}) st b
 unfolding withDrafts
 past-kept j st b m = record {
   started = λ t a nh. m;
@@ -114,7 +114,7 @@ last false true k d one two three a i e₁ e₂ e₃ h = let z : _≡_ {A = ℕ}
 last false false k d one two three a i e₁ e₂ e₃ h = (refl, refl, cc)
 
 -- an acknowledging step answers done: its transaction stands in the store, as its draft has it
-pub done-stands : (st : Station) (s : List ℕ) (b : Ledger) → Inv st s b → (t : ℕ) (i : Id) (p : Phase) → liveAt st (placeOf t st) .phase ≡ p → isClosing p ≡ true
+done-stands : (st : Station) (s : List ℕ) (b : Ledger) → Inv st s b → (t : ℕ) (i : Id) (p : Phase) → liveAt st (placeOf t st) .phase ≡ p → isClosing p ≡ true
     → stepped st (placeOf t st) (liveAt st (placeOf t st)) p .answer ≡ A.Done i
     → (j : Committed) × List·Memᴰ j (b .standing) × (j .id ≡ i)
     × ((x : Draft) → Matches x (liveAt st (placeOf t st)) → j ≡ record { id = record { clock = x .clock; txn = liveAt st (placeOf t st) .txn }; values = x .values })
@@ -136,16 +136,25 @@ done-stands st s b inv t i (Closing d c n) q _ h =
     pr : Prepared s (liveAt st (placeOf t st)) d c n
     pr = inv .slots .closing (placeOf t st) d c n q
 
+-- the same of the call
+pub step-done : (st : Station) (s : List ℕ) (b : Ledger) → Inv st s b → (t : ℕ) (i : Id) → step st s t .answer ≡ A.Done i
+    → (isLive t st ≡ true) × (j : Committed) × List·Memᴰ j (b .standing) × (j .id ≡ i)
+    × ((x : Draft) → Matches x (liveAt st (placeOf t st)) → j ≡ record { id = record { clock = x .clock; txn = liveAt st (placeOf t st) .txn }; values = x .values })
+unfolding step all
+step-done st s b inv t i h =
+    let a = accepted _ st _ refl (ap refusedWith h ∙ (unfold refusedWith in refl)) in
+    let r8 = row-off 8 _ _ (row-off 3 _ _ (row-off 2 _ _ (row-off 1 _ _ (a .0) .1) .1) .1) in
+    let r = done-stands st s b inv t i _ refl (not-false _ (row-off 10 _ _ (r8 .1) .0)) (sym (ap (λ (e : Effect). e .answer) (a .1)) ∙ h) in
+    (not-false _ (r8 .0), r .0, r .1, r .2, r .3)
+
 pub acknowledged-stands : (vs : List Event) → AllInRange vs → (st : Station) → run vs begin .node ≡ running st → (t : ℕ) (i : Id)
     → does (Step t) st (run vs begin .store) .answer ≡ A.Done i
     → (j : Committed) × List·Memᴰ j (run vs begin .ledger .standing) × List·Memᴰ j (run vs begin .ledger .past) × (j .id ≡ i)
-unfolding does step all
+unfolding does
 acknowledged-stands vs f st up t i h =
     let w = running-keeps vs f st up in
-    let a = accepted _ st _ refl (ap refusedWith h ∙ (unfold refusedWith in refl)) in
-    let r10 = row-off 10 _ _ (row-off 8 _ _ (row-off 3 _ _ (row-off 2 _ _ (row-off 1 _ _ (a .0) .1) .1) .1) .1) in
-    let r = done-stands st (run vs begin .store) (run vs begin .ledger) (w .1) t i _ refl (not-false _ (r10 .0)) (sym (ap (λ (e : Effect). e .answer) (a .1)) ∙ h) in
-    (r .0, r .1, w .1 .core .kept (r .0) (r .1), r .2)
+    let r = step-done st (run vs begin .store) (run vs begin .ledger) (w .1) t i h in
+    (r .1, r .2, w .1 .core .kept (r .1) (r .2), r .3)
 
 -- ── exactly-once retry: a commit that is answered done again alters nothing, and its transaction stands once ──
 -- of commit's three answers done is the first

@@ -19,7 +19,7 @@ use Rattle.model.proofs.StationLaws.{place-hit, setLive-at, liveAt-same, liveAt
 use Rattle.model.proofs.SoundFacts.{one-place, no-other}
 use Rattle.history.specs.Ledger.{Draft, draftOf, without, revised, at}
 use Rattle.history.specs.Matches.{Matches, Correspond}
-use Rattle.history.proofs.Invariant.{Once}
+use Rattle.history.proofs.Invariant.{OneDraft}
 
 pub some-inj : {A : Type 0} {x y : A} → some x ≡ some y → x ≡ y
 some-inj e = Option·some-injective _ _ e
@@ -134,15 +134,15 @@ revised-mem t g (q ∷ ps) p m = ⊎-elim (λ e. go (eqb t (q .txn)) refl e) (λ
     go true h e = inr (q, List·Memᴰ·head refl, sym (eqb-true t (q .txn) h), rw h at e)
     go false h e = let r : p ≡ q = rw h at e in inl (List·Memᴰ·head r, λ y. eqb-false t (q .txn) h (sym y ∙ ap (λ (x : Draft). x .txn) r))
 
-pub once-without : (t : ℕ) (ps : List Draft) → Once ps → Once (without t ps)
+pub once-without : (t : ℕ) (ps : List Draft) → OneDraft ps → OneDraft (without t ps)
 once-without t ps f p m = let r = without-mem t ps p m in draft-without t ps (p .txn) ∙ (at-other t none (λ x. draftOf x ps) (p .txn) (r .1) ∙ f p (r .0))
 
-pub once-new : (p : Draft) (ps : List Draft) → Once ps → Once (p ∷ without (p .txn) ps)
+pub once-new : (p : Draft) (ps : List Draft) → OneDraft ps → OneDraft (p ∷ without (p .txn) ps)
 once-new p ps f q m = draft-new p ps (q .txn) ∙ ⊎-elim
     (λ e. ap (λ (x : Draft). at (p .txn) (some p) (λ y. draftOf y ps) (x .txn)) e ∙ (at-same (p .txn) (some p) (λ x. draftOf x ps) ∙ ap some (sym e)))
     (λ x. let r = without-mem (p .txn) ps q x in at-other (p .txn) (some p) (λ y. draftOf y ps) (q .txn) (r .1) ∙ f q (r .0)) (List·Memᴰ·cases-cons m)
 
-pub once-revised : (t : ℕ) (g : Draft → Draft) → ((p : Draft) → g p .txn ≡ p .txn) → (ps : List Draft) → Once ps → Once (revised t g ps)
+pub once-revised : (t : ℕ) (g : Draft → Draft) → ((p : Draft) → g p .txn ≡ p .txn) → (ps : List Draft) → OneDraft ps → OneDraft (revised t g ps)
 unfolding mapped
 once-revised t g k ps f p m = draft-revised t g k ps (p .txn) ∙ go (revised-mem t g ps p m)
   where

@@ -1,10 +1,10 @@
 -- What a whole history leaves of a property of the ledger, from what each answer leaves of it.
 use Prim.Native.Nat.{ℕ, zero, suc, _-_}
-use mathlib.Core.Path.{_≡_, refl, subst}
+use mathlib.Core.Path.{_≡_, refl, sym, subst}
 use mathlib.Core.Logic.{_≢_, _⊎_, inl, inr}
 use mathlib.Core.Bool.{Bool, true, false, cond}
 use mathlib.Core.List.{List, [], _∷_, _++_, map}
-use mathlib.Core.Option.{Option, some, none, Option·none-ne-some}
+use mathlib.Core.Option.{Option, some, none}
 use lib.Dec.{eqb, leb, ltb}
 use borrow.Author.Tests.{not-false}
 use Rattle.model.specs.declared.Id.{Id}
@@ -27,7 +27,7 @@ use Rattle.model.specs.Abort.{abort}
 use Rattle.model.specs.Collect.{collect}
 use Rattle.model.specs.Scan.{scan}
 use Rattle.model.specs.Sweep.{collections, sweep}
-use Rattle.model.specs.Calls.{Call, Start, Put, Get, Commit, Step, Abort, Collect, Scan, Sweep, does, isScan, isSweep, txnOf, keyOf, numberOf}
+use Rattle.model.specs.Calls.{Call, Start, Put, Get, Commit, Step, Abort, Collect, Scan, Sweep, does, isSweep, txnOf, keyOf, numberOf}
 use Rattle.model.proofs.Tests.{or-right, and-first, not-of-false}
 use Rattle.model.proofs.RefusalLaws.{guard, unguarded, cond-rule}
 use Rattle.model.proofs.StationLaws.{held-txn}
@@ -39,7 +39,7 @@ use Rattle.history.proofs.Invariant.{Core, Inv}
 use Rattle.history.proofs.DraftLaws.{some-inj}
 use Rattle.history.proofs.Collecting.{collect-keeps}
 use Rattle.history.proofs.Recovering.{scan-is}
-use Rattle.history.proofs.Theorem.{Running, State, next-keeps}
+use Rattle.history.proofs.Theorem.{only-scan, Running, State, next-keeps}
 
 -- where any call may come
 pub any-event : (vs : List Event) → Every (λ (v : Event). Unit {0}) vs
@@ -48,7 +48,7 @@ any-event (v ∷ vs) = (tt, any-event vs)
 
 module _ (P : Ledger → Type 0) (Allowed : Call → Type 0) where
   -- each answer's row of `feed` keeps P, with what the call has tested of the station
-  pub record Keeping (st : Station) (b : Ledger) : Type 0 where
+  pub record RowsKeep (st : Station) (b : Ledger) : Type 0 where
     pub started : (t : ℕ) → Allowed (Start t) → isHeld t st ≡ false → P (withDrafts (blankDraft t ∷ without t (b .drafts)) b)
     pub kept : (t x v : ℕ) → P (withDrafts (revised t (keeping x v) (b .drafts)) b)
     pub read : (t x : ℕ) (i : Id) → P (withDrafts (revised t (reading x i) (b .drafts)) b)
@@ -59,57 +59,57 @@ module _ (P : Ledger → Type 0) (Allowed : Call → Type 0) where
         → P (record { drafts = b .drafts; standing = strike (entryAt st d .id .txn) (b .standing); past = b .past })
 
   -- what a call's answer leaves
-  record Fed (b : Ledger) (c : Call) (e : Effect) : Type 0 where
+  record Leaves (b : Ledger) (c : Call) (e : Effect) : Type 0 where
     holds : P (feed (e .answer) c b)
 
-  fed-says : (b : Ledger) {c : Call} (a : Answer) (st : Station) → P (feed a c b) → Fed b c (says a st)
+  leaves-says : (b : Ledger) {c : Call} (a : Answer) (st : Station) → P (feed a c b) → Leaves b c (says a st)
   unfolding says
-  fed-says b a st x = record { holds = x }
+  leaves-says b a st x = record { holds = x }
 
-  fed-stores : (b : Ledger) {c : Call} (a : Answer) (st : Station) (d n : ℕ) (r : List ℕ) → P (feed a c b) → Fed b c (saysStoring a st d n r)
+  leaves-stores : (b : Ledger) {c : Call} (a : Answer) (st : Station) (d n : ℕ) (r : List ℕ) → P (feed a c b) → Leaves b c (saysStoring a st d n r)
   unfolding saysStoring
-  fed-stores b a st d n r x = record { holds = x }
+  leaves-stores b a st d n r x = record { holds = x }
 
   module _ (cleared : (b : Ledger) → P b → P (withDrafts [] b)) where
     -- a scan needs no station
-    scanned : (s : List ℕ) (b : Ledger) → P b → Core s (b .standing) (b .past) → Fed b Scan (scan s)
+    scanned : (s : List ℕ) (b : Ledger) → P b → Core s (b .standing) (b .past) → Leaves b Scan (scan s)
     unfolding feed
-    scanned s b p core = rw (scan-is s (b .standing) (b .past) core) (fed-says b _ _ (cleared b p))
+    scanned s b p core = rw (scan-is s (b .standing) (b .past) core) (leaves-says b _ _ (cleared b p))
 
     -- ── each call ──
-    module _ (st : Station) (s : List ℕ) (b : Ledger) (inv : Inv st s b) (p : P b) (k : Keeping st b) where
-      row : {c : Call} (n : ℕ) (t : Bool) (rs : List Row) (e : Effect) → (t ≡ false → Fed b c (refusals rs st e)) → Fed b c (refusals (n when t ∷ rs) st e)
+    module _ (st : Station) (s : List ℕ) (b : Ledger) (inv : Inv st s b) (p : P b) (k : RowsKeep st b) where
+      row : {c : Call} (n : ℕ) (t : Bool) (rs : List Row) (e : Effect) → (t ≡ false → Leaves b c (refusals rs st e)) → Leaves b c (refusals (n when t ∷ rs) st e)
       unfolding feed
-      row {c} n t rs e f = guard (Fed b c) n t rs st e (fed-says b (A.Refused n 0) st p) f
+      row {c} n t rs e f = guard (Leaves b c) n t rs st e (leaves-says b (A.Refused n 0) st p) f
 
-      rest : {c : Call} (e : Effect) → Fed b c e → Fed b c (refusals [] st e)
-      rest {c} e f = unguarded (Fed b c) st e f
+      rest : {c : Call} (e : Effect) → Leaves b c e → Leaves b c (refusals [] st e)
+      rest {c} e f = unguarded (Leaves b c) st e f
 
-      choice : {c : Call} (t : Bool) (x y : Effect) → (t ≡ true → Fed b c x) → (t ≡ false → Fed b c y) → Fed b c (cond t x y)
-      choice {c} t x y f g = cond-rule (Fed b c) t x y f g
+      choice : {c : Call} (t : Bool) (x y : Effect) → (t ≡ true → Leaves b c x) → (t ≡ false → Leaves b c y) → Leaves b c (cond t x y)
+      choice {c} t x y f g = cond-rule (Leaves b c) t x y f g
 
-      feeds : (c : Call) → Allowed c → Fed b c (does c st s)
+      feeds : (c : Call) → Allowed c → Leaves b c (does c st s)
       unfolding does start put get commit step abort collect sweep stepped answered feed txnOf keyOf numberOf
-      feeds (Start t) a = row 2 _ _ _ λ h2. row 3 _ _ _ λ h3. row 6 _ _ _ λ h6. row 7 _ _ _ λ h7. rest _ (fed-says b _ _ (k .started t a (or-right _ _ h6)))
-      feeds (Put t x v) a = row 2 _ _ _ λ h2. row 3 _ _ _ λ h3. row 4 _ _ _ λ h4. row 8 _ _ _ λ h8. row 9 _ _ _ λ h9. row 11 _ _ _ λ h11. rest _ (fed-says b _ _ (k .kept t x v))
+      feeds (Start t) a = row 2 _ _ _ λ h2. row 3 _ _ _ λ h3. row 6 _ _ _ λ h6. row 7 _ _ _ λ h7. rest _ (leaves-says b _ _ (k .started t a (or-right _ _ h6)))
+      feeds (Put t x v) a = row 2 _ _ _ λ h2. row 3 _ _ _ λ h3. row 4 _ _ _ λ h4. row 8 _ _ _ λ h8. row 9 _ _ _ λ h9. row 11 _ _ _ λ h11. rest _ (leaves-says b _ _ (k .kept t x v))
       feeds (Get t x) a = row 1 _ _ _ λ h1. row 2 _ _ _ λ h2. row 3 _ _ _ λ h3. row 4 _ _ _ λ h4. row 8 _ _ _ λ h8. row 9 _ _ _ λ h9. row 12 _ _ _ λ h12. row 17 _ _ _ λ h17.
           rest _ (by-choice (choiceOf st (liveAt st (placeOf t st)) x))
         where
-          by-choice : (ch : Choice) → Fed b (Get t x) (answered st s (placeOf t st) x ch)
-          by-choice (own v) = fed-says b _ _ p
-          by-choice absent = fed-says b _ _ p
-          by-choice (nofit n) = fed-says b _ _ p
-          by-choice (version d) = fed-says b _ _ (k .read t x _)
+          by-choice : (ch : Choice) → Leaves b (Get t x) (answered st s (placeOf t st) x ch)
+          by-choice (own v) = leaves-says b _ _ p
+          by-choice absent = leaves-says b _ _ p
+          by-choice (nofit n) = leaves-says b _ _ p
+          by-choice (version d) = leaves-says b _ _ (k .read t x _)
       feeds (Commit t x) a = row 2 _ _ _ λ h2. row 3 _ _ _ λ h3. row 5 _ _ _ λ h5. row 8 _ _ _ λ h8. row 9 _ _ _ λ h9. row 13 _ _ _ λ h13. row 21 _ _ _ λ h21.
-          rest _ (choice (isHeld t st) _ _ (λ y. fed-says b _ _ (k .torn t)) λ y.
-          choice (eqb (liveAt st (placeOf t st) .«write_count») 0) _ _ (λ z. fed-says b _ _ (k .torn t)) λ z. fed-says b _ _ (k .closing t _ (not-false _ (and-first _ _ h8 (not-of-false _ y))) h9))
+          rest _ (choice (isHeld t st) _ _ (λ y. leaves-says b _ _ (k .torn t)) λ y.
+          choice (eqb (liveAt st (placeOf t st) .«write_count») 0) _ _ (λ z. leaves-says b _ _ (k .torn t)) λ z. leaves-says b _ _ (k .closing t _ (not-false _ (and-first _ _ h8 (not-of-false _ y))) h9))
       feeds (Step t) a = row 1 _ _ _ λ h1. row 2 _ _ _ λ h2. row 3 _ _ _ λ h3. row 8 _ _ _ λ h8. row 10 _ _ _ λ h10.
-          rest _ (choice (ltb (recordsStored (liveAt st (placeOf t st) .phase)) (liveAt st (placeOf t st) .«write_count»)) _ _ (λ y. fed-stores b _ _ _ _ _ p) λ y.
+          rest _ (choice (ltb (recordsStored (liveAt st (placeOf t st) .phase)) (liveAt st (placeOf t st) .«write_count»)) _ _ (λ y. leaves-stores b _ _ _ _ _ p) λ y.
           choice (eqb (recordsStored (liveAt st (placeOf t st) .phase)) (liveAt st (placeOf t st) .«write_count»)) _ _
-          (λ z. fed-stores b _ _ _ _ _ (k .slipped (committedFrom (draftOf t (b .drafts))))) λ z. fed-says b _ _ (k .torn t))
-      feeds (Abort t) a = row 2 _ _ _ λ h2. row 3 _ _ _ λ h3. row 8 _ _ _ λ h8. row 9 _ _ _ λ h9. rest _ (fed-says b _ _ (k .torn t))
+          (λ z. leaves-stores b _ _ _ _ _ (k .slipped (committedFrom (draftOf t (b .drafts))))) λ z. leaves-says b _ _ (k .torn t))
+      feeds (Abort t) a = row 2 _ _ _ λ h2. row 3 _ _ _ λ h3. row 8 _ _ _ λ h8. row 9 _ _ _ λ h9. rest _ (leaves-says b _ _ (k .torn t))
       feeds (Collect d) a = row 1 _ _ _ λ h1. row 2 _ _ _ λ h2. row 14 _ _ _ λ h14. row 15 _ _ _ λ h15. row 16 _ _ _ λ h16. row 17 _ _ _ λ h17.
-          rest _ (fed-stores b _ _ _ _ _ (k .collected d (held-txn st d (not-false _ (or-right _ _ h14))) (not-false _ h15)))
+          rest _ (leaves-stores b _ _ _ _ _ (k .collected d (held-txn st d (not-false _ (or-right _ _ h14))) (not-false _ h15)))
       feeds Scan a = scanned s b p (inv .core)
       feeds (Sweep n) a = row 1 _ _ _ λ h1. row 2 _ _ _ λ h2. row 20 _ _ _ λ h20. rest _ (record { holds = p })
 
@@ -129,7 +129,7 @@ module _ (P : Ledger → Type 0) (Allowed : Call → Type 0) where
       cut-short = λ n. cond-rule (λ (x : List Report). P (fed x b)) (leb (r .stores) n) _ _ (λ y. f .cut-short (n - r .stores)) (λ y. p);
     }
 
-    module _ (collectable : (d : ℕ) → Allowed (Collect d)) (each : (st : Station) (s : List ℕ) (b : Ledger) → Inv st s b → sound st ≡ true → P b → Keeping st b) where
+    module _ (collectable : (d : ℕ) → Allowed (Collect d)) (each : (st : Station) (s : List ℕ) (b : Ledger) → Inv st s b → sound st ≡ true → P b → RowsKeep st b) where
       collects : (n : ℕ) (st : Station) (s : List ℕ) (b : Ledger) → sound st ≡ true → Inv st s b → P b → AllFed (map reportOf (collections n st s)) b
       unfolding reportOf
       collects zero st s b h inv p = unfold collections in nothing b p
@@ -148,17 +148,10 @@ module _ (P : Ledger → Type 0) (Allowed : Call → Type 0) where
 
       -- ── a history ──
       handed-feeds : (c : Call) (n : Node) (st : Station) (s : List ℕ) (b : Ledger) → Allowed c → Core s (b .standing) (b .past) → Running n s b → handed c n ≡ some st → P b → AllFed (reports c (does c st s .answer) st s) b
-      unfolding handed isScan
+      unfolding handed
       handed-feeds c (running st₀) st s b a core r e p = subst (λ (x : Station). AllFed (reports c (does c x s .answer) x s) b) (some-inj e) (all-fed c st₀ s b a (r .0) (r .1) p)
-      handed-feeds (Start t) down st s b a core r e p = absurd (Option·none-ne-some st e)
-      handed-feeds (Put t x v) down st s b a core r e p = absurd (Option·none-ne-some st e)
-      handed-feeds (Get t x) down st s b a core r e p = absurd (Option·none-ne-some st e)
-      handed-feeds (Commit t x) down st s b a core r e p = absurd (Option·none-ne-some st e)
-      handed-feeds (Step t) down st s b a core r e p = absurd (Option·none-ne-some st e)
-      handed-feeds (Abort t) down st s b a core r e p = absurd (Option·none-ne-some st e)
-      handed-feeds (Collect d) down st s b a core r e p = absurd (Option·none-ne-some st e)
-      handed-feeds Scan down st s b a core r e p = unfold reports isSweep does in one-more _ [] b p (nothing _ (scanned s b p core .holds))
-      handed-feeds (Sweep n) down st s b a core r e p = absurd (Option·none-ne-some st e)
+      handed-feeds c down st s b a core r e p = subst (λ (x : Call). AllFed (reports x (does x st s .answer) st s) b) (sym (only-scan c st e))
+          (unfold reports isSweep does in one-more _ [] b p (nothing _ (scanned s b p core .holds)))
 
       next-feeds : (v : Event) (w : World) → Allowed (callIn v) → State w → P (w .ledger) → P (next v w .ledger)
       unfolding next callIn

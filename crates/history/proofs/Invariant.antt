@@ -89,8 +89,8 @@ abbrev pub draftIn : Ledger → ℕ → Option Draft
 draftIn b t = draftOf t (b .drafts)
 
 -- no transaction has two
-abbrev pub Once : List Draft → Type 0
-Once ps = (p : Draft) → List·Memᴰ p ps → draftOf (p .txn) ps ≡ some p
+abbrev pub OneDraft : List Draft → Type 0
+OneDraft ps = (p : Draft) → List·Memᴰ p ps → draftOf (p .txn) ps ≡ some p
 
 -- 3. read sets against entries
 abbrev pub AtomicReads : Station → Type 0
@@ -107,7 +107,7 @@ pub record Inv (st : Station) (s : List ℕ) (b : Ledger) : Type 0 where
   pub core : Core s (b .standing) (b .past)
   pub slots : Slots st s
   pub drafts : Correspond st (draftIn b)
-  pub once : Once (b .drafts)
+  pub once : OneDraft (b .drafts)
   pub reads : AtomicReads st
   pub ranges : (i : ℕ) → Ranges (liveAt st i)
 

@@ -12,13 +12,14 @@ use Rattle.model.specs.declared.Id.{Id}
 use Rattle.model.specs.declared.Entry.{Entry}
 use Rattle.model.specs.declared.Station.{Station}
 use Rattle.model.specs.Lists.{maximum}
-use Rattle.model.specs.Limits.{slots, numberRange}
+use Rattle.model.specs.Limits.{numberRange}
 use Rattle.model.specs.Lives.{closingClock}
 use Rattle.model.specs.Entries.{entryFor}
 use Rattle.model.specs.Stations.{liveAt, entryAt}
 use Rattle.model.specs.Clocks.{clocks, clockAbove}
 use Rattle.model.specs.Sound.{sound}
-use Rattle.model.proofs.ClockLaws.{maximum-mem, maximum-most, map-mem, mem-map, entry-clock, live-clock, clock-of}
+use Rattle.model.proofs.ListLaws.{map-mem, mem-map}
+use Rattle.model.proofs.ClockLaws.{maximum-mem, maximum-most, entry-clock, live-clock, clock-by}
 use Rattle.model.proofs.StationLaws.{live-in, entry-in, open-clock, closing-in}
 use Rattle.model.proofs.SoundFacts.{one-place, unheld-clockless, unused-open}
 use Rattle.history.specs.Ledger.{Draft, Committed, Ledger, clocksIn}
@@ -57,8 +58,7 @@ module _ (st : Station) (s : List ℕ) (b : Ledger) (inv : Inv st s b) (h : soun
       (r .0, draft-mem (liveAt st i .txn) (b .drafts) (r .0) (r .1), subst (λ (k : ℕ). r .0 .clock ≡ closingClock (liveAt st k .phase)) e (q .3 .clock))
 
   at-most : (n : ℕ) → List·Memᴰ n (clocks st) → n ≤ maximum (clocksIn b)
-  at-most n m = ⊎-elim (λ r. subst (λ (x : ℕ). x ≤ maximum (clocksIn b)) (r .2) (entry (r .0) (ℕ-discrete (entryAt st (r .0) .id .txn) 0)))
-      (λ r. subst (λ (x : ℕ). x ≤ maximum (clocksIn b)) (r .2) (live (r .0) (ℕ-discrete (liveAt st (r .0) .txn) 0))) (clock-of st n m)
+  at-most = clock-by st (λ (x : ℕ). x ≤ maximum (clocksIn b)) (λ d o. entry d (ℕ-discrete (entryAt st d .id .txn) 0)) (λ i o. live i (ℕ-discrete (liveAt st i .txn) 0))
     where
       entry : (d : ℕ) → Dec (entryAt st d .id .txn ≡ 0) → entryAt st d .id .clock ≤ maximum (clocksIn b)
       entry d (yes z) = omega (arith, unheld-clockless st h d z)
@@ -96,8 +96,7 @@ module _ (st : Station) (s : List ℕ) (b : Ledger) (inv : Inv st s b) (h : soun
 
   -- all of them are clocks
   pub clocks-low : (n : ℕ) → List·Memᴰ n (clocks st) → n < numberRange
-  clocks-low n m = ⊎-elim (λ r. subst (λ (x : ℕ). x < numberRange) (r .2) (entry (r .0) (ℕ-discrete (entryAt st (r .0) .id .txn) 0)))
-      (λ r. subst (λ (x : ℕ). x < numberRange) (r .2) (inv .ranges (r .0) .clock)) (clock-of st n m)
+  clocks-low = clock-by st (λ (x : ℕ). x < numberRange) (λ d o. entry d (ℕ-discrete (entryAt st d .id .txn) 0)) (λ i o. inv .ranges i .clock)
     where
       entry : (d : ℕ) → Dec (entryAt st d .id .txn ≡ 0) → entryAt st d .id .clock < numberRange
       entry d (yes z) = omega (arith, unheld-clockless st h d z)

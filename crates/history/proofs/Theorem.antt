@@ -89,17 +89,21 @@ pub record State (w : World) : Type 0 where
   pub runs : Running (w .node) (w .store) (w .ledger)
 
 -- the one call of a station that is down
-down-scan : (c : Call) (s : List ℕ) (b : Ledger) (st : Station) → Core s (b .standing) (b .past) → handed c down ≡ some st → Owed c st s b × (sound (does c st s .station) ≡ true)
-unfolding handed isScan does reports isSweep
-down-scan (Start t) s b st core e = absurd (Option·none-ne-some st e)
-down-scan (Put t k v) s b st core e = absurd (Option·none-ne-some st e)
-down-scan (Get t k) s b st core e = absurd (Option·none-ne-some st e)
-down-scan (Commit t c) s b st core e = absurd (Option·none-ne-some st e)
-down-scan (Step t) s b st core e = absurd (Option·none-ne-some st e)
-down-scan (Abort t) s b st core e = absurd (Option·none-ne-some st e)
-down-scan (Collect d) s b st core e = absurd (Option·none-ne-some st e)
-down-scan Scan s b st core e = (good-reported s b Scan _ (scan-keeps s b core), sound-scan s)
-down-scan (Sweep n) s b st core e = absurd (Option·none-ne-some st e)
+pub only-scan : (c : Call) (st : Station) → handed c down ≡ some st → c ≡ Scan
+unfolding handed isScan
+only-scan (Start t) st e = absurd (Option·none-ne-some st e)
+only-scan (Put t k v) st e = absurd (Option·none-ne-some st e)
+only-scan (Get t k) st e = absurd (Option·none-ne-some st e)
+only-scan (Commit t c) st e = absurd (Option·none-ne-some st e)
+only-scan (Step t) st e = absurd (Option·none-ne-some st e)
+only-scan (Abort t) st e = absurd (Option·none-ne-some st e)
+only-scan (Collect d) st e = absurd (Option·none-ne-some st e)
+only-scan Scan st e = refl
+only-scan (Sweep n) st e = absurd (Option·none-ne-some st e)
+
+scan-owed : (s : List ℕ) (b : Ledger) (st : Station) → Core s (b .standing) (b .past) → Owed Scan st s b × (sound (does Scan st s .station) ≡ true)
+unfolding does reports isSweep
+scan-owed s b st core = (good-reported s b Scan _ (scan-keeps s b core), sound-scan s)
 
 -- a call that is handed a station does what it owes
 pub handed-keeps : (c : Call) (s : List ℕ) (b : Ledger) (k : Node) (st : Station) → InRange c → Core s (b .standing) (b .past) → Running k s b → handed c k ≡ some st
@@ -107,7 +111,7 @@ pub handed-keeps : (c : Call) (s : List ℕ) (b : Ledger) (k : Node) (st : Stati
 unfolding handed
 handed-keeps c s b (running st₀) st f core r e =
     subst (λ (x : Station). Owed c x s b × (sound (does c x s .station) ≡ true)) (some-inj e) (call-keeps c st₀ s b f (r .0) (r .1), sound-kept c st₀ s (r .0))
-handed-keeps c s b down st f core r e = unfold handed in down-scan c s b st core e
+handed-keeps c s b down st f core r e = subst (λ (x : Call). Owed x st s b × (sound (does x st s .station) ≡ true)) (sym (only-scan c st e)) (scan-owed s b st core)
 
 pub called-keeps : (c : Call) (w : World) → InRange c → State w → State (next (called c) w)
 unfolding next

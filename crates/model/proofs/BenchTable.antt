@@ -56,19 +56,19 @@ pub versions : ℕ → List Write → List Line
 versions t [] = []
 versions t (x ∷ xs) = (Step t, A.Stored (x .key)) ∷ versions t xs
 
--- transaction t from its start to its last version record, in slot d; to its commit record; to its end
+-- transaction t from its start to its last version record, in slot d; to its commit record; to its end, with the clock that it takes
 pub begun : ℕ → ℕ → ℕ → List Write → List Line
 begun t c d ws = (Start t, A.Started) ∷ puts t ws ++ ((Commit t c, A.Closing d) ∷ versions t ws)
 
 pub slipped : ℕ → ℕ → ℕ → List Write → List Line
 slipped t c d ws = begun t c d ws ++ ((Step t, A.Slipped d) ∷ [])
 
-pub whole : ℕ → ℕ → ℕ → List Write → List Line
-whole t c d ws = slipped t c d ws ++ ((Step t, A.Done (id c t)) ∷ [])
-
--- to its end with another clock than the one given
 pub taking : ℕ → ℕ → ℕ → ℕ → List Write → List Line
 taking t given taken d ws = slipped t given d ws ++ ((Step t, A.Done (id taken t)) ∷ [])
+
+-- which takes the clock given
+pub whole : ℕ → ℕ → ℕ → List Write → List Line
+whole t c d ws = taking t c c d ws
 
 abbrev K : ℕ
 K = 11
@@ -90,9 +90,13 @@ pub record Case : Type 0 where
 abbrev fresh : List Line → Case
 fresh ls = record { held = []; lines = ls }
 
+-- an entry of K alone
+abbrev keyed : Id → Entry
+keyed i = record { id = i; count = 1; keys = K ∷ replicate 7 0 }
+
 pub storing : List (ℕ × Id × ℕ) → List ℕ
 storing [] = replicate storeSize 0
-storing (h ∷ hs) = withRecord (withRecord (storing hs) (h .0) 1 (versionRecord K (h .1) (h .2))) (h .0) 0 (commitRecord (record { id = h .1; count = 1; keys = K ∷ replicate 7 0 }))
+storing (h ∷ hs) = withRecord (withRecord (storing hs) (h .0) 1 (versionRecord K (h .1) (h .2))) (h .0) 0 (commitRecord (keyed (h .1)))
 
 -- a row each, in 01's order and from 01's own state
 pub starred : List Case
@@ -195,12 +199,9 @@ no-clock-left-holds = refl
 
 -- ── 13 before 21, on stations with every slot held but the last so many ──
 -- the first of n entries has clock c, the others clocks from 1; transaction 900 has put K, 901 nothing
-pub keyed : ℕ → ℕ → Entry
-keyed c t = record { id = id c t; count = 1; keys = K ∷ replicate 7 0 }
-
 pub crowded : ℕ → ℕ → Station
 crowded n c =
-    setLive (setLive (idleStation (padded noEntry slots (keyed c 800 ∷ from n 1 (λ i. keyed i i)))) 0 (withWrites (w K 9 ∷ []) (blank 900 Open))) 1 (blank 901 Open)
+    setLive (setLive (idleStation (padded noEntry slots (keyed (id c 800) ∷ from n 1 (λ i. keyed (id i i))))) 0 (withWrites (w K 9 ∷ []) (blank 900 Open))) 1 (blank 901 Open)
 
 pub answered-at : Station → List Answer
 answered-at st = commit st 900 5 .answer ∷ commit st 901 5 .answer ∷ commit st 800 5 .answer ∷ []
@@ -209,7 +210,7 @@ answered-at st = commit st 900 5 .answer ∷ commit st 901 5 .answer ∷ commit 
 pub thirteen-first : answered-at (crowded 63 lastClock) ∷ answered-at (crowded 63 70) ∷ answered-at (crowded 62 lastClock) ∷ answered-at (crowded 62 62) ∷ []
     ≡ (A.Refused 13 0 ∷ A.Empty ∷ A.Done (id lastClock 800) ∷ []) ∷ (A.Refused 13 0 ∷ A.Empty ∷ A.Done (id 70 800) ∷ [])
     ∷ (A.Refused 21 0 ∷ A.Empty ∷ A.Done (id lastClock 800) ∷ []) ∷ (A.Closing 63 ∷ A.Empty ∷ A.Done (id 62 800) ∷ []) ∷ []
-unfolding keyed crowded answered-at _and_ _or_ all any first from padded member ascending distinct same anyBelow greatestBelow sameId maximum clocks clockAbove writesOf readsOf keysOf isClosing closingSlot closingClock recordsStored liveAt entryAt setLive liveTxns heldTxns isLive isHeld placeOf slotOf holds slotMark closingSlots isFree entryRules isNoWrite isNoRead isNoEntry isNoLive zeroPastCounts setsRight names inUse closingRight placeRight entryRight sound says refusals unsound withWrites withPhase highestFree commit
+unfolding crowded answered-at _and_ _or_ all any first from padded member ascending distinct same anyBelow greatestBelow sameId maximum clocks clockAbove writesOf readsOf keysOf isClosing closingSlot closingClock recordsStored liveAt entryAt setLive liveTxns heldTxns isLive isHeld placeOf slotOf holds slotMark closingSlots isFree entryRules isNoWrite isNoRead isNoEntry isNoLive zeroPastCounts setsRight names inUse closingRight placeRight entryRight sound says refusals unsound withWrites withPhase highestFree commit
 thirteen-first = refl
 
 -- ── Algorithm 1 alone, on entries and reads as no history makes them ──

@@ -1,7 +1,7 @@
 -- 02 §3: the clock that a closing transaction takes.
 use Prim.Native.Nat.{ℕ, _+_, _<_, _≤_, zero-le}
 use mathlib.Core.Path.{_≡_, refl, sym, ap, subst, _∙_}
-use mathlib.Core.Logic.{_≢_, _⊎_, inl, inr, ⊎-elim}
+use mathlib.Core.Logic.{_≢_, ⊎-elim}
 use mathlib.Core.Bool.{Bool, true, false, true≢false}
 use mathlib.Core.List.{List, [], _∷_, map, List·Memᴰ, List·Memᴰ·head, List·Memᴰ·tail, List·Memᴰ·not-nil, List·Memᴰ·cases-cons, Memᴰ·append-left, Memᴰ·append-right, List·Memᴰ·append-cases}
 use lib.Dec.{eqb}
@@ -17,7 +17,7 @@ use Rattle.model.specs.Lives.{closingClock, liveBeyond}
 use Rattle.model.specs.Entries.{entryBeyond}
 use Rattle.model.specs.Stations.{liveAt, entryAt}
 use Rattle.model.specs.Clocks.{entryClock, liveClock, clocks, clockAbove}
-use Rattle.model.proofs.ListLaws.{getD-mem, mem-getD, any-none, member-finds}
+use Rattle.model.proofs.ListLaws.{getD-mem, mem-getD, any-none, member-finds, map-mem, mem-map}
 use Rattle.model.proofs.StationLaws.{live-out, entry-out}
 
 -- ── the greatest of a list ──
@@ -52,16 +52,6 @@ greatest-is ns b z o = go (member b ns) refl
         eq-eqb (maximum ns) b (omega (arith, o, maximum-mem ns b (subst (λ (n : ℕ). List·Memᴰ n ns) (r .1) (getD-mem ns (first (eqb b) ns) 0 (r .0)))))
     go false h = ne-eqb (maximum ns) b (λ e. true≢false (sym (eq-eqb b b refl) ∙ any-none (eqb b) ns h b (subst (λ (n : ℕ). List·Memᴰ n ns) e (maximum-in ns (λ y. z (sym e ∙ y))))))
 
--- ── a list mapped ──
-module _ {A : Type 0} (f : A → ℕ) where
-  pub map-mem : (xs : List A) (x : A) → List·Memᴰ x xs → List·Memᴰ (f x) (map f xs)
-  map-mem [] x m = absurd (List·Memᴰ·not-nil m)
-  map-mem (y ∷ ys) x m = ⊎-elim (λ e. List·Memᴰ·head (ap f e)) (λ r. List·Memᴰ·tail (map-mem ys x r)) (List·Memᴰ·cases-cons m)
-
-  pub mem-map : (xs : List A) (n : ℕ) → List·Memᴰ n (map f xs) → (x : A) × List·Memᴰ x xs × (f x ≡ n)
-  mem-map [] n m = absurd (List·Memᴰ·not-nil m)
-  mem-map (y ∷ ys) n m = ⊎-elim (λ e. (y, List·Memᴰ·head refl, sym e)) (λ r. let x = mem-map ys n r in (x .0, List·Memᴰ·tail (x .1), x .2)) (List·Memᴰ·cases-cons m)
-
 -- ── the clock taken ──
 pub last-clock : lastClock + 1 ≡ numberRange
 last-clock = refl
@@ -94,12 +84,13 @@ module _ (st : Station) where
   unfolding clocks liveAt
   live-clock i o = Memᴰ·append-right (map entryClock (st .entries)) (map-mem liveClock (st .live) _ (getD-mem (st .live) i liveBeyond o))
 
-  -- and no others
-  pub clock-of : (n : ℕ) → List·Memᴰ n (clocks st) → ((d : ℕ) × (d < length (st .entries)) × (entryAt st d .id .clock ≡ n)) ⊎ ((i : ℕ) × (i < length (st .live)) × (closingClock (liveAt st i .phase) ≡ n))
+  -- and no others: what holds of each holds of all
+  pub clock-by : (P : ℕ → Type 0) → ((d : ℕ) → d < length (st .entries) → P (entryAt st d .id .clock)) → ((i : ℕ) → i < length (st .live) → P (closingClock (liveAt st i .phase)))
+      → (n : ℕ) → List·Memᴰ n (clocks st) → P n
   unfolding clocks entryAt liveAt
-  clock-of n m = ⊎-elim
-      (λ x. let f = mem-map entryClock (st .entries) n x in let r = mem-getD (st .entries) (f .0) entryBeyond (f .1) in inl (r .0, r .1, ap entryClock (r .2) ∙ f .2))
-      (λ x. let f = mem-map liveClock (st .live) n x in let r = mem-getD (st .live) (f .0) liveBeyond (f .1) in inr (r .0, r .1, ap liveClock (r .2) ∙ f .2))
+  clock-by P f g n m = ⊎-elim
+      (λ x. let y = mem-map entryClock (st .entries) n x in let r = mem-getD (st .entries) (y .0) entryBeyond (y .1) in subst P (ap entryClock (r .2) ∙ y .2) (f (r .0) (r .1)))
+      (λ x. let y = mem-map liveClock (st .live) n x in let r = mem-getD (st .live) (y .0) liveBeyond (y .1) in subst P (ap liveClock (r .2) ∙ y .2) (g (r .0) (r .1)))
       (List·Memᴰ·append-cases (map entryClock (st .entries)) m)
 
   -- what lies past the last slot or place has the clock 0

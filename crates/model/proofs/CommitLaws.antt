@@ -33,7 +33,6 @@ third false false st st₁ st₂ i d d′ h = (refl, refl, cc, refl)
 
 pub record Closes (st : Station) (t c d : ℕ) : Type 0 where
   pub effect : commit st t c ≡ says (A.Closing d) (setLive st (placeOf t st) (withPhase (Closing d (clockAbove c (clocks st)) 0) (liveAt st (placeOf t st))))
-  pub unheld : isHeld t st ≡ false
   pub next : member lastClock (clocks st) ≡ false
 
 pub commit-closes : (st : Station) (t c d : ℕ) → commit st t c .answer ≡ A.Closing d → Closes st t c d
@@ -44,7 +43,6 @@ commit-closes st t c d h =
     let r21 = row-off 21 _ _ (row-off 13 _ _ (row-off 9 _ _ (row-off 8 _ _ (row-off 5 _ _ (row-off 3 _ _ (row-off 2 _ _ (a .0) .1) .1) .1) .1) .1) .1) in
     record {
       effect = a .1 ∙ (r .3 ∙ ap (λ (u : ℕ). says (A.Closing u) (setLive st (placeOf t st) (withPhase (Closing u (clockAbove c (clocks st)) 0) (liveAt st (placeOf t st))))) (r .2));
-      unheld = r .0;
       next = and-second _ _ (r21 .0) (le-leb 1 (liveAt st (placeOf t st) .«write_count») (omega (arith, eqb-false (liveAt st (placeOf t st) .«write_count») 0 (r .1))));
     }
 

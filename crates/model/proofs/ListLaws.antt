@@ -303,6 +303,16 @@ module _ {A : Type 0} where
     all-map p q g [] h = refl
     all-map p q g (x ∷ xs) h = all-cons q (f x) (map f xs) (g x (all-head p x xs h)) (all-map p q g xs (all-tail p x xs h))
 
+-- ── the numbers of a list's elements ──
+module _ {A : Type 0} (f : A → ℕ) where
+  pub map-mem : (xs : List A) (x : A) → List·Memᴰ x xs → List·Memᴰ (f x) (map f xs)
+  map-mem [] x m = absurd (List·Memᴰ·not-nil m)
+  map-mem (y ∷ ys) x m = ⊎-elim (λ e. List·Memᴰ·head (ap f e)) (λ r. List·Memᴰ·tail (map-mem ys x r)) (List·Memᴰ·cases-cons m)
+
+  pub mem-map : (xs : List A) (n : ℕ) → List·Memᴰ n (map f xs) → (x : A) × List·Memᴰ x xs × (f x ≡ n)
+  mem-map [] n m = absurd (List·Memᴰ·not-nil m)
+  mem-map (y ∷ ys) n m = ⊎-elim (λ e. (y, List·Memᴰ·head refl, sym e)) (λ r. let x = mem-map ys n r in (x .0, List·Memᴰ·tail (x .1), x .2)) (List·Memᴰ·cases-cons m)
+
 -- ── all elements have a property (specs/Ranges) ──
 module _ {A : Type 0} (P : A → Type 0) where
   pub every-at : (xs : List A) → Every P xs → (i : ℕ) (d : A) → i < length xs → P (getD xs i d)

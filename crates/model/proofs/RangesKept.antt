@@ -1,7 +1,7 @@
 -- A station within its types stays so under every call, and a store of bytes stays one of bytes.
 use Prim.Native.Nat.{ℕ, zero, suc, _+_, _*_, _/_, _^_, _<_, _≤_}
-use mathlib.Core.Path.{_≡_, refl, sym, subst, _∙_}
-use mathlib.Core.Logic.{_⊎_, inl, inr, ⊎-elim}
+use mathlib.Core.Path.{_≡_, refl, sym, _∙_}
+use mathlib.Core.Logic.{_⊎_, inl, inr}
 use mathlib.Core.Bool.{Bool, true, false, not}
 use mathlib.Core.List.{List, [], _∷_, map, List·Memᴰ}
 use lib.Dec.{eqb, ltb, leb, lit<}
@@ -46,7 +46,7 @@ use Rattle.model.proofs.InsertLaws.{every-insert, padded-length, every-
 use Rattle.model.proofs.RefusalLaws.{guard, unguarded, cond-rule}
 use Rattle.model.proofs.ScanLaws.{entries-length}
 use Rattle.model.proofs.StationLaws.{place-hit}
-use Rattle.model.proofs.ClockLaws.{clock-below, clock-of}
+use Rattle.model.proofs.ClockLaws.{clock-below, clock-by}
 use Rattle.model.proofs.GetLaws.{version-entry, version-wrote}
 use Rattle.model.proofs.SoundLaws.{Used, write-limit, read-limit, used-withWrite, used-withRead}
 use Rattle.model.proofs.SoundFacts.{live-facts}
@@ -300,8 +300,7 @@ module _ (st : Station) (f : StationFits st) where
   -- the clocks of entries and closing transactions, and the next one while there is one
   pub clocks-fit : (n : ℕ) → List·Memᴰ n (clocks st) → n < numberRange
   unfolding liveAt
-  clocks-fit n m = ⊎-elim (λ r. subst (λ (x : ℕ). x < numberRange) (r .2) (entry-fits (r .0) (r .1) .id .clock64))
-      (λ r. subst (λ (x : ℕ). x < numberRange) (r .2) (every-at LiveFits (st .live) (f .live) (r .0) _ (r .1) .phase .clock64)) (clock-of st n m)
+  clocks-fit = clock-by st (λ (x : ℕ). x < numberRange) (λ d o. entry-fits d o .id .clock64) (λ i o. every-at LiveFits (st .live) (f .live) i _ o .phase .clock64)
 
   clock-fits : (c : ℕ) → c < numberRange → member lastClock (clocks st) ≡ false → clockAbove c (clocks st) < numberRange
   clock-fits c o h = clock-below c (clocks st) o clocks-fit h

@@ -373,24 +373,24 @@ pub entry-of-rules : (e : Entry) → entryRules e ≡ true → entryRight e ≡ 
 unfolding entryRight
 entry-of-rules e h = or-intro-right _ _ h
 
--- a right entry with number 0 wrote nothing
-pub unheld-wrote : (e : Entry) → entryRight e ≡ true → e .id .txn ≡ 0 → (k : ℕ) → wrote e k ≡ false
-unfolding entryRight isNoEntry entryRules
-unheld-wrote e h z k = ⊎-elim
-    (λ n. none (eqb-true _ _ (and-right _ _ (and-left _ _ n))))
+-- a right entry with number 0 is unused: it wrote nothing, and has no clock
+unheld-none : (e : Entry) → entryRight e ≡ true → e .id .txn ≡ 0 → isNoEntry e ≡ true
+unfolding entryRight entryRules
+unheld-none e h z = ⊎-elim
+    (λ n. n)
     (λ n. absurd (lt-irrefl 0 (omega (arith, z, leb-true 1 (e .id .txn) (and-right _ _ (and-left _ _ (and-left _ _ (and-left _ _ n))))))))
     (or-cases _ _ h)
+
+pub unheld-wrote : (e : Entry) → entryRight e ≡ true → e .id .txn ≡ 0 → (k : ℕ) → wrote e k ≡ false
+unfolding isNoEntry
+unheld-wrote e h z k = none (eqb-true _ _ (and-right _ _ (and-left _ _ (unheld-none e h z))))
   where
     none : e .count ≡ 0 → wrote e k ≡ false
     none q = unfold wrote keysOf member any in rw q
 
--- and has no clock
 pub unheld-clock : (e : Entry) → entryRight e ≡ true → e .id .txn ≡ 0 → e .id .clock ≡ 0
-unfolding entryRight isNoEntry entryRules sameId
-unheld-clock e h z = ⊎-elim
-    (λ n. eqb-true _ _ (and-left _ _ (and-left _ _ (and-left _ _ n))))
-    (λ n. absurd (lt-irrefl 0 (omega (arith, z, leb-true 1 (e .id .txn) (and-right _ _ (and-left _ _ (and-left _ _ (and-left _ _ n))))))))
-    (or-cases _ _ h)
+unfolding isNoEntry sameId
+unheld-clock e h z = eqb-true _ _ (and-left _ _ (and-left _ _ (and-left _ _ (unheld-none e h z))))
 
 -- a read names what it named, where the entry that is replaced is none that it names
 pub names-setEntry : (st : Station) (d : ℕ) (e : Entry) (r : Read) → names (st .entries) r ≡ true

@@ -44,9 +44,9 @@ txnRange = 2 ^ 32
 abbrev pub numberRange : ℕ
 numberRange = 2 ^ 64
 
+abbrev pub byteRange : ℕ
+byteRange = 2 ^ 8
+
 -- "Clock: 1 to 2^64 − 1": that number, after which there is no clock (written out: the table computes with it often; ClockLaws, `last-clock`)
 abbrev pub lastClock : ℕ
 lastClock = 18446744073709551615
-
-abbrev pub byteRange : ℕ
-byteRange = 2 ^ 8
