@@ -45,7 +45,7 @@ fn edge(r: &mut Random) -> String {
 /// A call on few transactions, keys and slots, so that calls meet.
 fn call(r: &mut Random, txns: u64, keys: u64) -> String {
     let (t, k) = (1 + r.below(txns), r.below(keys));
-    let clock = if r.one_in(200) { u64::MAX - r.below(3) } else { 1 + r.below(12) };
+    let clock = if r.one_in(60) { u64::MAX - r.below(3) } else { 1 + r.below(12) };
     match r.below(20) {
         0..=1 => format!("start,{t},0,0"),
         2..=5 => format!("put,{t},{k},{}", r.below(1000)),
