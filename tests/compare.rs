@@ -42,13 +42,24 @@ fn edge(r: &mut Random) -> String {
     (n + u128::from(r.below(3))).saturating_sub(1).to_string()
 }
 
+/// A value of any count of digits, every other one at the least or the greatest of its count.
+fn value(r: &mut Random) -> u64 {
+    let power = 10u64.pow(r.below(20) as u32);
+    match r.below(4) {
+        0 => power,
+        1 => power - 1,
+        2 => r.next() % power,
+        _ => r.next(),
+    }
+}
+
 /// A call on few transactions, keys and slots, so that calls meet.
 fn call(r: &mut Random, txns: u64, keys: u64) -> String {
     let (t, k) = (1 + r.below(txns), r.below(keys));
     let clock = if r.one_in(60) { u64::MAX - r.below(3) } else { 1 + r.below(12) };
     match r.below(20) {
         0..=1 => format!("start,{t},0,0"),
-        2..=5 => format!("put,{t},{k},{}", r.below(1000)),
+        2..=5 => format!("put,{t},{k},{}", value(r)),
         6..=9 => format!("get,{t},{k},0"),
         10 => format!("commit,{t},0,{clock}"),
         11..=16 => format!("step,{t},0,0"),
@@ -179,8 +190,12 @@ fn differ(what: &str, input: &[u8], ours: &[u8], theirs: &[u8]) -> ! {
     std::process::exit(1);
 }
 
-/// The answers that came up: each word, and each number of a refusal.
-type Seen = BTreeMap<String, usize>;
+/// What came up: how often each word and each number of a refusal, and how often a number of each count of digits.
+#[derive(Default)]
+struct Seen {
+    answers: BTreeMap<String, usize>,
+    digits: [usize; 21],
+}
 
 fn compare(what: &str, path: &str, input: &[u8], pieces: &[usize], pause: bool, seen: &mut Seen) {
     let mut theirs = Vec::new();
@@ -192,16 +207,18 @@ fn compare(what: &str, path: &str, input: &[u8], pieces: &[usize], pause: bool, 
     for line in String::from_utf8(theirs).expect("ASCII").lines().skip(1) {
         let fields: Vec<&str> = line.split(',').collect();
         let name = if fields[1] == "refused" { fields[2] } else { fields[1] };
-        *seen.entry(name.to_string()).or_default() += 1;
+        *seen.answers.entry(name.to_string()).or_default() += 1;
+        fields[2..].iter().for_each(|f| seen.digits[f.len()] += 1);
     }
 }
 
-/// A comparison that never met some answer shows less than it says.
+/// A comparison that never met some answer, or a number of some count of digits, shows less than it says.
 fn expect_all(seen: &Seen) {
     let words = "started kept own version none nofit closing empty done stored slipped dropped collected found 3 4 5 6 7 8 9 10 11 12 13 14 15 16 19 21";
-    let missing: Vec<&str> = words.split(' ').filter(|w| !seen.contains_key(*w)).collect();
-    if !missing.is_empty() {
-        eprintln!("TOO FEW: no sheet was answered by {missing:?}");
+    let missing: Vec<&str> = words.split(' ').filter(|w| !seen.answers.contains_key(*w)).collect();
+    let counts: Vec<usize> = (1..=20).filter(|n| seen.digits[*n] == 0).collect();
+    if !missing.is_empty() || !counts.is_empty() {
+        eprintln!("TOO FEW: no sheet was answered by {missing:?}, or with a number of {counts:?} digits");
         std::process::exit(1);
     }
 }
@@ -209,7 +226,7 @@ fn expect_all(seen: &Seen) {
 fn main() {
     let args: Vec<String> = std::env::args().collect();
     let (path, seed, count) = (&args[1], args[2].parse::<u64>().expect("a seed"), args[3].parse::<u64>().expect("a count"));
-    let mut seen = Seen::new();
+    let mut seen = Seen::default();
     for n in seed..seed + count {
         let mut r = Random(n);
         let input = make(&mut r);
@@ -224,6 +241,6 @@ fn main() {
     if count >= 1000 {
         expect_all(&seen);
     }
-    let (sheets, lines) = (count + example.len() as u64 + 1, seen.values().sum::<usize>());
+    let (sheets, lines) = (count + example.len() as u64 + 1, seen.answers.values().sum::<usize>());
     println!("{sheets} random sheets of {lines} lines: the program and the model wrote the same bytes");
 }

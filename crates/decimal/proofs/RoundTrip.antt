@@ -1,31 +1,24 @@
 -- A decimal that is read is its number's digits, and a number's digits are read as the number.
-use Prim.Native.Nat.{ℕ, zero, suc, _+_, _*_, _-_, _/_, _%_, _<_, _≤_}
+use Prim.Native.Nat.{ℕ, suc, _+_, _*_, _-_, _/_, _%_, _<_, _≤_}
 use mathlib.Core.Path.{_≡_, refl, sym, ap, ap₂, _∙_}
 use mathlib.Core.Logic.{_≢_, ⊎-elim}
 use mathlib.Core.Bool.{true, false, not}
 use mathlib.Core.List.{List, [], _∷_, _++_, append-nil, append-assoc}
 use mathlib.Core.Option.{some}
-use lib.Dec.{eqb, leb}
+use lib.Dec.{eqb}
 use lib.ListN.{length, getD}
 use native.Mathlib.Nat.{not-suc-le-zero, suc-ne-zero, zero-lt-suc, lt-irrefl, le-refl}
 use native.Mathlib.Decide.{decLt}
 use native.Mathlib.Omega.{arith}
-use borrow.Author.Tests.{leb-true, eqb-true, eqb-false, not-true, lt-ltb, le-ltb, le-leb, eq-eqb, ne-eqb}
+use borrow.Author.Tests.{leb-true, eqb-true, eqb-false, not-true, lt-ltb, le-leb, eq-eqb, ne-eqb}
 use Rattle.model.specs.Lists.{_and_, _or_, all}
 use Rattle.model.proofs.Tests.{and-left, and-right, and-intro, or-cases, or-intro-left, or-intro-right, not-of-false}
 use Rattle.model.proofs.ListLaws.{all-head, all-tail, all-cons}
-use Rattle.decimal.specs.Digits.{digitsOf, digits, isDigit, numberFrom, isDecimal, numberBelow}
+use Rattle.decimal.specs.Digits.{digits, isDigit, numberFrom, isDecimal, numberBelow}
 use Rattle.decimal.specs.Fields.{field}
 use Rattle.decimal.proofs.FieldLaws.{field-yes}
 use Rattle.decimal.proofs.ReadLaws.{digits-field}
-
-digits-small : (m n : ℕ) → n < 10 → digitsOf (suc m) n ≡ (48 + n) ∷ []
-unfolding digitsOf
-digits-small m n h = rw (lt-ltb n 10 h)
-
-digits-large : (m n : ℕ) → 10 ≤ n → digitsOf (suc m) n ≡ digitsOf m (n / 10) ++ ((48 + n % 10) ∷ [])
-unfolding digitsOf
-digits-large m n h = rw (le-ltb n 10 h)
+use Rattle.decimal.proofs.DigitLaws.{by-tenths, digits-small, digits-large, count-small}
 
 -- ── printed, then read ──
 number-last : (n b : ℕ) (bs : List ℕ) → numberFrom n (bs ++ (b ∷ [])) ≡ numberFrom n bs * 10 + (b - 48)
@@ -33,22 +26,19 @@ unfolding numberFrom
 number-last n b [] = refl
 number-last n b (x ∷ bs) = number-last (n * 10 + (x - 48)) b bs
 
-number-of : (m n : ℕ) → n < m → numberFrom 0 (digitsOf m n) ≡ n
-unfolding numberFrom
-number-of zero n o = absurd (not-suc-le-zero o)
-number-of (suc m) n o = go (decLt n 10) (number-of m (n / 10))
-  where
-    go : Dec (n < 10) → (n / 10 < m → numberFrom 0 (digitsOf m (n / 10)) ≡ n / 10) → numberFrom 0 (digitsOf (suc m) n) ≡ n
-    go (yes h) ih = ap (numberFrom 0) (digits-small m n h) ∙ omega arith
-    go (no h) ih =
-        ap (numberFrom 0) (digits-large m n (omega arith))
-        ∙ number-last 0 (48 + n % 10) (digitsOf m (n / 10))
-        ∙ ap (λ (x : ℕ). x * 10 + (48 + n % 10 - 48)) (ih (omega arith))
-        ∙ omega arith
-
 pub number-digits : (n : ℕ) → numberFrom 0 (digits n) ≡ n
-unfolding digits
-number-digits n = number-of (suc n) n (le-refl _)
+unfolding numberFrom
+number-digits = by-tenths (λ n. numberFrom 0 (digits n) ≡ n) one more
+  where
+    one : (n : ℕ) → n < 10 → numberFrom 0 (digits n) ≡ n
+    one n h = ap (numberFrom 0) (digits-small n h) ∙ omega arith
+
+    more : (n : ℕ) → 10 ≤ n → numberFrom 0 (digits (n / 10)) ≡ n / 10 → numberFrom 0 (digits n) ≡ n
+    more n h ih =
+        ap (numberFrom 0) (digits-large n h)
+        ∙ number-last 0 (48 + n % 10) (digits (n / 10))
+        ∙ ap (λ (x : ℕ). x * 10 + (48 + n % 10 - 48)) ih
+        ∙ omega arith
 
 -- digits are a decimal: digits only, and the first is not 0 where the number is not
 digit-of : (n : ℕ) → n < 10 → isDigit (48 + n) ≡ true
@@ -67,32 +57,26 @@ shaped-last : (b : ℕ) (ds : List ℕ) (n m : ℕ) → 0 < m → isDigit b ≡ 
 shaped-last b [] n m o d h = absurd (not-suc-le-zero (h .1))
 shaped-last b (x ∷ ds) n m o d h = (all-last b (x ∷ ds) (h .0) d, zero-lt-suc _, λ q. h .2 o)
 
-shaped : (m n : ℕ) → n < m → Shaped (digitsOf m n) n
+shaped : (n : ℕ) → Shaped (digits n) n
 unfolding all
-shaped zero n o = absurd (not-suc-le-zero o)
-shaped (suc m) n o = go (decLt n 10) (shaped m (n / 10))
+shaped = by-tenths (λ n. Shaped (digits n) n) one more
   where
-    go : Dec (n < 10) → (n / 10 < m → Shaped (digitsOf m (n / 10)) (n / 10)) → Shaped (digitsOf (suc m) n) n
-    go (yes h) ih = rw (digits-small m n h) (all-last (48 + n) [] refl (digit-of n h), le-refl 1, λ q e. lt-irrefl 48 (omega arith))
-    go (no h) ih = rw (digits-large m n (omega arith)) (shaped-last (48 + n % 10) (digitsOf m (n / 10)) n (n / 10) (omega arith) (digit-of (n % 10) (omega arith)) (ih (omega arith)))
+    one : (n : ℕ) → n < 10 → Shaped (digits n) n
+    one n h = rw (digits-small n h) (all-last (48 + n) [] refl (digit-of n h), le-refl 1, λ q e. lt-irrefl 48 (omega arith))
+
+    more : (n : ℕ) → 10 ≤ n → Shaped (digits (n / 10)) (n / 10) → Shaped (digits n) n
+    more n h ih = rw (digits-large n h) (shaped-last (48 + n % 10) (digits (n / 10)) n (n / 10) (omega arith) (digit-of (n % 10) (omega arith)) ih)
 
 pub digits-all : (n : ℕ) → all isDigit (digits n) ≡ true
-unfolding digits
-digits-all n = shaped (suc n) n (le-refl _) .0
+digits-all n = shaped n .0
 
 pub digits-decimal : (n : ℕ) → isDecimal (digits n) ≡ true
-unfolding isDecimal digits
-digits-decimal n = go (decLt n 10)
+unfolding isDecimal
+digits-decimal n = and-intro _ _ (and-intro _ _ (le-leb 1 (length (digits n)) (shaped n .1)) (digits-all n)) (opening (decLt n 10))
   where
-    h : Shaped (digitsOf (suc n) n) n
-    h = shaped (suc n) n (le-refl _)
-
-    body : (leb 1 (length (digitsOf (suc n) n)) and all isDigit (digitsOf (suc n) n)) ≡ true
-    body = and-intro _ _ (le-leb 1 (length (digitsOf (suc n) n)) (h .1)) (h .0)
-
-    go : Dec (n < 10) → isDecimal (digitsOf (suc n) n) ≡ true
-    go (yes o) = and-intro _ _ body (or-intro-left _ _ (eq-eqb (length (digitsOf (suc n) n)) 1 (ap length (digits-small n n o))))
-    go (no o) = and-intro _ _ body (or-intro-right _ _ (not-of-false _ (ne-eqb (getD (digitsOf (suc n) n) 0 0) 48 (h .2 (omega arith)))))
+    opening : Dec (n < 10) → (eqb (length (digits n)) 1 or not (eqb (getD (digits n) 0 0) 48)) ≡ true
+    opening (yes o) = or-intro-left _ _ (eq-eqb (length (digits n)) 1 (count-small n o))
+    opening (no o) = or-intro-right _ _ (not-of-false _ (ne-eqb (getD (digits n) 0 0) 48 (shaped n .2 (omega arith))))
 
 -- a number below a bound is read from its digits
 pub read-digits : (bound n : ℕ) → n < bound → numberBelow bound (digits n) ≡ some n
@@ -105,30 +89,15 @@ field-digits end z n rest =
     digits-field end z (digits n) (end ∷ rest) (digits-all n) ∙ ap (λ (l : List ℕ). digits n ++ l) (field-yes end end rest (eq-eqb end end refl)) ∙ append-nil (digits n)
 
 -- ── read, then printed ──
--- more steps than a number has digits make no difference
-enough : (m k n : ℕ) → n < m → n < k → digitsOf m n ≡ digitsOf k n
-enough zero k n o p = absurd (not-suc-le-zero o)
-enough (suc m) zero n o p = absurd (not-suc-le-zero p)
-enough (suc m) (suc k) n o p = go (decLt n 10) (enough m k (n / 10))
-  where
-    go : Dec (n < 10) → (n / 10 < m → n / 10 < k → digitsOf m (n / 10) ≡ digitsOf k (n / 10)) → digitsOf (suc m) n ≡ digitsOf (suc k) n
-    go (yes h) ih = digits-small m n h ∙ sym (digits-small k n h)
-    go (no h) ih =
-        digits-large m n (omega arith)
-        ∙ ap (λ (ds : List ℕ). ds ++ ((48 + n % 10) ∷ [])) (ih (omega arith) (omega arith))
-        ∙ sym (digits-large k n (omega arith))
-
 -- one digit more
 digits-next : (n b : ℕ) → 0 < n → isDigit b ≡ true → digits (n * 10 + (b - 48)) ≡ digits n ++ (b ∷ [])
-unfolding digits isDigit
+unfolding isDigit
 digits-next n b o h =
     let lo : 48 ≤ b = leb-true 48 b (and-left _ _ h) in
     let hi : b ≤ 57 = leb-true b 57 (and-right _ _ h) in
     let q : (n * 10 + (b - 48)) / 10 ≡ n = omega arith in
     let r : 48 + (n * 10 + (b - 48)) % 10 ≡ b = omega arith in
-    digits-large (n * 10 + (b - 48)) (n * 10 + (b - 48)) (omega arith)
-    ∙ ap₂ (λ (y d : ℕ). digitsOf (n * 10 + (b - 48)) y ++ (d ∷ [])) q r
-    ∙ ap (λ (ds : List ℕ). ds ++ (b ∷ [])) (enough (n * 10 + (b - 48)) (suc n) n (omega arith) (le-refl _))
+    digits-large (n * 10 + (b - 48)) (omega arith) ∙ ap₂ (λ (y d : ℕ). digits y ++ (d ∷ [])) q r
 
 digits-after : (n : ℕ) (bs : List ℕ) → 0 < n → all isDigit bs ≡ true → digits (numberFrom n bs) ≡ digits n ++ bs
 unfolding numberFrom
@@ -144,12 +113,12 @@ digit-low b h = leb-true 48 b (and-left _ _ h)
 
 -- one digit alone
 digits-one : (b : ℕ) → isDigit b ≡ true → digits (b - 48) ≡ b ∷ []
-unfolding digits isDigit
+unfolding isDigit
 digits-one b h =
     let lo : 48 ≤ b = leb-true 48 b (and-left _ _ h) in
     let hi : b ≤ 57 = leb-true b 57 (and-right _ _ h) in
     let e : 48 + (b - 48) ≡ b = omega arith in
-    digits-small (b - 48) (b - 48) (omega arith) ∙ ap (λ (x : ℕ). x ∷ []) e
+    digits-small (b - 48) (omega arith) ∙ ap (λ (x : ℕ). x ∷ []) e
 
 number-first : (b : ℕ) (bs : List ℕ) → numberFrom 0 (b ∷ bs) ≡ numberFrom (b - 48) bs
 unfolding numberFrom

@@ -1,9 +1,9 @@
 -- Bytes written over others.
-use Prim.Native.Nat.{ℕ, _+_, _<_, _≤_, zero-le}
+use Prim.Native.Nat.{ℕ, suc, _+_, _<_, _≤_, zero-le}
 use mathlib.Core.Path.{_≡_, sym, ap, ap₂, _∙_}
 use mathlib.Core.List.{List, [], _∷_, _++_, append-assoc}
-use lib.ListN.{length, take, drop, set, length-append, take-append-drop, length-take, length-drop}
-use lib.Seq.{take-length, take-append-seam, drop-drop, paste, take-at, drop-at, take-suc-set, drop-set-lt}
+use lib.ListN.{length, take, drop, set, length-append, length-take, length-drop}
+use lib.Seq.{take-length, take-append-seam, drop-drop, paste, take-at, drop-at, set-split, take-set-le}
 use native.Mathlib.Omega.{arith}
 use native.Mathlib.Numerals.{add-one}
 use Rattle.decimal.specs.Written.{written}
@@ -33,25 +33,23 @@ written-more s at v w h =
     sym (drop-drop (length w) (at + length v) _) ∙ ap (drop (length w)) (written-dropped s at v (omega arith)) ∙ drop-drop (length w) (at + length v) s ∙ ap (λ (i : ℕ). drop i s) k in
     ap₂ (λ (a b : List ℕ). a ++ (w ++ b)) t d ∙ (simp append-assoc)
 
--- from a loop's state: what stands before a place, and the rest as it was
-written-of : (s t : List ℕ) (base at : ℕ) (w : List ℕ) → base + length w ≡ at → take at t ≡ take base s ++ w → drop at t ≡ drop at s → t ≡ written s base w
-unfolding written
-written-of s t base at w l p q = sym (take-append-drop at t) ∙ ap₂ _++_ p (q ∙ ap (λ (n : ℕ). drop n s) (sym l)) ∙ append-assoc (take base s) w (drop (base + length w) s)
-
-pub drop-next : (s t : List ℕ) (at a : ℕ) → drop at t ≡ drop at s → drop (at + 1) (set t at a) ≡ drop (at + 1) s
-drop-next s t at a e = drop-set-lt (at + 1) t at a (omega arith) ∙ sym (drop-drop 1 at t) ∙ ap (drop 1) e ∙ drop-drop 1 at s
-
 -- a copy come to its end
 pub pasted-all : (s : List ℕ) (at : ℕ) (w : List ℕ) (i : ℕ) → i ≡ length w → paste s at w i ≡ written s at w
 unfolding written
 pasted-all s at w i e = rw (e, take-length w) (append-assoc (take at s) w (drop (at + length w) s))
 
--- digits written up to a place, and one byte more
-pub ended : (s t : List ℕ) (base at a : ℕ) (w : List ℕ) → base + length w ≡ at → at < length t → take at t ≡ take base s ++ w → drop at t ≡ drop at s
-    → set t at a ≡ written s base (w ++ (a ∷ []))
-ended s t base at a w l o p q = written-of s (set t at a) base (at + 1) (w ++ (a ∷ [])) (simp length-append (omega arith))
-    (rw (add-one at, take-suc-set t at a o, p) (append-assoc (take base s) w (a ∷ [])))
-    (drop-next s t at a q)
+-- from the last byte to the first: one byte stored, and then those before it
+pub written-last : (s : List ℕ) (base at a : ℕ) (w : List ℕ) → at ≡ base + length w → at < length s → written (set s at a) base w ≡ written s base (w ++ (a ∷ []))
+unfolding written
+written-last s base at a w e o =
+    let l : base + length (w ++ (a ∷ [])) ≡ suc at = simp length-append (omega arith) in
+    let d : drop (base + length w) (set s at a) ≡ a ∷ drop (base + length (w ++ (a ∷ []))) s =
+    ap₂ drop (sym e) (set-split s at a o) ∙ drop-at (take at s) (a ∷ drop (suc at) s) at (simp length-take (omega arith)) ∙ ap (λ (n : ℕ). a ∷ drop n s) (sym l) in
+    ap₂ (λ (x y : List ℕ). x ++ (w ++ y)) (take-set-le base s at a (omega arith)) d ∙ ap (λ (y : List ℕ). take base s ++ y) (sym (append-assoc w (a ∷ []) _))
+
+pub written-one : (s : List ℕ) (at a : ℕ) → at < length s → set s at a ≡ written s at (a ∷ [])
+unfolding written
+written-one s at a o = set-split s at a o ∙ ap (λ (n : ℕ). take at s ++ (a ∷ drop n s)) (sym (add-one at))
 
 -- w was written over s from a place up to another
 pub record Wrote (s t : List ℕ) (base till : ℕ) (w : List ℕ) : Type 0 where

@@ -7,30 +7,6 @@ ghost use Rattle.decimal.specs.Digits.{digits, numberBelow};
 ghost use Rattle.decimal.specs.Fields.{field, startsNumber, numberRead};
 ghost use Rattle.decimal.specs.Written.{written};
 
-// The powers of ten below 2^64.
-const POWERS: [u64; 20] = [
-    1,
-    10,
-    100,
-    1000,
-    10000,
-    100000,
-    1000000,
-    10000000,
-    100000000,
-    1000000000,
-    10000000000,
-    100000000000,
-    1000000000000,
-    10000000000000,
-    100000000000000,
-    1000000000000000,
-    10000000000000000,
-    100000000000000000,
-    1000000000000000000,
-    10000000000000000000,
-];
-
 // A number's field, with its length.
 pub enum Number {
     Of(u64, usize),
@@ -103,35 +79,33 @@ pub fn number_in(s: &[u8], end: u8, max: u64) -> Number
 
 // How many digits a number has.
 fn digit_count(x: u64) -> usize
-    ensures { λ r. ⌜ (1 ≤ r) × (r ≤ 20) × (x < 10 ^ r) × (1 < r → 10 ^ (r - 1) ≤ x) ⌝ }
+    ensures { λ r. ⌜ r ≡ length (digits x) ⌝ }
 {
     let mut n = 1;
-    while n < 20 {
-        if x < POWERS[n] {
-            return n;
-        }
+    let mut left = x;
+    while 10 <= left {
+        left = left / 10;
         n += 1;
     }
     n
 }
 
-// A number's digits and one byte after them, from a place on; the place after both.
+// A number's digits and one byte after them, from a place on; the place after both. The digits come from the last to the first.
 pub fn write_number(out: &mut [u8], start: usize, x: u64, end: u8) -> usize
     requires { ⌜ start + 21 ≤ length (now out) ⌝ }
     ensures { λ r. ⌜ (r ≡ start + length (digits x) + 1) × (r ≤ start + 21) × (now (out .exit) ≡ written (now (out .entry)) start (digits x ++ (end ∷ []))) ⌝ }
 {
-    let mut left = digit_count(x);
+    let after = start + digit_count(x);
+    let mut at = after;
     let mut rest = x;
-    let mut at = start;
-    while 0 < left {
-        left -= 1;
-        let power = POWERS[left];
-        out[at] = b'0' + (rest / power) as u8;
-        rest = rest % power;
-        at += 1;
+    while 10 <= rest {
+        at -= 1;
+        out[at] = b'0' + (rest % 10) as u8;
+        rest = rest / 10;
     }
-    out[at] = end;
-    at + 1
+    out[start] = b'0' + rest as u8;
+    out[after] = end;
+    after + 1
 }
 
 // Bytes written over others, from a place on; the place after them.

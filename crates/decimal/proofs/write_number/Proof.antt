@@ -1,115 +1,102 @@
 -- `decimal::write_number` meets its contract.
-use Prim.Native.Nat.{ℕ, _+_, _-_, _^_, _<_, _≤_}
-use mathlib.Core.Path.{_≡_, refl, sym, ap, _∙_}
-use mathlib.Core.List.{List, _++_, append-nil}
-use lib.ListN.{length, take, drop, getD, length-set}
+use Prim.Native.Nat.{ℕ, _+_, _-_, _/_, _%_, _≤_}
+use mathlib.Core.Path.{_≡_, refl, sym, ap, ap₂, _∙_}
+use mathlib.Core.List.{List, [], _∷_}
+use lib.ListN.{length, set, length-set}
 use borrow.Author.Needs.{needs}
 use native.Mathlib.Omega.{arith}
 use Rattle.decimal.specs.Digits.{digits}
-use Rattle.decimal.proofs.DigitLaws.{fixed, length-fixed, digits-are, powers, power-at, digit-next, digit-small, rest-small, power-pos}
-use Rattle.decimal.proofs.WrittenLaws.{drop-next, ended}
+use Rattle.decimal.specs.Written.{written}
+use Rattle.decimal.proofs.DigitLaws.{digits-small, digits-large, count-large, count-below}
+use Rattle.decimal.proofs.WrittenLaws.{written-length, written-last, written-one, written-more}
 use Rattle.decimal.proofs.write_number.Statement.{statement}
 use Rattle.decimal.proofs.write_number.Tie as tie
 
+-- where the digits that are left are written, all are
 abbrev Inv-loop : tie.InvT-loop
-Inv-loop out₀ base x end left₀ rest₀ at₀ out left rest at = (left + at ≡ base + length (digits x)) × (left ≤ 20) × (length (digits x) ≤ 20) × (length out ≡ length out₀) × (rest < 10 ^ left) × (take at out ++ fixed left rest ≡ take base out₀ ++ digits x) × (drop at out ≡ drop at out₀)
+Inv-loop out₀ start x end after at₀ rest₀ out at rest = (at ≡ start + length (digits rest)) × (at ≤ start + 20) × (length (digits x) ≤ 20) × (length out ≡ length out₀) × (written out start (digits rest) ≡ written out₀ start (digits x))
 
 abbrev μ-loop : tie.MeasureT-loop
-μ-loop out₀ base x end left₀ rest₀ at₀ out left rest at = left
+μ-loop out₀ start x end after at₀ rest₀ out at rest = rest
 
 digit-count-requires : tie.Need-digit-count-requires Inv-loop μ-loop
 digit-count-requires c κs = search needs
 
+add-after : tie.Need-add-after Inv-loop μ-loop
+add-after c = omega (arith, count-below 19 (c .before .before .args .x) (omega arith), c .digit-count .ensures)
+
 loop-holds : tie.Need-loop-holds Inv-loop μ-loop
 loop-holds c =
     let a = c .before .before .args in
-    let n = c .digit-count .result in
-    let r = c .digit-count .ensures in
-    let e : digits (a .x) ≡ fixed n (a .x) = digits-are n (a .x) (r .0) (r .2) (r .3) in
-    let l : length (digits (a .x)) ≡ n = ap length e ∙ length-fixed n (a .x) in
-    (omega arith, r .1, omega arith, refl, r .2, ap (λ (ds : List ℕ). take (a .start) (a .out .now) ++ ds) (sym e), refl)
+    let e : c .digit-count .result ≡ length (digits (a .x)) = c .digit-count .ensures in
+    let m : length (digits (a .x)) ≤ 20 = count-below 19 (a .x) (omega arith) in
+    (ap (λ (n : ℕ). a .start + n) e, omega arith, m, refl, refl)
 
-sub-left : tie.Need-sub-left Inv-loop μ-loop
-sub-left c = omega arith
-
-mul-power : tie.Need-mul-power Inv-loop μ-loop
-mul-power c = search needs
-
-array-read-power : tie.Need-array-read-power Inv-loop μ-loop
-array-read-power c = search needs
-
-div-out : tie.Need-div-out Inv-loop μ-loop
-unfolding powers
-div-out c =
-    let l = c .before in
-    let left = l .loop .left in
-    power-pos left (l .loop .rest) (getD powers (left - 1) 0) (power-at (left - 1) (omega arith)) (omega arith)
+sub-at : tie.Need-sub-at Inv-loop μ-loop
+sub-at c = omega (arith, count-large (c .before .loop .rest) (c .loop-test .taken))
 
 cast-out : tie.Need-cast-out Inv-loop μ-loop
-unfolding powers
-cast-out c =
-    let l = c .before in
-    let left = l .loop .left in
-    omega (arith, digit-small left (l .loop .rest) (getD powers (left - 1) 0) (power-at (left - 1) (omega arith)) (omega arith) (l .loop .inv .4))
+cast-out c = search needs
 
 add-out : tie.Need-add-out Inv-loop μ-loop
-unfolding powers
-add-out c =
-    let l = c .before in
-    let left = l .loop .left in
-    omega (arith, digit-small left (l .loop .rest) (getD powers (left - 1) 0) (power-at (left - 1) (omega arith)) (omega arith) (l .loop .inv .4))
+add-out c = search needs
 
 slice-write-out : tie.Need-slice-write-out Inv-loop μ-loop
-slice-write-out c = search needs
-
-rem-rest : tie.Need-rem-rest Inv-loop μ-loop
-unfolding powers
-rem-rest c =
-    let l = c .before in
-    let left = l .loop .left in
-    power-pos left (l .loop .rest) (getD powers (left - 1) 0) (power-at (left - 1) (omega arith)) (omega arith)
-
-add-at : tie.Need-add-at Inv-loop μ-loop
-add-at c = search needs
+slice-write-out c = omega arith
 
 loop-less : tie.Need-loop-less Inv-loop μ-loop
 loop-less c = omega arith
 
 loop-again : tie.Need-loop-again Inv-loop μ-loop
-unfolding powers
 loop-again c =
-    let l = c .before in
-    let a = l .before .before .before .args in
-    let left = l .loop .left in
-    let e = power-at (left - 1) (omega arith) in
-    let h : 0 < left = omega arith in (
+    let l = c .before .loop in
+    let start = c .before .before .before .before .args .start in
+    let n : length (digits (l .rest)) ≡ length (digits (l .rest / 10)) + 1 = count-large (l .rest) (c .loop-test .taken) in
+    let e : l .at - 1 ≡ start + length (digits (l .rest / 10)) = omega arith in (
+      e,
       omega arith,
-      omega arith,
-      omega arith,
-      length-set (l .loop .out) (l .loop .at) _ ∙ l .loop .inv .3,
-      rest-small left (l .loop .rest) (getD powers (left - 1) 0) e h,
-      digit-next left (l .loop .rest) (getD powers (left - 1) 0) e h (l .loop .out) (l .loop .at) (omega arith) ∙ l .loop .inv .5,
-      drop-next (a .out .now) (l .loop .out) (l .loop .at) _ (l .loop .inv .6),
+      l .inv .2,
+      length-set (l .out) (l .at - 1) _ ∙ l .inv .3,
+      written-last (l .out) start (l .at - 1) (48 + l .rest % 10) (digits (l .rest / 10)) e (omega arith)
+          ∙ ap (written (l .out) start) (sym (digits-large (l .rest) (c .loop-test .taken)))
+          ∙ l .inv .4,
     )
 
+cast-out-2 : tie.Need-cast-out-2 Inv-loop μ-loop
+cast-out-2 c = search needs
+
+add-out-2 : tie.Need-add-out-2 Inv-loop μ-loop
+add-out-2 c = search needs
+
 slice-write-out-2 : tie.Need-slice-write-out-2 Inv-loop μ-loop
-slice-write-out-2 c = search needs
+slice-write-out-2 c = omega arith
+
+slice-write-out-3 : tie.Need-slice-write-out-3 Inv-loop μ-loop
+slice-write-out-3 c = simp length-set (omega (arith, c .before .before .digit-count .ensures))
 
 add-result : tie.Need-add-result Inv-loop μ-loop
-add-result c = search needs
+add-result c = omega (arith, c .before .before .digit-count .ensures)
 
 same-length : tie.Need-same-length Inv-loop μ-loop
 same-length c = simp length-set (omega arith)
 
 returns : tie.Need-returns Inv-loop μ-loop
-unfolding fixed
 returns c =
-    let l = c .before in
-    let a = l .before .before .before .args in
-    let z : l .loop .left ≡ 0 = omega arith in
-    let t : take (l .loop .at) (l .loop .out) ≡ take (a .start) (a .out .now) ++ digits (a .x) =
-    sym (append-nil _) ∙ ap (λ (k : ℕ). take (l .loop .at) (l .loop .out) ++ fixed k (l .loop .rest)) (sym z) ∙ l .loop .inv .5 in
-    (omega arith, omega arith, ended (a .out .now) (l .loop .out) (a .start) (l .loop .at) (a .end) (digits (a .x)) (omega arith) (omega arith) t (l .loop .inv .6))
+    let l = c .before .loop in
+    let a = c .before .before .before .before .args in
+    let s = a .out .now in
+    let ds = digits (a .x) in
+    let n = c .before .before .digit-count .result in
+    let e : n ≡ length ds = c .before .before .digit-count .ensures in
+    let w : set (l .out) (a .start) (48 + l .rest) ≡ written s (a .start) ds =
+    written-one (l .out) (a .start) (48 + l .rest) (omega arith) ∙ ap (written (l .out) (a .start)) (sym (digits-small (l .rest) (c .loop-test .left))) ∙ l .inv .4 in
+    let k : length (written s (a .start) ds) ≡ length s = written-length s (a .start) ds (omega arith) in (
+      omega arith,
+      omega arith,
+      ap₂ (λ (t : List ℕ) (i : ℕ). set t (a .start + i) (a .end)) w e
+          ∙ written-one (written s (a .start) ds) (a .start + length ds) (a .end) (omega arith)
+          ∙ written-more s (a .start) ds (a .end ∷ []) (omega arith),
+    )
 
 pub write-number-spec : {M : Type 1} → statement M
 write-number-spec =
@@ -118,19 +105,18 @@ write-number-spec =
     Inv-loop
     μ-loop
     digit-count-requires
+    add-after
     loop-holds
-    sub-left
-    mul-power
-    array-read-power
-    div-out
+    sub-at
     cast-out
     add-out
     slice-write-out
-    rem-rest
-    add-at
     loop-less
     loop-again
+    cast-out-2
+    add-out-2
     slice-write-out-2
+    slice-write-out-3
     add-result
     same-length
     returns)
