@@ -7,6 +7,7 @@ mod model;
 
 use model::*;
 use std::hint::black_box;
+use std::io::Write as _;
 use std::time::Instant;
 
 extern "C" {
@@ -19,6 +20,7 @@ extern "C" {
     fn bench_sweep(stores: *mut u8, len: usize, entries: u8, lives: u8, reads: u8, base: u8, limit: u64) -> u64;
     fn bench_collects(stores: *mut u8, len: usize, entries: u8, lives: u8, reads: u8, base: u8, first: u8, limit: u8) -> u64;
     fn bench_scan(store: *const u8, len: usize, rounds: u64) -> u64;
+    fn bench_print(out: *mut u8, len: usize, rounds: u64, value: u64, clock: u64, txn: u32) -> u64;
 }
 
 /// As the proved side makes it: even slots wrote keys 0 to 7, odd ones 8 to 15.
@@ -212,6 +214,19 @@ fn rust_collects(stores: &mut [u8], z: Size, first: u8, limit: u8) -> u64 {
     last
 }
 
+fn rust_print(out: &mut [u8], n: u64, value: u64, id: Id) -> u64 {
+    let mut last = 0;
+    for i in 1..=n {
+        let answer = Answer::Version(value, id);
+        let (a, b, c) = answer.values();
+        let mut left = &mut *black_box(&mut *out);
+        let room = left.len();
+        writeln!(left, "{},{},{},{},{}", i, answer.word(), a, b, c).expect("it has room");
+        last = (room - left.len()) as u64;
+    }
+    last
+}
+
 /// Microseconds for one of n, the least of several alternating rounds.
 fn compare(name: &str, n: u64, mut proved: impl FnMut(u64) -> u64, mut plain: impl FnMut(u64) -> u64) {
     let (mut a, mut b) = (f64::MAX, f64::MAX);
@@ -271,6 +286,23 @@ fn clearing() {
                 |s| rust_collects(s, z, first, 40),
             );
         }
+    }
+}
+
+/// A million lines of a version's answer, with the least values and with the greatest: what one line costs is the digits.
+fn printing() {
+    println!();
+    println!("| a thousand lines printed | proved, µs | Rust, µs | ratio |");
+    println!("|---|---|---|---|");
+    let (mut x, mut y) = ([0; 96], [0; 96]);
+    for (name, value, id) in [("values of one digit", 0, Id::default()), ("values of twenty digits", u64::MAX, Id { clock: u64::MAX, txn: u32::MAX })] {
+        compare(
+            name,
+            1000,
+            |n| unsafe { bench_print(x.as_mut_ptr(), x.len(), 1000 * n, value, id.clock, id.txn) },
+            |n| rust_print(&mut y, 1000 * n, value, id),
+        );
+        assert_eq!(x, y, "{name}: the two lines differ");
     }
 }
 
@@ -347,5 +379,6 @@ fn main() {
         }
     }
     clearing();
+    printing();
     growth();
 }

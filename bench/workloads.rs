@@ -1,5 +1,5 @@
 //! Two whole workloads: the paper's transaction (section 6.1.2: two functions, each one write and two reads) over 64 keys with a Zipf
-//! distribution, one client, and run sheets of a million lines. For the proved library through its C interface and the proved program, for
+//! distribution, one client, and a run sheet of a million lines. For the proved library through its C interface and the proved program, for
 //! the plain Rust version, and for what a shop would use instead, SQLite in memory and Redis on loopback. The same keys in the same order
 //! for each. Built with `--cfg sqlite` where that library is there; Redis is asked at the port that the environment's REDIS_PORT names.
 //! Alternating rounds, the least time of each. Arguments: the proved program, the plain one.
@@ -420,11 +420,11 @@ fn transactions(redis: &mut Option<Redis>) {
     }
 }
 
-/// The least of three runs of each program over a sheet, ms; what they write is compared.
-fn run_both(programs: &[String], text: &[u8]) -> (f64, f64) {
+fn million(programs: &[String], redis: &mut Option<Redis>) {
     let path = "target/million.csv";
+    let (text, list) = sheet(1_000_000);
     std::fs::write(path, text).unwrap();
-    let (mut a, mut b) = (f64::MAX, f64::MAX);
+    let (mut a, mut b, mut c, mut d) = (f64::MAX, f64::MAX, f64::MAX, f64::MAX);
     for _ in 0..3 {
         let (mut x, mut y) = (Vec::new(), Vec::new());
         timed(&mut a, 1000, || {
@@ -437,13 +437,6 @@ fn run_both(programs: &[String], text: &[u8]) -> (f64, f64) {
         });
         assert!(x == y, "the two programs differ");
     }
-    (a, b)
-}
-
-fn million(programs: &[String], redis: &mut Option<Redis>) {
-    let (text, list) = sheet(1_000_000);
-    let (a, b) = run_both(programs, &text);
-    let (mut c, mut d) = (f64::MAX, f64::MAX);
     #[cfg(sqlite)]
     timed(&mut c, 1000, || sqlite::run(&list, 1));
     if let Some(r) = redis {
@@ -455,18 +448,6 @@ fn million(programs: &[String], redis: &mut Option<Redis>) {
     println!("| {} transactions | {a:.0} | {b:.0} | {:.2} | {} | {} |", list.len(), a / b, other(c), other(d));
 }
 
-/// Lines that are no calls, so that what is timed is splitting and printing; and reads of a transaction's own values of twenty digits.
-fn printing(programs: &[String]) {
-    println!("| a million lines | proved, ms | Rust, ms | ratio |");
-    println!("|---|---|---|---|");
-    let mut own = b"start,1,0,0\nput,1,0,18446744073709551615\n".to_vec();
-    own.extend(b"get,1,0,0\n".repeat(1_000_000));
-    for (what, text) in [("not of the form", b"x\n".repeat(1_000_000)), ("values of twenty digits", own)] {
-        let (a, b) = run_both(programs, &text);
-        println!("| {what} | {a:.0} | {b:.0} | {:.2} |", a / b);
-    }
-}
-
 fn main() {
     let programs: Vec<String> = std::env::args().skip(1).collect();
     assert_eq!(programs.len(), 2, "the proved program, the plain one");
@@ -474,6 +455,4 @@ fn main() {
     transactions(&mut redis);
     println!();
     million(&programs, &mut redis);
-    println!();
-    printing(&programs);
 }

@@ -22,6 +22,7 @@ use calls::sweep;
 use desk::Request;
 use desk::act;
 use sheet::Command;
+use sheet::print_line;
 use soundness::is_sound;
 
 // The entry of a slot: even slots wrote keys 0 to 7, odd ones 8 to 15.
@@ -407,6 +408,30 @@ pub extern "C" fn bench_collects(
         let end = at + Station::STORE;
         last = collects(s, &mut stores[at..end], first, limit);
         at = end;
+    }
+    last
+}
+
+// ---- printing
+// Lines of a version's answer, each over the one before; the length of the last.
+#[no_mangle]
+pub extern "C" fn bench_print(
+    out: &mut [u8],
+    rounds: u64,
+    value: u64,
+    clock: u64,
+    txn: u32,
+) -> u64 {
+    if out.len() < 96 {
+        return 0;
+    }
+    let id = Id { clock, txn };
+    let mut last = 0;
+    let mut i: u64 = 0;
+    while i < rounds {
+        i += 1;
+        let n = print_line(out, i, Answer::Version(value, id));
+        last = n as u64;
     }
     last
 }
