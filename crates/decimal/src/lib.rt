@@ -1,6 +1,6 @@
 // Numbers as decimal digits in bytes: a field read as a number, a number's digits written. Defined in specs/.
 ghost use mathlib.Core.Path.{_≡_};
-ghost use Prim.Native.Nat.{suc, _+_, _-_, _^_, _≤_, _<_};
+ghost use Prim.Native.Nat.{suc, _+_, _≤_};
 ghost use mathlib.Core.List.{[], _∷_, _++_};
 ghost use lib.ListN.{length};
 ghost use Rattle.decimal.specs.Digits.{digits, numberBelow};
