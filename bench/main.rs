@@ -289,13 +289,13 @@ fn clearing() {
     }
 }
 
-/// A million lines of a version's answer, with the least values and with the greatest: what one line costs is the digits.
+/// A million lines of a version's answer, with the least values and with the greatest: of one digit each, and of 20, 20 and 10.
 fn printing() {
     println!();
     println!("| a thousand lines printed | proved, µs | Rust, µs | ratio |");
     println!("|---|---|---|---|");
     let (mut x, mut y) = ([0; 96], [0; 96]);
-    for (name, value, id) in [("values of one digit", 0, Id::default()), ("values of twenty digits", u64::MAX, Id { clock: u64::MAX, txn: u32::MAX })] {
+    for (name, value, id) in [("the least values", 0, Id::default()), ("the greatest", u64::MAX, Id { clock: u64::MAX, txn: u32::MAX })] {
         compare(
             name,
             1000,

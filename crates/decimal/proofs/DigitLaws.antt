@@ -21,6 +21,7 @@ by-tenths P one more n = go (suc n) n (le-refl _)
         last (yes h) ih = one n h
         last (no h) ih = more n (omega arith) (ih (omega arith))
 
+-- ── the two equations of `digits`, first with its steps ──
 of-small : (m n : ℕ) → n < 10 → digitsOf (suc m) n ≡ (48 + n) ∷ []
 unfolding digitsOf
 of-small m n h = rw (lt-ltb n 10 h)
@@ -54,6 +55,7 @@ count-small n h = ap length (digits-small n h)
 pub count-large : (n : ℕ) → 10 ≤ n → length (digits n) ≡ length (digits (n / 10)) + 1
 count-large n h = ap length (digits-large n h) ∙ length-append (digits (n / 10)) _
 
+-- below ten to the n at most n
 pub count-below : (k n : ℕ) → n < 10 ^ suc k → length (digits n) ≤ suc k
 count-below zero n h = omega (arith, count-small n (omega arith))
 count-below (suc k) n h = go (decLt n 10) (count-below k (n / 10))

@@ -47,9 +47,15 @@ written-last s base at a w e o =
     ap₂ drop (sym e) (set-split s at a o) ∙ drop-at (take at s) (a ∷ drop (suc at) s) at (simp length-take (omega arith)) ∙ ap (λ (n : ℕ). a ∷ drop n s) (sym l) in
     ap₂ (λ (x y : List ℕ). x ++ (w ++ y)) (take-set-le base s at a (omega arith)) d ∙ ap (λ (y : List ℕ). take base s ++ y) (sym (append-assoc w (a ∷ []) _))
 
+-- one byte alone, and one after those written
 pub written-one : (s : List ℕ) (at a : ℕ) → at < length s → set s at a ≡ written s at (a ∷ [])
 unfolding written
 written-one s at a o = set-split s at a o ∙ ap (λ (n : ℕ). take at s ++ (a ∷ drop n s)) (sym (add-one at))
+
+pub written-then : (s : List ℕ) (base at a : ℕ) (w : List ℕ) → at ≡ base + length w → at < length s → set (written s base w) at a ≡ written s base (w ++ (a ∷ []))
+written-then s base at a w e o =
+    let l : length (written s base w) ≡ length s = written-length s base w (omega arith) in
+    written-one (written s base w) at a (omega arith) ∙ ap (λ (n : ℕ). written (written s base w) n (a ∷ [])) e ∙ written-more s base w (a ∷ []) (omega arith)
 
 -- w was written over s from a place up to another
 pub record Wrote (s t : List ℕ) (base till : ℕ) (w : List ℕ) : Type 0 where

@@ -1,14 +1,14 @@
 -- `decimal::write_number` meets its contract.
 use Prim.Native.Nat.{ℕ, _+_, _-_, _/_, _%_, _≤_}
-use mathlib.Core.Path.{_≡_, refl, sym, ap, ap₂, _∙_}
-use mathlib.Core.List.{List, [], _∷_}
+use mathlib.Core.Path.{_≡_, refl, sym, ap, _∙_}
+use mathlib.Core.List.{List}
 use lib.ListN.{length, set, length-set}
 use borrow.Author.Needs.{needs}
 use native.Mathlib.Omega.{arith}
 use Rattle.decimal.specs.Digits.{digits}
 use Rattle.decimal.specs.Written.{written}
 use Rattle.decimal.proofs.DigitLaws.{digits-small, digits-large, count-large, count-below}
-use Rattle.decimal.proofs.WrittenLaws.{written-length, written-last, written-one, written-more}
+use Rattle.decimal.proofs.WrittenLaws.{written-last, written-one, written-then}
 use Rattle.decimal.proofs.write_number.Statement.{statement}
 use Rattle.decimal.proofs.write_number.Tie as tie
 
@@ -30,7 +30,7 @@ loop-holds c =
     let a = c .before .before .args in
     let e : c .digit-count .result ≡ length (digits (a .x)) = c .digit-count .ensures in
     let m : length (digits (a .x)) ≤ 20 = count-below 19 (a .x) (omega arith) in
-    (ap (λ (n : ℕ). a .start + n) e, omega arith, m, refl, refl)
+    (omega arith, omega arith, m, refl, refl)
 
 sub-at : tie.Need-sub-at Inv-loop μ-loop
 sub-at c = omega (arith, count-large (c .before .loop .rest) (c .loop-test .taken))
@@ -85,17 +85,13 @@ returns c =
     let l = c .before .loop in
     let a = c .before .before .before .before .args in
     let s = a .out .now in
-    let ds = digits (a .x) in
     let n = c .before .before .digit-count .result in
-    let e : n ≡ length ds = c .before .before .digit-count .ensures in
-    let w : set (l .out) (a .start) (48 + l .rest) ≡ written s (a .start) ds =
-    written-one (l .out) (a .start) (48 + l .rest) (omega arith) ∙ ap (written (l .out) (a .start)) (sym (digits-small (l .rest) (c .loop-test .left))) ∙ l .inv .4 in
-    let k : length (written s (a .start) ds) ≡ length s = written-length s (a .start) ds (omega arith) in (
+    let e : n ≡ length (digits (a .x)) = c .before .before .digit-count .ensures in
+    let w : set (l .out) (a .start) (48 + l .rest) ≡ written s (a .start) (digits (a .x)) =
+    written-one (l .out) (a .start) (48 + l .rest) (omega arith) ∙ ap (written (l .out) (a .start)) (sym (digits-small (l .rest) (c .loop-test .left))) ∙ l .inv .4 in (
       omega arith,
       omega arith,
-      ap₂ (λ (t : List ℕ) (i : ℕ). set t (a .start + i) (a .end)) w e
-          ∙ written-one (written s (a .start) ds) (a .start + length ds) (a .end) (omega arith)
-          ∙ written-more s (a .start) ds (a .end ∷ []) (omega arith),
+      ap (λ (t : List ℕ). set t (a .start + n) (a .end)) w ∙ written-then s (a .start) (a .start + n) (a .end) (digits (a .x)) (omega arith) (omega arith),
     )
 
 pub write-number-spec : {M : Type 1} → statement M
