@@ -6,6 +6,7 @@
 mod model;
 
 use model::*;
+use std::cmp::Reverse;
 use std::hint::black_box;
 use std::io::Write as _;
 use std::time::Instant;
@@ -25,8 +26,8 @@ extern "C" {
 
 /// As the proved side makes it: even slots wrote keys 0 to 7, odd ones 8 to 15.
 fn entry(slot: u8) -> Entry {
-    let low = slot % 2 * 8;
-    Entry { id: Id { clock: u64::from(slot) + 1, txn: u32::from(slot) + 1 }, count: 8, keys: std::array::from_fn(|i| low + i as u8) }
+    let keys = if slot % 2 == 0 { 255 } else { 65280 };
+    Entry { id: Id { clock: u64::from(slot) + 1, txn: u32::from(slot) + 1 }, keys }
 }
 
 #[derive(Clone, Copy)]
@@ -62,9 +63,9 @@ fn store(z: Size) -> Vec<u8> {
         let e = entry(d);
         let at = usize::from(d) * SLOT;
         s[at..at + RECORD].copy_from_slice(&commit_record(&e));
-        for (n, k) in e.keys.iter().enumerate() {
+        for (n, k) in e.keys().enumerate() {
             let at = at + RECORD * (n + 1);
-            s[at..at + RECORD].copy_from_slice(&version_record(*k, e.id, u64::from(*k) + 7));
+            s[at..at + RECORD].copy_from_slice(&version_record(k, e.id, u64::from(k) + 7));
         }
     }
     s
@@ -157,7 +158,8 @@ fn rust_scan(bytes: &[u8], n: u64) -> u64 {
     last
 }
 
-/// A sweep as one would write it by hand, with the tests of the model's: the newest id of each key once, what may go sorted once, then cleared.
+/// A sweep as one would write it by hand, with the tests of the model's: the entries sorted once, newest first, and what may go found in that order,
+/// with the keys of all newer ones; then cleared from the oldest on.
 fn sweep_once(s: &mut Station, bytes: &mut [u8], limit: u64) -> Answer {
     if bytes.len() != STORE {
         return Answer::Refused(1, 0);
@@ -168,19 +170,18 @@ fn sweep_once(s: &mut Station, bytes: &mut [u8], limit: u64) -> Answer {
     if limit == 0 || limit > 64 {
         return Answer::Refused(20, 0);
     }
-    let mut newest = [Id::default(); 64];
-    for e in &s.entries {
-        for k in e.keys() {
-            let at = &mut newest[usize::from(*k)];
-            *at = (*at).max(e.id);
-        }
-    }
     let read: Vec<Id> = s.live.iter().flat_map(|l| l.reads().iter().map(|r| r.id)).collect();
-    let goes = |e: &Entry| e.id.txn != 0 && e.keys().iter().all(|k| newest[usize::from(*k)] > e.id) && !read.contains(&e.id);
-    let mut slots: Vec<usize> = (0..SLOTS).filter(|d| goes(&s.entries[*d])).collect();
-    slots.sort_unstable_by_key(|d| s.entries[*d].id);
+    let mut slots: Vec<usize> = s.held().map(|(d, _)| d).collect();
+    slots.sort_unstable_by_key(|d| Reverse(s.entries[*d].id));
+    let mut newer = 0;
+    slots.retain(|d| {
+        let e = &s.entries[*d];
+        let superseded = e.keys & !newer == 0;
+        newer |= e.keys;
+        superseded && !read.contains(&e.id)
+    });
     let mut count = 0;
-    for d in slots.into_iter().take(limit as usize) {
+    for d in slots.into_iter().rev().take(limit as usize) {
         let commit = &mut bytes[d * SLOT..d * SLOT + RECORD];
         if *commit != commit_record(&s.entries[d]) {
             break;

@@ -15,6 +15,7 @@ use std::net::TcpStream;
 use std::time::Instant;
 
 const KEYS: usize = 64;
+const IMAGE: usize = 4544;
 
 extern "C" {
     fn gorehimu_empty(image: *mut u8, image_len: usize) -> u32;
@@ -139,7 +140,7 @@ impl Client {
 
     fn collect(&mut self) {
         for d in 0..64 {
-            if self.station.entries[usize::from(d)].count != 0 && self.keys[usize::from(d)] == 0 {
+            if self.station.entries[usize::from(d)].keys != 0 && self.keys[usize::from(d)] == 0 {
                 assert!(matches!(self.call(7, d, 0), Answer::Collected(_)));
             }
         }
@@ -147,7 +148,7 @@ impl Client {
 
     fn make_room(&mut self, slots: usize) {
         self.collect();
-        while self.station.entries.iter().filter(|e| e.count == 0).count() < slots {
+        while self.station.entries.iter().filter(|e| e.keys == 0).count() < slots {
             let alone = |k: &u8| self.newest[usize::from(*k)].filter(|n| self.keys[usize::from(n.0)] == 1).map(|n| (*k, n.1));
             let again: Vec<(u8, u64)> = (0..KEYS as u8).filter_map(|k| alone(&k)).take(8).collect();
             self.transaction(&[], &again);
@@ -181,7 +182,7 @@ fn bytes(calls: &[Call]) -> Vec<u8> {
 // ── the proved library and the plain version; how many transactions were acknowledged ──
 
 fn proved(crossings: &[Vec<u8>]) -> u64 {
-    let (mut image, mut store, mut answers) = (vec![0; 4800], vec![0; STORE], vec![0; 32 * 1024]);
+    let (mut image, mut store, mut answers) = (vec![0; IMAGE], vec![0; STORE], vec![0; 32 * 1024]);
     unsafe { gorehimu_empty(image.as_mut_ptr(), image.len()) };
     let mut done = 0;
     for out in crossings {

@@ -5,7 +5,8 @@
  * The library keeps nothing between calls, allocates nothing and touches no memory but what it is lent:
  *
  *   store   GOREHIMU_STORE bytes, the host's to keep (a file, flash, battery-backed memory). All zeros is an empty store.
- *   image   GOREHIMU_IMAGE bytes, the station: what is lost when power goes. gorehimu_empty and gorehimu_recover make one.
+ *   image   GOREHIMU_IMAGE bytes, the station: what is lost when power goes. gorehimu_empty and gorehimu_recover make one. After an
+ *           update of the library recover it from the store (GOREHIMU_IMAGE_VERSION).
  *
  * Build: rt staticlib interface, then link target/staticlib/libinterface.a. Its functions are proved to do what is said here for any
  * bytes whatever; the definitions are in crates/interface/specs and crates/model/specs.
@@ -47,10 +48,15 @@ extern "C" {
 #endif
 
 #define GOREHIMU_STORE 13824
-#define GOREHIMU_IMAGE 4800
+#define GOREHIMU_IMAGE 4544
 #define GOREHIMU_REQUEST 16
 #define GOREHIMU_ANSWER 32
 #define GOREHIMU_RECORD 24
+
+/* The version of the image's format: an image is made and read by one version of the library. Version 1 had 4,800 bytes (write sets as lists); an
+ * image of that length is refused by its length (1). So after an update recover the station from the store, whose format is the same, with
+ * gorehimu_recover: what was live is then dropped, as after a loss of power. */
+#define GOREHIMU_IMAGE_VERSION 2
 
 /* What a request asks. Fields that a verb does not name are 0.
  *

@@ -38,7 +38,7 @@ pub struct Call {
 /// The committed transactions that a scanned station holds, with the values in the store.
 fn jobs(station: &Station, store: &[u8]) -> Vec<Job> {
     let value = |d: usize, n: usize| u64::from_le_bytes(store[d * SLOT + (n + 1) * RECORD + 16..][..8].try_into().unwrap());
-    station.held().map(|(d, e)| Job { id: e.id, values: e.keys().iter().enumerate().map(|(n, k)| (*k, value(d, n))).collect() }).collect()
+    station.held().map(|(d, e)| Job { id: e.id, values: e.keys().enumerate().map(|(n, k)| (k, value(d, n))).collect() }).collect()
 }
 
 impl Book {

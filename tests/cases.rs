@@ -136,8 +136,7 @@ fn edit(station: &mut Station, field: u64, place: usize, i: usize, x: u64) {
         match field {
             20 => e.id.txn = x as u32,
             21 => e.id.clock = x,
-            22 => e.count = x as u8,
-            23 => e.keys[i] = x as u8,
+            22 => e.keys = x,
             _ => panic!("field {field}"),
         }
         return;

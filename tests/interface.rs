@@ -1,5 +1,6 @@
 //! The proved library through its C interface, against the model in plain Rust: random call lists with cuts, retries, collections, sweeps, full slots
-//! and places, equal and backward clocks and the greatest numbers; images and stores with bytes changed; wrong lengths, null pointers; batches.
+//! and places, equal and backward clocks and the greatest numbers; images and stores with bytes changed, entries of no key and of too many; wrong
+//! lengths and an older version's, null pointers; batches.
 //! Answers, images and stores are compared byte for byte, and every undisturbed history is held to the cut rule after each call, and after each record
 //! of a sweep. Arguments: the first seed, how many histories.
 
@@ -10,7 +11,9 @@ use book::{Book, Call};
 use model::*;
 use std::collections::BTreeMap;
 
-const IMAGE: usize = 4800;
+const IMAGE: usize = 4544;
+/// The bytes of version 1's image, which had write sets as lists.
+const IMAGE_1: usize = 4800;
 const REQUEST: usize = 16;
 const ANSWER: usize = 32;
 
@@ -80,10 +83,9 @@ fn encode(s: &Station) -> Vec<u8> {
         }
     }
     for e in &s.entries {
-        b.extend([e.count, 0, 0, 0]);
         b.extend(e.id.txn.to_le_bytes());
         b.extend(e.id.clock.to_le_bytes());
-        b.extend(e.keys);
+        b.extend(e.keys.to_le_bytes());
     }
     assert_eq!(b.len(), IMAGE);
     b
@@ -113,8 +115,8 @@ fn decode(b: &[u8]) -> Option<Station> {
         }
     }
     for (d, e) in s.entries.iter_mut().enumerate() {
-        let at = 3264 + 24 * d;
-        *e = Entry { id: Id { clock: eight(at + 8), txn: four(at + 4) }, count: b[at], keys: b[at + 16..at + 24].try_into().unwrap() };
+        let at = 3264 + 20 * d;
+        *e = Entry { id: Id { clock: eight(at + 4), txn: four(at) }, keys: eight(at + 12) };
     }
     (encode(&s) == b).then_some(s)
 }
@@ -305,6 +307,8 @@ fn call(r: &mut Chance, z: &Style, image: &[u8], time: u64) -> Call {
 struct Seen {
     words: BTreeMap<&'static str, u64>,
     refusals: BTreeMap<u8, u64>,
+    /// Of entries that were refused for their write set: how many keys it had.
+    wrong_sets: BTreeMap<u32, u64>,
     calls: u64,
 }
 
@@ -431,11 +435,11 @@ fn booking(image: &[u8], store: &[u8], id: Id, book: &Book, seen: &mut Seen, wha
     let txn = (1_000_000..).find(|t| !taken(*t)).unwrap();
     for key in entry.keys() {
         let start = Call { verb: 1, txn, key: 0, number: 0 };
-        let get = Call { verb: 3, txn, key: *key, number: 0 };
+        let get = Call { verb: 3, txn, key, number: 0 };
         match compare(&mut image.to_vec(), &mut store.to_vec(), &[start, get], seen, what)[..] {
             [Answer::Started, Answer::Version(value, read)] => {
                 assert!(book.not_before(read, id), "{what}: after {id:?}, {key} gives {read:?}, which closed before");
-                assert_eq!(Some(value), book.value(read, *key), "{what}: the value of {read:?} under {key}");
+                assert_eq!(Some(value), book.value(read, key), "{what}: the value of {read:?} under {key}");
             }
             [Answer::Refused(7, 0), _] => {}
             ref other => panic!("{what}: after {id:?}, {key} gives {other:?}"),
@@ -519,6 +523,7 @@ fn history(seed: u64, seen: &mut Seen) {
         }
         if r.one_in(8) {
             disturb(&mut r, &z, &image, &store, seen, &what);
+            write_sets(&mut r, &image, &store, seen, &what);
             sweeps(&mut r, &image, &store, seen, &what);
         }
     }
@@ -548,6 +553,31 @@ fn disturb(r: &mut Chance, z: &Style, image: &[u8], store: &[u8], seen: &mut See
     compare(&mut image, &mut store, &[SCAN], seen, what);
 }
 
+/// The same with another write set in an entry: of no key, of more than eight or of all, it makes the station one that is not sound, and every call is
+/// refused with 2. Of one to eight keys it is another entry, which may be sound.
+fn write_sets(r: &mut Chance, image: &[u8], store: &[u8], seen: &mut Seen, what: &str) {
+    let mut station = decode(image).expect("a station");
+    let held: Vec<usize> = station.held().map(|(d, _)| d).collect();
+    if held.is_empty() {
+        return;
+    }
+    let d = held[r.below(held.len() as u64) as usize];
+    let count = [0, 1, 8, 9, 9, 64, r.below(65) as u32][r.below(7) as usize];
+    let e = &mut station.entries[d];
+    e.keys = 0;
+    while e.keys.count_ones() < count {
+        e.keys |= 1 << r.below(64);
+    }
+    let (txn, key) = (e.id.txn, r.below(64) as u8);
+    let c = |verb, txn, key, number| Call { verb, txn, key, number };
+    let calls = [c(1, 77, 0, 0), c(2, 77, key, 7), c(3, 77, key, 0), c(4, txn, 0, 7), c(5, 77, 0, 0), c(6, 77, 0, 0), collect(d), sweep(64)];
+    let answers = compare(&mut encode(&station), &mut store.to_vec(), &calls, seen, what);
+    if !(1..=8).contains(&count) {
+        assert!(answers.iter().all(|a| *a == Answer::Refused(2, 0)), "{what}: slot {d} with {count} keys: {answers:?}");
+        *seen.wrong_sets.entry(count).or_default() += 1;
+    }
+}
+
 /// A sound station that no history makes: any entries, and read sets that need not be atomic, so that the lower bound decides too. Neither clocks nor
 /// numbers go by the slots.
 fn made_up(seed: u64, seen: &mut Seen) {
@@ -560,15 +590,12 @@ fn made_up(seed: u64, seen: &mut Seen) {
         if r.one_in(3) {
             continue;
         }
-        let mut list: Vec<u8> = (0..1 + r.below(8)).map(|_| r.below(keys) as u8).collect();
-        list.sort_unstable();
-        list.dedup();
+        let wrote = key_set((0..1 + r.below(8)).map(|_| r.below(keys) as u8));
         let clock = if d == last { u64::MAX - r.below(2) } else { 1 + r.below(clocks) };
-        let mut e = Entry { id: Id { clock, txn: 1 + d as u32 * 37 % 64 * 3 + r.below(3) as u32 }, count: list.len() as u8, ..Entry::default() };
-        e.keys[..list.len()].copy_from_slice(&list);
+        let e = Entry { id: Id { clock, txn: 1 + d as u32 * 37 % 64 * 3 + r.below(3) as u32 }, keys: wrote };
         store[d * SLOT..][..RECORD].copy_from_slice(&commit_record(&e));
-        for (n, k) in list.iter().enumerate() {
-            store[d * SLOT + (n + 1) * RECORD..][..RECORD].copy_from_slice(&version_record(*k, e.id, r.next()));
+        for (n, k) in e.keys().enumerate() {
+            store[d * SLOT + (n + 1) * RECORD..][..RECORD].copy_from_slice(&version_record(k, e.id, r.next()));
         }
         station.entries[d] = e;
     }
@@ -682,6 +709,25 @@ fn wrong_lengths() {
     assert_eq!(run(&mut image, &mut store, &[], &mut []), 0, "no request");
 }
 
+/// An image of version 1 is refused by its length, whatever is asked, and nothing is written: it is never read as one of this version.
+fn version_1() {
+    let start = request(Call { verb: 1, txn: 7, key: 0, number: 0 });
+    // the empty station's image was all zeros, as it is now
+    for byte in [0, 0x55] {
+        let before = (vec![byte; IMAGE_1], vec![0; STORE], vec![0x77; ANSWER]);
+        let refused = |what: &str, call: &dyn Fn(&mut [u8], &mut [u8], &mut [u8]) -> u32| {
+            let (mut image, mut store, mut answers) = before.clone();
+            assert_eq!(call(&mut image, &mut store, &mut answers), 1, "version 1, {what}");
+            assert!((image, store, answers) == before, "version 1, {what}: something was written");
+        };
+        refused("a run", &|image, store, answers| run(image, store, &start, answers));
+        refused("a run of nothing", &|image, store, _| run(image, store, &[], &mut []));
+        refused("one call", &|image, store, answers| one(image, store, &start, answers));
+        refused("a recovery", &|image, store, answers| recover(image, store, answers));
+        refused("made empty", &|image, _, _| unsafe { gorehimu_empty(image.as_mut_ptr(), image.len()) });
+    }
+}
+
 /// Where a length is 0 the pointer may be null: no requests; no store, which the verbs that need one refuse; and, as any wrong length, no image and
 /// no answer.
 fn nulls() {
@@ -713,6 +759,7 @@ fn main() {
     let (first, count) = (args.first().copied().unwrap_or(1), args.get(1).copied().unwrap_or(600));
     let mut seen = Seen::default();
     wrong_lengths();
+    version_1();
     nulls();
     every_byte(&mut seen);
     for seed in first..first + count {
@@ -723,6 +770,9 @@ fn main() {
         assert_eq!(seen.words.len(), 16, "an answer never came up: {:?}", seen.words);
         for n in 1..=21 {
             assert!(seen.refusals.contains_key(&n), "refusal {n} never came up: {:?}", seen.refusals);
+        }
+        for n in [0, 9, 64] {
+            assert!(seen.wrong_sets.contains_key(&n), "an entry of {n} keys never came up: {:?}", seen.wrong_sets);
         }
     }
     println!("{count} histories, {} calls through the C interface: the library and the model agree, the cut rule holds, and the booking just made is the one read", seen.calls);

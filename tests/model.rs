@@ -46,11 +46,11 @@ pub struct Live {
     pub reads: [Read; READS],
 }
 
+/// Bit k of the keys stands for key k.
 #[derive(Clone, Copy, PartialEq, Eq, Debug, Default)]
 pub struct Entry {
     pub id: Id,
-    pub count: u8,
-    pub keys: [u8; WRITES],
+    pub keys: u64,
 }
 
 #[derive(Clone, PartialEq, Eq, Debug)]
@@ -104,6 +104,11 @@ fn ascends(keys: impl Iterator<Item = u8>) -> bool {
     true
 }
 
+/// The set of some keys below 64.
+pub fn key_set(keys: impl Iterator<Item = u8>) -> u64 {
+    keys.fold(0, |set, key| set | 1 << key)
+}
+
 impl Live {
     pub fn writes(&self) -> &[Write] {
         &self.writes[..usize::from(self.write_count)]
@@ -139,11 +144,7 @@ impl Live {
 
     /// The entry that this transaction becomes.
     fn entry(&self, clock: u64) -> Entry {
-        let mut keys = [0; WRITES];
-        for (key, write) in keys.iter_mut().zip(self.writes()) {
-            *key = write.key;
-        }
-        Entry { id: Id { clock, txn: self.txn }, count: self.write_count, keys }
+        Entry { id: Id { clock, txn: self.txn }, keys: key_set(self.writes().iter().map(|w| w.key)) }
     }
 
     fn sound(&self, station: &Station) -> bool {
@@ -173,18 +174,32 @@ impl Live {
 }
 
 impl Entry {
-    pub fn keys(&self) -> &[u8] {
-        &self.keys[..usize::from(self.count).min(WRITES)]
+    /// The keys written, ascending.
+    pub fn keys(&self) -> impl Iterator<Item = u8> {
+        let mut left = self.keys;
+        std::iter::from_fn(move || {
+            if left == 0 {
+                return None;
+            }
+            let key = left.trailing_zeros();
+            left &= left - 1;
+            Some(key as u8)
+        })
     }
 
+    /// Of a key below 64.
     pub fn wrote(&self, key: u8) -> bool {
-        self.keys().contains(&key)
+        self.keys >> key & 1 == 1
     }
 
-    /// The commit record's rules.
+    /// The number of the version record of a key that it wrote: one for each key, ascending.
+    fn record_of(&self, key: u8) -> usize {
+        1 + (self.keys & ((1 << key) - 1)).count_ones() as usize
+    }
+
+    /// The commit record's rules, as far as they are about an entry.
     fn right(&self) -> bool {
-        let n = usize::from(self.count);
-        (1..=WRITES).contains(&n) && self.id.txn >= 1 && self.id.clock >= 1 && ascends(self.keys().iter().copied()) && self.keys[n..].iter().all(|k| *k == 0)
+        (1..=WRITES as u32).contains(&self.keys.count_ones()) && self.id.txn >= 1 && self.id.clock >= 1
     }
 }
 
@@ -200,8 +215,10 @@ fn head(a: u8, b: u8, id: Id) -> [u8; RECORD] {
 }
 
 pub fn commit_record(e: &Entry) -> [u8; RECORD] {
-    let mut r = head(1, e.count, e.id);
-    r[16..].copy_from_slice(&e.keys);
+    let mut r = head(1, e.keys.count_ones() as u8, e.id);
+    for (byte, key) in r[16..].iter_mut().zip(e.keys()) {
+        *byte = key;
+    }
     r
 }
 
@@ -239,14 +256,15 @@ pub fn seen(store: &[u8], slot: usize) -> Seen {
     if r[0] == 0 {
         return Seen::Free;
     }
-    let e = Entry {
-        id: Id { clock: u64::from_le_bytes(r[8..16].try_into().unwrap()), txn: u32::from_le_bytes(r[4..8].try_into().unwrap()) },
-        count: r[1],
-        keys: r[16..24].try_into().unwrap(),
-    };
-    let versions = |e: &Entry| e.keys().iter().enumerate().all(|(n, key)| record(store, slot, n + 1)[..16] == head(*key, 0, e.id)[..16]);
-    if e.right() && *r == commit_record(&e) && versions(&e) {
-        Seen::Committed(e)
+    let id = Id { clock: u64::from_le_bytes(r[8..16].try_into().unwrap()), txn: u32::from_le_bytes(r[4..8].try_into().unwrap()) };
+    let count = usize::from(r[1]);
+    if r[0] != 1 || !(1..=WRITES).contains(&count) || r[2..4] != [0, 0] || id.txn == 0 || id.clock == 0 {
+        return Seen::Damaged;
+    }
+    let (keys, rest) = r[16..].split_at(count);
+    let version = |(n, key): (usize, &u8)| record(store, slot, n + 1)[..16] == head(*key, 0, id)[..16];
+    if ascends(keys.iter().copied()) && rest.iter().all(|k| *k == 0) && keys.iter().enumerate().all(version) {
+        Seen::Committed(Entry { id, keys: key_set(keys.iter().copied()) })
     } else {
         Seen::Damaged
     }
@@ -352,20 +370,17 @@ impl Station {
             return Err(Answer::None);
         }
         candidates.sort_by_key(|(_, e)| std::cmp::Reverse(e.id));
-        'candidates: for &(d, e) in &candidates {
+        // the lowest, as the reads ascend by key
+        let in_the_way = |e: &Entry| l.reads().iter().find(|r| e.wrote(r.key) && r.id < e.id).map(|r| r.key);
+        for &(d, e) in &candidates {
             if bound.is_some_and(|b| e.id < b) {
                 break;
             }
-            for k in e.keys() {
-                if l.reads().iter().any(|r| r.key == *k && r.id < e.id) {
-                    continue 'candidates;
-                }
+            if in_the_way(e).is_none() {
+                return Ok(d);
             }
-            return Ok(d);
         }
-        let newest = candidates[0].1;
-        let in_the_way = l.reads().iter().filter(|r| newest.wrote(r.key) && r.id < newest.id).map(|r| r.key).min();
-        Err(Answer::Nofit(in_the_way.expect("the newest entry that wrote the key conflicts with a read")))
+        Err(Answer::Nofit(in_the_way(candidates[0].1).expect("the newest entry that wrote the key conflicts with a read")))
     }
 
     pub fn get(&mut self, store: &[u8], txn: u32, key: u8) -> Answer {
@@ -397,8 +412,7 @@ impl Station {
             return refused(12);
         }
         let e = self.entries[d];
-        let n = e.keys().iter().position(|k| *k == key).unwrap();
-        let r = record(store, d, n + 1);
+        let r = record(store, d, e.record_of(key));
         if r[..16] != head(key, 0, e.id)[..16] {
             return refused(17);
         }
@@ -498,7 +512,8 @@ impl Station {
 
     /// Why an entry may not be collected: the newest of some key it wrote, or a live transaction read it.
     fn must_stay(&self, e: &Entry) -> Option<Answer> {
-        if !e.keys().iter().all(|k| self.held().any(|(_, f)| f.id > e.id && f.wrote(*k))) {
+        let newer = self.held().filter(|(_, f)| f.id > e.id).fold(0, |keys, (_, f)| keys | f.keys);
+        if e.keys & !newer != 0 {
             return Some(refused(15));
         }
         if self.live.iter().any(|l| l.reads().iter().any(|r| r.id == e.id)) {

@@ -25,26 +25,19 @@ use sheet::Command;
 use sheet::print_line;
 use soundness::is_sound;
 
-// The entry of a slot: even slots wrote keys 0 to 7, odd ones 8 to 15.
+// The write set of a slot's entry: even slots wrote keys 0 to 7, odd ones 8 to 15.
+fn keys(slot: u8) -> u64 {
+    if slot % 2 == 0 { 255 } else { 65280 }
+}
+
 fn entry(slot: u8) -> Entry {
-    let low = slot % 2 * 8;
     let id = Id {
         clock: slot as u64 + 1,
         txn: slot as u32 + 1,
     };
     Entry {
         id,
-        count: 8,
-        keys: [
-            low,
-            low + 1,
-            low + 2,
-            low + 3,
-            low + 4,
-            low + 5,
-            low + 6,
-            low + 7,
-        ],
+        keys: keys(slot),
     }
 }
 

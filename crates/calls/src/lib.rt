@@ -2,6 +2,7 @@
 // but scan (crate recovery) test the station's soundness; what they then come to is decided in the crates transactions and storing,
 // a sweep in crate sweeping.
 ghost use mathlib.Core.Path.{_≡_};
+ghost use Rattle.model.specs.Listed.{listed, listedOutcome};
 ghost use Rattle.model.specs.Effects.{outcomeOf, stored};
 ghost use Rattle.model.specs.Start.{start};
 ghost use Rattle.model.specs.Put.{put};
@@ -26,7 +27,7 @@ use stations::changed;
 
 // Makes a transaction live and open, with empty sets, in the lowest unused place.
 pub fn start(station: Station, txn: u32) -> Outcome
-    ensures { λ r. ⌜ r ≡ outcomeOf (start station txn) ⌝ }
+    ensures { λ r. ⌜ listedOutcome r ≡ outcomeOf (start (listed station) txn) ⌝ }
 {
     let tested = is_sound(station);
     let change = transactions::start(station, tested, txn);
@@ -35,7 +36,7 @@ pub fn start(station: Station, txn: u32) -> Outcome
 
 // Adds a key to the write set, or replaces its value.
 pub fn put(station: Station, txn: u32, key: u8, value: u64) -> Outcome
-    ensures { λ r. ⌜ r ≡ outcomeOf (put station txn key value) ⌝ }
+    ensures { λ r. ⌜ listedOutcome r ≡ outcomeOf (put (listed station) txn key value) ⌝ }
 {
     let tested = is_sound(station);
     let change = transactions::put(station, tested, txn, key, value);
@@ -44,7 +45,7 @@ pub fn put(station: Station, txn: u32, key: u8, value: u64) -> Outcome
 
 // Reads a key: the transaction's own value, or the version that Algorithm 1 chooses.
 pub fn get(station: Station, store: &[u8], txn: u32, key: u8) -> Outcome
-    ensures { λ r. ⌜ r ≡ outcomeOf (get station (now (store .entry)) txn key) ⌝ }
+    ensures { λ r. ⌜ listedOutcome r ≡ outcomeOf (get (listed station) (now (store .entry)) txn key) ⌝ }
 {
     let tested = is_sound(station);
     let change = storing::get(station, tested, store, txn, key);
@@ -53,7 +54,7 @@ pub fn get(station: Station, store: &[u8], txn: u32, key: u8) -> Outcome
 
 // Begins to close a transaction, in the highest free slot. A read-only one is over at once, and a retry of a held one changes nothing.
 pub fn commit(station: Station, txn: u32, clock: u64) -> Outcome
-    ensures { λ r. ⌜ r ≡ outcomeOf (commit station txn clock) ⌝ }
+    ensures { λ r. ⌜ listedOutcome r ≡ outcomeOf (commit (listed station) txn clock) ⌝ }
 {
     let tested = is_sound(station);
     let change = transactions::commit(station, tested, txn, clock);
@@ -62,7 +63,7 @@ pub fn commit(station: Station, txn: u32, clock: u64) -> Outcome
 
 // Stores the next record of a closing transaction; after the commit record, acknowledges.
 pub fn step(station: Station, store: &mut [u8], txn: u32) -> Outcome
-    ensures { λ r. ⌜ (r ≡ outcomeOf (step station (now (store .entry)) txn)) × (now (store .exit) ≡ stored (step station (now (store .entry)) txn .stores) (now (store .entry))) ⌝ }
+    ensures { λ r. ⌜ (listedOutcome r ≡ outcomeOf (step (listed station) (now (store .entry)) txn)) × (now (store .exit) ≡ stored (step (listed station) (now (store .entry)) txn .stores) (now (store .entry))) ⌝ }
 {
     let tested = is_sound(station);
     let change = storing::step(station, tested, store, txn);
@@ -71,7 +72,7 @@ pub fn step(station: Station, store: &mut [u8], txn: u32) -> Outcome
 
 // Forgets an open transaction.
 pub fn abort(station: Station, txn: u32) -> Outcome
-    ensures { λ r. ⌜ r ≡ outcomeOf (abort station txn) ⌝ }
+    ensures { λ r. ⌜ listedOutcome r ≡ outcomeOf (abort (listed station) txn) ⌝ }
 {
     let tested = is_sound(station);
     let change = transactions::abort(station, tested, txn);
@@ -80,7 +81,7 @@ pub fn abort(station: Station, txn: u32) -> Outcome
 
 // Frees the slot of an entry that is superseded on every key it wrote and that no live transaction has read.
 pub fn collect(station: Station, store: &mut [u8], slot: u8) -> Outcome
-    ensures { λ r. ⌜ (r ≡ outcomeOf (collect station (now (store .entry)) slot)) × (now (store .exit) ≡ stored (collect station (now (store .entry)) slot .stores) (now (store .entry))) ⌝ }
+    ensures { λ r. ⌜ (listedOutcome r ≡ outcomeOf (collect (listed station) (now (store .entry)) slot)) × (now (store .exit) ≡ stored (collect (listed station) (now (store .entry)) slot .stores) (now (store .entry))) ⌝ }
 {
     let tested = is_sound(station);
     let change = storing::collect(station, tested, store, slot);
@@ -89,7 +90,7 @@ pub fn collect(station: Station, store: &mut [u8], slot: u8) -> Outcome
 
 // Collects the oldest entries that may be collected, at most so many, and answers how many: as that many collects one after the other.
 pub fn sweep(station: Station, store: &mut [u8], limit: u64) -> Outcome
-    ensures { λ r. ⌜ (r ≡ outcomeOf (sweep station (now (store .entry)) limit)) × (now (store .exit) ≡ stored (sweep station (now (store .entry)) limit .stores) (now (store .entry))) ⌝ }
+    ensures { λ r. ⌜ (listedOutcome r ≡ outcomeOf (sweep (listed station) (now (store .entry)) limit)) × (now (store .exit) ≡ stored (sweep (listed station) (now (store .entry)) limit .stores) (now (store .entry))) ⌝ }
 {
     let tested = is_sound(station);
     sweeping::sweep(station, tested, store, limit)

@@ -6,8 +6,8 @@ use mathlib.Core.Bool.{Bool, true, false, not, true≢false}
 use mathlib.Core.List.{List, [], _∷_}
 use mathlib.Core.Option.{Option, some, none}
 use types.Run.{OneOf, miss}
-use Rattle.model.specs.declared.Station.{Station}
-use Rattle.model.specs.declared.Outcome.{Outcome}
+use Rattle.model.specs.declared.Station as machine
+use Rattle.model.specs.Types.{Station, Outcome}
 use Rattle.model.specs.declared.Answer.the-variants as A
 use Rattle.model.specs.Lists.{_or_}
 use Rattle.model.specs.Sound.{sound}
@@ -78,12 +78,12 @@ module _ (st : Station) (s : List ℕ) (q : Request) (c : Call) (e : callOf (q .
   quiet-kept z = call-kept s (sym (ap (λ (x : List RecordWrite). stored x s) z))
 
   -- so a call's change is the request's
-  pub decides : (ch : Change) → IsChange st (does c st s) ch → (s′ : List ℕ) → s′ ≡ stored (does c st s .stores) s → IsChange st (effectOf st s q) ch × (s′ ≡ kept st s q)
-  decides ch h s′ k = (as-effect _ _ _ _ (sym is-call) h, call-kept s′ k)
+  pub decides : (m : machine.Station) (ch : Change) → IsChange m (does c st s) ch → (s′ : List ℕ) → s′ ≡ stored (does c st s .stores) s → IsChange m (effectOf st s q) ch × (s′ ≡ kept st s q)
+  decides m ch h s′ k = (as-effect _ _ _ _ (sym is-call) h, call-kept s′ k)
 
   -- that of one that stores nothing
-  pub decides-quiet : (ch : Change) → IsChange st (does c st s) ch → does c st s .stores ≡ [] → IsChange st (effectOf st s q) ch × (s ≡ kept st s q)
-  decides-quiet ch h z = (as-effect _ _ _ _ (sym is-call) h, quiet-kept z)
+  pub decides-quiet : (m : machine.Station) (ch : Change) → IsChange m (does c st s) ch → does c st s .stores ≡ [] → IsChange m (effectOf st s q) ch × (s ≡ kept st s q)
+  decides-quiet m ch h z = (as-effect _ _ _ _ (sym is-call) h, quiet-kept z)
 
 module _ (st : Station) (s : List ℕ) (q : Request) (e : callOf (q .command) ≡ none) where
   is-none : says (A.Refused 19 0) st ≡ effectOf st s q
@@ -94,8 +94,8 @@ module _ (st : Station) (s : List ℕ) (q : Request) (e : callOf (q .command) �
   unfolding kept says stored
   none-kept = ap (λ (x : Effect). stored (x .stores) s) is-none
 
-  pub decides-not : (ch : Change) → IsChange st (says (A.Refused 19 0) st) ch → IsChange st (effectOf st s q) ch × (s ≡ kept st s q)
-  decides-not ch h = (as-effect _ _ _ _ (sym is-none) h, none-kept)
+  pub decides-not : (m : machine.Station) (ch : Change) → IsChange m (says (A.Refused 19 0) st) ch → IsChange m (effectOf st s q) ch × (s ≡ kept st s q)
+  decides-not m ch h = (as-effect _ _ _ _ (sym is-none) h, none-kept)
 
 -- ── a scan, told by its kind ──
 scan-only : (c : Call) → isScan c ≡ true → c ≡ Scan

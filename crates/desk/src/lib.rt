@@ -18,6 +18,7 @@ use transactions::start;
 ghost use mathlib.Core.Path.{_≡_};
 ghost use mathlib.Core.Bool.{false};
 ghost use Rattle.model.specs.Lists.{_or_};
+ghost use Rattle.model.specs.Listed.{listed, listedOutcome};
 ghost use Rattle.model.specs.Sound.{sound};
 ghost use Rattle.stations.specs.Changes.{IsChange};
 ghost use Rattle.desk.specs.Acts.{callOf, asksScan, asksSweep, effectOf, acted, kept};
@@ -40,8 +41,8 @@ pub fn asks_scan(command: Command) -> bool
 
 // The change that a request comes to: its call's, or 19 where the line was malformed. A cut is no change but a station read anew, and a sweep many.
 pub fn decide(station: Station, store: &mut [u8], request: Request) -> Change
-    requires { ⌜ (request .tested ≡ sound station) × (asksScan (callOf (request .command)) ≡ false) × (asksSweep (callOf (request .command)) ≡ false) ⌝ }
-    ensures { λ r. ⌜ (IsChange station (effectOf station (now (store .entry)) request) r) × (now (store .exit) ≡ kept station (now (store .entry)) request) ⌝ }
+    requires { ⌜ (request .tested ≡ sound (listed station)) × (asksScan (callOf (request .command)) ≡ false) × (asksSweep (callOf (request .command)) ≡ false) ⌝ }
+    ensures { λ r. ⌜ (IsChange station (effectOf (listed station) (now (store .entry)) request) r) × (now (store .exit) ≡ kept (listed station) (now (store .entry)) request) ⌝ }
 {
     let tested = request.tested;
     let command = request.command;
@@ -74,8 +75,8 @@ pub fn tested_after(request: Request) -> bool
 
 // Carries out a request.
 pub fn act(station: Station, store: &mut [u8], request: Request) -> Outcome
-    requires { ⌜ request .tested ≡ sound station ⌝ }
-    ensures { λ r. ⌜ (r ≡ acted station (now (store .entry)) request) × (now (store .exit) ≡ kept station (now (store .entry)) request) ⌝ }
+    requires { ⌜ request .tested ≡ sound (listed station) ⌝ }
+    ensures { λ r. ⌜ (listedOutcome r ≡ acted (listed station) (now (store .entry)) request) × (now (store .exit) ≡ kept (listed station) (now (store .entry)) request) ⌝ }
 {
     let command = request.command;
     if asks_scan(command) {

@@ -141,29 +141,13 @@ fn same_lives(a: [Live; Station::LIVE], b: [Live; Station::LIVE]) -> bool {
     true
 }
 
-fn same_keys(a: [u8; Station::WRITES], b: [u8; Station::WRITES]) -> bool {
-    let mut i = 0;
-    while i < Station::WRITES {
-        if a[i] != b[i] {
-            return false;
-        }
-        i += 1;
-    }
-    true
-}
-
 fn same_entry(a: Entry, b: Entry) -> bool {
-    if a.count != b.count {
+    if a.keys != b.keys {
         return false;
     }
     let x = a.id;
     let y = b.id;
-    if !same_id(x, y) {
-        return false;
-    }
-    let v = a.keys;
-    let w = b.keys;
-    same_keys(v, w)
+    same_id(x, y)
 }
 
 fn same_entries(a: [Entry; Station::SLOTS], b: [Entry; Station::SLOTS]) -> bool {
@@ -312,17 +296,8 @@ fn edited_live(l: Live, field: u64, i: usize, x: u64) -> Live {
     with_read(l, field, i, x)
 }
 
-fn with_key(e: Entry, i: usize, key: u8) -> Entry {
-    if i >= Station::WRITES {
-        return e;
-    }
-    let mut f = e;
-    f.keys[i] = key;
-    f
-}
-
-// 20: number. 21: clock. 22: keys written. 23: a key.
-fn edited_entry(e: Entry, field: u64, i: usize, x: u64) -> Entry {
+// 20: number. 21: clock. 22: keys written, bit k of the value standing for key k.
+fn edited_entry(e: Entry, field: u64, x: u64) -> Entry {
     let id = e.id;
     let mut f = e;
     if field == 20 {
@@ -341,11 +316,8 @@ fn edited_entry(e: Entry, field: u64, i: usize, x: u64) -> Entry {
         f.id = late;
         return f;
     }
-    if field == 22 {
-        f.count = low8(x);
-        return f;
-    }
-    with_key(e, i, low8(x))
+    f.keys = x;
+    f
 }
 
 fn with_live(station: Station, place: usize, field: u64, i: usize, x: u64) -> Station {
@@ -359,21 +331,21 @@ fn with_live(station: Station, place: usize, field: u64, i: usize, x: u64) -> St
     s
 }
 
-fn with_entry(station: Station, slot: usize, field: u64, i: usize, x: u64) -> Station {
+fn with_entry(station: Station, slot: usize, field: u64, x: u64) -> Station {
     if slot >= Station::SLOTS {
         return station;
     }
     let mut s = station;
     let e = s.entries[slot];
-    let f = edited_entry(e, field, i, x);
+    let f = edited_entry(e, field, x);
     s.entries[slot] = f;
     s
 }
 
-// The station with one field changed: 0 to 13 of a live transaction's place, 20 to 23 of an entry's.
+// The station with one field changed: 0 to 13 of a live transaction's place, 20 to 22 of an entry's, which has no positions.
 pub fn edited(station: Station, field: u64, place: usize, i: usize, x: u64) -> Station {
     if field < 20 {
         return with_live(station, place, field, i, x);
     }
-    with_entry(station, place, field, i, x)
+    with_entry(station, place, field, x)
 }

@@ -8,8 +8,7 @@ use mathlib.Core.Option.{Option, some, none, Option·none-ne-some}
 use lib.ListN.{length}
 use native.Mathlib.Decide.{ℕ-discrete}
 use Rattle.model.specs.declared.Id.{Id}
-use Rattle.model.specs.declared.Entry.{Entry}
-use Rattle.model.specs.declared.Station.{Station}
+use Rattle.model.specs.Types.{Entry, Station}
 use Rattle.model.specs.Ids.{older}
 use Rattle.model.specs.Entries.{wrote}
 use Rattle.model.specs.Stations.{liveAt, entryAt, isHeld}

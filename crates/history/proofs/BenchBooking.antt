@@ -8,7 +8,7 @@ use Rattle.model.specs.Lists.{_and_, _or_, all, any, first, insert, padded, fro
 use Rattle.model.specs.Ids.{sameId}
 use Rattle.model.specs.Bytes.{bytes, headBytes}
 use Rattle.model.specs.Lives.{writesOf, readsOf, hasWritten, isClosing, closingSlot, closingClock, recordsStored, slotMark, withWrites, withPhase}
-use Rattle.model.specs.Entries.{keysOf, commitRecord, entryRules, isNoEntry, entryFor}
+use Rattle.model.specs.Entries.{commitRecord, entryRules, isNoEntry, entryFor}
 use Rattle.model.specs.Stations.{emptyStation, liveAt, entryAt, setLive, setEntry, liveTxns, heldTxns, isLive, isHeld, placeOf, slotOf, holds, closingSlots, isFree}
 use Rattle.model.specs.Records.{versionRecord, withRecord}
 use Rattle.model.specs.Sound.{isNoWrite, isNoRead, isNoLive, zeroPastCounts, setsRight, names, inUse, closingRight, placeRight, entryRight, sound}
@@ -36,7 +36,7 @@ no-start : Step 9 ≡ Start 9 → ⊥
 no-start e = let z : _≡_ {A = ℕ} 0 1 = cc in absurd (omega arith)
 
 pub is-booking : Booking before closing later 9 50 1 11 8 (record { clock = 101; txn = 9 })
-unfolding before closing later emptyLedger draftOf without revised withDrafts at committedFrom clocksIn feed begin handed reports fed afterCall next run callIn isSweep txnOf keyOf numberOf _and_ _or_ all any first insert padded from member ascending distinct anyBelow greatestBelow sameId emptyStation writesOf readsOf keysOf hasWritten isClosing closingSlot closingClock recordsStored liveAt entryAt setLive setEntry liveTxns heldTxns isLive isHeld placeOf slotOf holds slotMark closingSlots isFree bytes headBytes commitRecord versionRecord entryRules withRecord isNoWrite isNoRead isNoEntry isNoLive zeroPastCounts setsRight names inUse closingRight placeRight entryRight sound stored says saysStoring refusals wrongLength unsound opened start withWrites withWrite put withPhase highestFree maximum clocks clockAbove commit entryFor oneMore stepped step does
+unfolding before closing later emptyLedger draftOf without revised withDrafts at committedFrom clocksIn feed begin handed reports fed afterCall next run callIn isSweep txnOf keyOf numberOf _and_ _or_ all any first insert padded from member ascending distinct anyBelow greatestBelow sameId emptyStation writesOf readsOf hasWritten isClosing closingSlot closingClock recordsStored liveAt entryAt setLive setEntry liveTxns heldTxns isLive isHeld placeOf slotOf holds slotMark closingSlots isFree bytes headBytes commitRecord versionRecord entryRules withRecord isNoWrite isNoRead isNoEntry isNoLive zeroPastCounts setsRight names inUse closingRight placeRight entryRight sound stored says saysStoring refusals wrongLength unsound opened start withWrites withWrite put withPhase highestFree maximum clocks clockAbove commit entryFor oneMore stepped step does
 is-booking = record {
   slot = 62;
   closes = (_, refl, refl);

@@ -8,12 +8,12 @@ use mathlib.Core.Option.{some, none}
 use native.Mathlib.Nat.{lt-irrefl}
 use native.Mathlib.Omega.{arith}
 use Rattle.model.specs.declared.Id.{Id}
-use Rattle.model.specs.declared.Station.{Station}
+use Rattle.model.specs.Types.{Station}
 use Rattle.model.specs.declared.Answer.{Answer}
 use Rattle.model.specs.declared.Answer.the-variants as A
 use Rattle.model.specs.Limits.{numberRange}
 use Rattle.model.specs.Ids.{older}
-use Rattle.model.specs.Ranges.{StationFits}
+use Rattle.model.specs.Ranges.{ListsFit}
 use Rattle.model.specs.Clocks.{clocks, clockAbove}
 use Rattle.model.specs.Sound.{sound}
 use Rattle.model.specs.Get.{get}
@@ -168,7 +168,7 @@ booking-just-made vs₀ vs₁ vs₂ t c u k v i f bk = (g .0, g .1, (st, bk .run
     k₂ : (sound st ≡ true) × Inv st (run h₂ begin .store) (run h₂ begin .ledger)
     k₂ = running-keeps h₂ (all-in-range h₂ f) st (bk .runs .1)
 
-    fits : StationFits st
+    fits : ListsFit st
     fits = subst TypedNode (bk .runs .1) (typed-run h₂ begin f typed-begin .node)
 
     g : (x : ℕ) × (j : Id) × (get st (run h₂ begin .store) u k .answer ≡ A.Version x j) × (((j ≡ ack .0 .id) × (ack .0 .values k ≡ some x)) ⊎ Newer j (ack .0 .id))

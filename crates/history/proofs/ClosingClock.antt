@@ -7,7 +7,7 @@ use mathlib.Core.List.{List, []}
 use mathlib.Core.Option.{Option, some, none, Option·none-ne-some}
 use native.Mathlib.Decide.{ℕ-discrete}
 use native.Mathlib.Omega.{arith}
-use Rattle.model.specs.declared.Station.{Station}
+use Rattle.model.specs.Types.{Station}
 use Rattle.model.specs.Lives.{isClosing}
 use Rattle.model.specs.Stations.{liveAt, isLive, placeOf}
 use Rattle.model.specs.Ranges.{Every}

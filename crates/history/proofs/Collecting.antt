@@ -9,8 +9,7 @@ use native.Mathlib.Omega.{arith}
 use borrow.Author.Tests.{leb-false, not-false}
 use Rattle.model.specs.declared.Id.{Id}
 use Rattle.model.specs.declared.Live.{Live}
-use Rattle.model.specs.declared.Entry.{Entry}
-use Rattle.model.specs.declared.Station.{Station}
+use Rattle.model.specs.Types.{Entry, Station}
 use Rattle.model.specs.declared.Phase.the-variants.{Closing}
 use Rattle.model.specs.Limits.{slots, width}
 use Rattle.model.specs.Ids.{older}
@@ -27,7 +26,6 @@ use Rattle.model.proofs.CollectionLaws.{newer-writer}
 use Rattle.model.proofs.ReadingLaws.{wrote-as, as-wrote}
 use Rattle.model.proofs.InsideLaws.{noEntry-wrote}
 use Rattle.model.proofs.StationLaws.{entry-get, held-txn, setEntry-at, entryAt-same, entryAt-other, setEntry-live, setEntry-length}
-use Rattle.model.proofs.SoundLaws.{write-limit}
 use Rattle.model.proofs.SoundFacts.{wrote-held, closing-facts}
 use Rattle.history.specs.Ledger.{Committed, Ledger, strike, feed}
 use Rattle.history.specs.CutRule.{committedIn, Wrote, Newer}
@@ -36,7 +34,7 @@ use Rattle.history.proofs.Lasting.{lasting}
 use Rattle.history.proofs.Striking.{cleared-frame, cleared-other, cleared-free, core-strike}
 use Rattle.history.proofs.DraftLaws.{drafts-cast}
 use Rattle.history.proofs.CommittedLaws.{stands, wrote-committed, committed-id}
-use Rattle.history.proofs.SlotOwners.{prepared-frame}
+use Rattle.history.proofs.SlotOwners.{writes-few, prepared-frame}
 
 -- what supersedence says, of a station
 pub newer-entry : (st : Station) (e : Entry) → superseded (st .entries) e ≡ true → (k : ℕ) → wrote e k ≡ true
@@ -95,7 +93,7 @@ module _ (st : Station) (s : List ℕ) (b : Ledger) (inv : Inv st s b) (h : soun
     count = setEntry-length st d noEntry ∙ sl .count;
     entered = entry-end (λ k x. x .id .txn ≢ 0 → seen s′ k ≡ committed x) (λ n. absurd (n refl)) (λ k nk n. seen-other k nk ∙ sl .entered k n);
     closing = λ i d′ c n. rw (setEntry-live st d noEntry i) (λ e.
-        prepared-frame s s′ (liveAt st i) d′ c n (write-limit (liveAt st i) (closing-facts st h i d′ c n e .used .sets)) (λ k ok. frame d′ k (apart i d′ c n e) ok) (sl .closing i d′ c n e));
+        prepared-frame s s′ (liveAt st i) d′ c n (writes-few (liveAt st i) (closing-facts st h i d′ c n e .used .sets)) (λ k ok. frame d′ k (apart i d′ c n e) ok) (sl .closing i d′ c n e));
     unused = λ d′ od. entry-end (λ k x. k < slots → x .id .txn ≡ 0 → ((i c n : ℕ) → liveAt end i .phase ≡ Closing k c n → ⊥) → seen s′ k ≡ free) (λ ok e no-one. now-free)
         (λ k nk ok e no-one. seen-other k nk ∙ sl .unused k ok e (λ i c n y. no-one i c n (ap (λ (l : Live). l .phase) (setEntry-live st d noEntry i) ∙ y))) d′ od;
   }

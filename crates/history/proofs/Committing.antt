@@ -9,13 +9,12 @@ use native.Mathlib.Nat.{lt-irrefl}
 use native.Mathlib.Omega.{arith}
 use borrow.Author.Tests.{eqb-false, not-true, not-false, le-leb}
 use Rattle.model.specs.declared.Live.{Live}
-use Rattle.model.specs.declared.Entry.{Entry}
-use Rattle.model.specs.declared.Station.{Station}
+use Rattle.model.specs.Types.{Entry, Station}
 use Rattle.model.specs.declared.Phase.{Phase}
 use Rattle.model.specs.declared.Phase.the-variants.{Closing}
 use Rattle.model.specs.Lists.{_and_, member, anyBelow}
 use Rattle.model.specs.Limits.{slots, numberRange, lastClock}
-use Rattle.model.specs.Lives.{writesOf, readsOf, isClosing, closingClock, withPhase}
+use Rattle.model.specs.Lives.{writesOf, readsOf, writeCount, isClosing, closingClock, withPhase}
 use Rattle.model.specs.Stations.{liveAt, setLive, isLive, isHeld, placeOf, isFree}
 use Rattle.model.specs.Slots.{free, seen}
 use Rattle.model.specs.Sound.{sound}
@@ -63,11 +62,15 @@ closing-matches d c p l m = record {
 -- a phase with its clock in range
 pub phase-ranges : (p : Phase) (l : Live) → closingClock p < numberRange → Ranges l → Ranges (withPhase p l)
 unfolding withPhase writesOf
-phase-ranges p l f rg = record { txn = rg .txn; clock = f; filled = rg .filled; values = rg .values }
+phase-ranges p l f rg = record { txn = rg .txn; clock = f; values = rg .values }
 
 pub phase-reads : (es : List Entry) (p : Phase) (l : Live) → Atomic es (readsOf l) → Atomic es (readsOf (withPhase p l))
 unfolding withPhase readsOf
 phase-reads es p l a = a
+
+pub phase-writes : (p : Phase) (l : Live) → writeCount (withPhase p l) ≡ writeCount l
+unfolding withPhase writesOf
+phase-writes p l = refl
 
 pub phase-of : (p : Phase) (l : Live) → withPhase p l .phase ≡ p
 unfolding withPhase
@@ -128,11 +131,11 @@ commit-keeps st s b t c inv h oc =
     live : isHeld t st ≡ false → (not (isLive t st) and not (isHeld t st)) ≡ false → isLive t st ≡ true
     live hh h8 = ⊎-elim (λ y. y) (λ y. absurd (true≢false (sym (and-intro _ _ (not-of-false _ y) (not-of-false _ hh)) ∙ h8))) (bool-cases (isLive t st))
 
-    written : eqb (liveAt st (placeOf t st) .«write_count») 0 ≡ false → leb 1 (liveAt st (placeOf t st) .«write_count») ≡ true
-    written hw = le-leb 1 (liveAt st (placeOf t st) .«write_count») (omega (arith, eqb-false (liveAt st (placeOf t st) .«write_count») 0 hw))
+    written : eqb (writeCount (liveAt st (placeOf t st))) 0 ≡ false → leb 1 (writeCount (liveAt st (placeOf t st))) ≡ true
+    written hw = le-leb 1 (writeCount (liveAt st (placeOf t st))) (omega (arith, eqb-false (writeCount (liveAt st (placeOf t st))) 0 hw))
 
-    low : eqb (liveAt st (placeOf t st) .«write_count») 0 ≡ false → (leb 1 (liveAt st (placeOf t st) .«write_count») and member lastClock (clocks st)) ≡ false → clockAbove c (clocks st) < numberRange
+    low : eqb (writeCount (liveAt st (placeOf t st))) 0 ≡ false → (leb 1 (writeCount (liveAt st (placeOf t st))) and member lastClock (clocks st)) ≡ false → clockAbove c (clocks st) < numberRange
     low hw h21 = clock-below c (clocks st) oc (clocks-low st s b inv h) (and-second _ _ h21 (written hw))
 
-    some-free : eqb (liveAt st (placeOf t st) .«write_count») 0 ≡ false → (leb 1 (liveAt st (placeOf t st) .«write_count») and not (anyBelow (isFree st) slots)) ≡ false → anyBelow (isFree st) slots ≡ true
+    some-free : eqb (writeCount (liveAt st (placeOf t st))) 0 ≡ false → (leb 1 (writeCount (liveAt st (placeOf t st))) and not (anyBelow (isFree st) slots)) ≡ false → anyBelow (isFree st) slots ≡ true
     some-free hw h13 = not-false _ (and-second _ _ h13 (written hw))

@@ -13,7 +13,7 @@ use borrow.Author.Tests.{ltb-false, eqb-false, not-false}
 use Rattle.model.specs.declared.Id.{Id}
 use Rattle.model.specs.declared.Read.{Read}
 use Rattle.model.specs.declared.Live.{Live}
-use Rattle.model.specs.declared.Station.{Station}
+use Rattle.model.specs.Types.{Station}
 use Rattle.model.specs.declared.Phase.{Phase}
 use Rattle.model.specs.declared.Phase.the-variants.{Unused, Open, Closing}
 use Rattle.model.specs.declared.Answer.{Answer}
@@ -21,7 +21,7 @@ use Rattle.model.specs.declared.Answer.the-variants as A
 use Rattle.model.specs.Lists.{all, any, member}
 use Rattle.model.specs.Limits.{slots, sweepLimit}
 use Rattle.model.specs.Ids.{older}
-use Rattle.model.specs.Lives.{isClosing, closingSlot, recordsStored}
+use Rattle.model.specs.Lives.{writeCount, isClosing, closingSlot, recordsStored}
 use Rattle.model.specs.Entries.{entryFor}
 use Rattle.model.specs.Stations.{liveAt, entryAt, isLive, isHeld, placeOf, slotOf}
 use Rattle.model.specs.Sound.{sound}
@@ -122,8 +122,8 @@ unfolding stepped isClosing recordsStored closingSlot saysStoring says
 done-stands st s b inv t i Unused q c h = absurd (false≢true c)
 done-stands st s b inv t i Open q c h = absurd (false≢true c)
 done-stands st s b inv t i (Closing d c n) q _ h =
-    let r = last (ltb n (l .«write_count»)) (eqb n (l .«write_count»)) _ d _ _ _ (entryFor l .id) i refl refl refl h in
-    let full : l .«write_count» < n = omega (arith, ltb-false n (l .«write_count») (r .0), eqb-false n (l .«write_count») (r .1)) in (
+    let r = last (ltb n (writeCount l)) (eqb n (writeCount l)) _ d _ _ _ (entryFor l .id) i refl refl refl h in
+    let full : writeCount l < n = omega (arith, ltb-false n (writeCount l) (r .0), eqb-false n (writeCount l) (r .1)) in (
       committedIn s d (entryFor l),
       stands s (b .standing) (inv .core .found) d (entryFor l) (pr .low) (pr .marked full),
       committed-id s d (entryFor l) ∙ r .2,
@@ -170,7 +170,7 @@ pub retry-alters-nothing : (st : Station) (t c : ℕ) (i : Id) → commit st t c
 unfolding commit all
 retry-alters-nothing st t c i h =
     let a = accepted _ st _ refl (ap refusedWith h ∙ (unfold refusedWith in refl)) in
-    let r = held-first (isHeld t st) (eqb (liveAt st (placeOf t st) .«write_count») 0) st _ _ _ _ i (sym (ap (λ (e : Effect). e .answer) (a .1)) ∙ h) in
+    let r = held-first (isHeld t st) (eqb (writeCount (liveAt st (placeOf t st))) 0) st _ _ _ _ i (sym (ap (λ (e : Effect). e .answer) (a .1)) ∙ h) in
     (r .0, r .1, a .1 ∙ (r .2 ∙ ap (λ (x : Id). says (A.Done x) st) (r .1)), eqb-false t 0 (row-off 3 _ _ (row-off 2 _ _ (a .0) .1) .0))
 
 pub retry-stands-once : (vs : List Event) → AllInRange vs → (st : Station) → run vs begin .node ≡ running st → (t c : ℕ) (i : Id)

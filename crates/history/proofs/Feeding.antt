@@ -8,10 +8,10 @@ use mathlib.Core.Option.{Option, some, none}
 use lib.Dec.{eqb, leb, ltb}
 use borrow.Author.Tests.{not-false}
 use Rattle.model.specs.declared.Id.{Id}
-use Rattle.model.specs.declared.Station.{Station}
+use Rattle.model.specs.Types.{Station}
 use Rattle.model.specs.declared.Answer.{Answer}
 use Rattle.model.specs.declared.Answer.the-variants as A
-use Rattle.model.specs.Lives.{isClosing, recordsStored}
+use Rattle.model.specs.Lives.{writeCount, isClosing, recordsStored}
 use Rattle.model.specs.Stations.{liveAt, entryAt, isLive, isHeld, placeOf}
 use Rattle.model.specs.Ranges.{Every}
 use Rattle.model.specs.Sound.{sound}
@@ -102,10 +102,10 @@ module _ (P : Ledger → Type 0) (Allowed : Call → Type 0) where
           by-choice (version d) = leaves-says b _ _ (k .read t x _)
       feeds (Commit t x) a = row 2 _ _ _ λ h2. row 3 _ _ _ λ h3. row 5 _ _ _ λ h5. row 8 _ _ _ λ h8. row 9 _ _ _ λ h9. row 13 _ _ _ λ h13. row 21 _ _ _ λ h21.
           rest _ (choice (isHeld t st) _ _ (λ y. leaves-says b _ _ (k .torn t)) λ y.
-          choice (eqb (liveAt st (placeOf t st) .«write_count») 0) _ _ (λ z. leaves-says b _ _ (k .torn t)) λ z. leaves-says b _ _ (k .closing t _ (not-false _ (and-first _ _ h8 (not-of-false _ y))) h9))
+          choice (eqb (writeCount (liveAt st (placeOf t st))) 0) _ _ (λ z. leaves-says b _ _ (k .torn t)) λ z. leaves-says b _ _ (k .closing t _ (not-false _ (and-first _ _ h8 (not-of-false _ y))) h9))
       feeds (Step t) a = row 1 _ _ _ λ h1. row 2 _ _ _ λ h2. row 3 _ _ _ λ h3. row 8 _ _ _ λ h8. row 10 _ _ _ λ h10.
-          rest _ (choice (ltb (recordsStored (liveAt st (placeOf t st) .phase)) (liveAt st (placeOf t st) .«write_count»)) _ _ (λ y. leaves-stores b _ _ _ _ _ p) λ y.
-          choice (eqb (recordsStored (liveAt st (placeOf t st) .phase)) (liveAt st (placeOf t st) .«write_count»)) _ _
+          rest _ (choice (ltb (recordsStored (liveAt st (placeOf t st) .phase)) (writeCount (liveAt st (placeOf t st)))) _ _ (λ y. leaves-stores b _ _ _ _ _ p) λ y.
+          choice (eqb (recordsStored (liveAt st (placeOf t st) .phase)) (writeCount (liveAt st (placeOf t st)))) _ _
           (λ z. leaves-stores b _ _ _ _ _ (k .slipped (committedFrom (draftOf t (b .drafts))))) λ z. leaves-says b _ _ (k .torn t))
       feeds (Abort t) a = row 2 _ _ _ λ h2. row 3 _ _ _ λ h3. row 8 _ _ _ λ h8. row 9 _ _ _ λ h9. rest _ (leaves-says b _ _ (k .torn t))
       feeds (Collect d) a = row 1 _ _ _ λ h1. row 2 _ _ _ λ h2. row 14 _ _ _ λ h14. row 15 _ _ _ λ h15. row 16 _ _ _ λ h16. row 17 _ _ _ λ h17.
@@ -147,7 +147,7 @@ module _ (P : Ledger → Type 0) (Allowed : Call → Type 0) where
       all-fed c st s b a h inv p = cond-rule (λ (rs : List Report). AllFed rs b) (isSweep c) _ _ (λ y. collects _ st s b h inv p) (λ y. one-more _ [] b p (nothing _ (feeds st s b inv p (each st s b inv h p) c a .holds)))
 
       -- ── a history ──
-      handed-feeds : (c : Call) (n : Node) (st : Station) (s : List ℕ) (b : Ledger) → Allowed c → Core s (b .standing) (b .past) → Running n s b → handed c n ≡ some st → P b → AllFed (reports c (does c st s .answer) st s) b
+      handed-feeds : (c : Call) (n : Node Station) (st : Station) (s : List ℕ) (b : Ledger) → Allowed c → Core s (b .standing) (b .past) → Running n s b → handed c n ≡ some st → P b → AllFed (reports c (does c st s .answer) st s) b
       unfolding handed
       handed-feeds c (running st₀) st s b a core r e p = subst (λ (x : Station). AllFed (reports c (does c x s .answer) x s) b) (some-inj e) (all-fed c st₀ s b a (r .0) (r .1) p)
       handed-feeds c down st s b a core r e p = subst (λ (x : Call). AllFed (reports x (does x st s .answer) st s) b) (sym (only-scan c st e))

@@ -14,15 +14,14 @@ use borrow.Author.Tests.{ne-eqb, lt-leb}
 use Rattle.model.specs.declared.Id.{Id}
 use Rattle.model.specs.declared.Read.{Read}
 use Rattle.model.specs.declared.Live.{Live}
-use Rattle.model.specs.declared.Entry.{Entry}
-use Rattle.model.specs.declared.Station.{Station}
+use Rattle.model.specs.Types.{Entry, Station}
 use Rattle.model.specs.declared.Answer.the-variants as A
 use Rattle.model.specs.Limits.{keys, readLimit}
 use Rattle.model.specs.Ids.{older}
 use Rattle.model.specs.Lives.{readsOf, hasWritten, isClosing}
 use Rattle.model.specs.Entries.{noEntry, keysOf, wrote}
 use Rattle.model.specs.Stations.{liveAt, entryAt, isLive, placeOf}
-use Rattle.model.specs.Ranges.{LiveFits, StationFits}
+use Rattle.model.specs.Ranges.{LiveFits, ListsFit}
 use Rattle.model.specs.Records.{valueIn}
 use Rattle.model.specs.Sound.{sound}
 use Rattle.model.specs.Reading.{version}
@@ -56,7 +55,7 @@ not-some : {A : Type 0} (c : Bool) (x : A) → _≡_ {A = Option A} none (cond c
 not-some true x e = absurd (Option·none-ne-some x e)
 not-some false x e = refl
 
-module _ (st : Station) (s : List ℕ) (b : Ledger) (inv : Inv st s b) (h : sound st ≡ true) (fits : StationFits st) where
+module _ (st : Station) (s : List ℕ) (b : Ledger) (inv : Inv st s b) (h : sound st ≡ true) (fits : ListsFit st) where
   -- ── the transaction that asks ──
   module _ (u k : ℕ) (q : Draft) (live : draftOf u (b .drafts) ≡ some q) (open-still : q .clock ≡ 0) (unread : (r : Read) → List·Memᴰ r (q .reads) → ⊥) (unwritten : q .values k ≡ none) where
     abbrev l : Live

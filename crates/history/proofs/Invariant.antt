@@ -12,13 +12,12 @@ use mathlib.Core.Option.{Option, some}
 use Rattle.model.specs.declared.Read.{Read}
 use Rattle.model.specs.declared.Write.{Write}
 use Rattle.model.specs.declared.Live.{Live}
-use Rattle.model.specs.declared.Entry.{Entry}
-use Rattle.model.specs.declared.Station.{Station}
+use Rattle.model.specs.Types.{Entry, Station}
 use Rattle.model.specs.declared.Phase.the-variants.{Closing}
 use Rattle.model.specs.declared.Answer.{Answer}
 use Rattle.model.specs.declared.Answer.the-variants as A
-use Rattle.model.specs.Limits.{slots, writeLimit, storeSize, txnRange, numberRange}
-use Rattle.model.specs.Lives.{noWrite, writesOf, readsOf, closingClock}
+use Rattle.model.specs.Limits.{slots, storeSize, txnRange, numberRange}
+use Rattle.model.specs.Lives.{noWrite, writesOf, readsOf, writeCount, closingClock}
 use Rattle.model.specs.Entries.{entryFor}
 use Rattle.model.specs.Stations.{liveAt, entryAt}
 use Rattle.model.specs.Records.{versionRecord, recordAt, withRecord}
@@ -43,9 +42,9 @@ nth l j = getD (l .writes) j noWrite
 -- slot d of the store is as far as n steps of the closing transaction l bring it
 pub record Prepared (s : List ℕ) (l : Live) (d c n : ℕ) : Type 0 where
   pub low : d < slots
-  pub versions : (j : ℕ) → j < n → j < l .«write_count» → recordAt s d (suc j) ≡ versionRecord (nth l j .key) (record { clock = c; txn = l .txn }) (nth l j .value)
-  pub unmarked : n ≤ l .«write_count» → seen s d ≡ free
-  pub marked : l .«write_count» < n → seen s d ≡ committed (entryFor l)
+  pub versions : (j : ℕ) → j < n → j < writeCount l → recordAt s d (suc j) ≡ versionRecord (nth l j .key) (record { clock = c; txn = l .txn }) (nth l j .value)
+  pub unmarked : n ≤ writeCount l → seen s d ≡ free
+  pub marked : writeCount l < n → seen s d ≡ committed (entryFor l)
 
 -- a past transaction stands, or on each key it wrote a standing one is newer
 abbrev pub Dominated : List Committed → Committed → Type 0
@@ -100,7 +99,6 @@ AtomicReads st = (i : ℕ) → Atomic (st .entries) (readsOf (liveAt st i))
 pub record Ranges (l : Live) : Type 0 where
   pub txn : l .txn < txnRange
   pub clock : closingClock (l .phase) < numberRange
-  pub filled : l .txn ≢ 0 → length (l .writes) ≡ writeLimit
   pub values : (w : Write) → List·Memᴰ w (writesOf l) → w .value < numberRange
 
 pub record Inv (st : Station) (s : List ℕ) (b : Ledger) : Type 0 where

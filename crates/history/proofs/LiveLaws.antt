@@ -7,8 +7,7 @@ use lib.Dec.{lit<}
 use lib.ListN.{length}
 use native.Mathlib.Decide.{ℕ-discrete}
 use Rattle.model.specs.declared.Live.{Live}
-use Rattle.model.specs.declared.Entry.{Entry}
-use Rattle.model.specs.declared.Station.{Station}
+use Rattle.model.specs.Types.{Entry, Station}
 use Rattle.model.specs.declared.Phase.the-variants.{Closing}
 use Rattle.model.specs.Lives.{noLive, writesOf, readsOf, isClosing, closingClock}
 use Rattle.model.specs.Stations.{liveAt, setLive, isLive, placeOf}
@@ -56,7 +55,6 @@ unfolding writesOf isClosing
 noLive-ranges = record {
   txn = lit< tt;
   clock = unfold closingClock in lit< tt;
-  filled = λ n. absurd (n refl);
   values = λ w m. absurd (List·Memᴰ·not-nil m);
 }
 

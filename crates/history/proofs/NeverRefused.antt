@@ -6,12 +6,12 @@ use mathlib.Core.List.{List, [], _∷_}
 use lib.Dec.{eqb, ltb}
 use lib.ListN.{length}
 use borrow.Author.Tests.{not-false, eq-eqb}
-use Rattle.model.specs.declared.Station.{Station}
+use Rattle.model.specs.Types.{Station}
 use Rattle.model.specs.declared.Answer.{Answer}
 use Rattle.model.specs.declared.Answer.the-variants as A
 use Rattle.model.specs.Lists.{any, member}
 use Rattle.model.specs.Limits.{storeSize}
-use Rattle.model.specs.Lives.{recordsStored}
+use Rattle.model.specs.Lives.{writeCount, recordsStored}
 use Rattle.model.specs.Stations.{liveAt, entryAt, isHeld, placeOf}
 use Rattle.model.specs.Sound.{sound}
 use Rattle.model.specs.Reading.{Choice, own, absent, nofit, version}
@@ -98,10 +98,10 @@ module _ (st : Station) (s : List ℕ) (b : Ledger) (h : sound st ≡ true) (inv
       by-choice (nofit x) = calm-says _ _ refl
       by-choice (version d) = calm-says _ _ refl
   calm (Commit t c) = off 2 _ _ st _ off2 (row 3 _ _ st _ refl λ h3. row 5 _ _ st _ refl λ h5. row 8 _ _ st _ refl λ h8. row 9 _ _ st _ refl λ h9. row 13 _ _ st _ refl λ h13. row 21 _ _ st _ refl λ h21.
-      unguarded Calm st _ (cond-rule Calm (isHeld t st) _ _ (λ y. calm-says _ _ refl) λ y. cond-rule Calm (eqb (liveAt st (placeOf t st) .«write_count») 0) _ _ (λ w. calm-says _ _ refl) λ w. calm-says _ _ refl))
+      unguarded Calm st _ (cond-rule Calm (isHeld t st) _ _ (λ y. calm-says _ _ refl) λ y. cond-rule Calm (eqb (writeCount (liveAt st (placeOf t st))) 0) _ _ (λ w. calm-says _ _ refl) λ w. calm-says _ _ refl))
   calm (Step t) = off 1 _ _ st _ off1 (off 2 _ _ st _ off2 (row 3 _ _ st _ refl λ h3. row 8 _ _ st _ refl λ h8. row 10 _ _ st _ refl λ h10.
-      unguarded Calm st _ (cond-rule Calm (ltb (recordsStored (liveAt st (placeOf t st) .phase)) (liveAt st (placeOf t st) .«write_count»)) _ _ (λ y. calm-stores _ _ _ _ _ refl) λ y.
-      cond-rule Calm (eqb (recordsStored (liveAt st (placeOf t st) .phase)) (liveAt st (placeOf t st) .«write_count»)) _ _ (λ w. calm-stores _ _ _ _ _ refl) λ w. calm-says _ _ refl)))
+      unguarded Calm st _ (cond-rule Calm (ltb (recordsStored (liveAt st (placeOf t st) .phase)) (writeCount (liveAt st (placeOf t st)))) _ _ (λ y. calm-stores _ _ _ _ _ refl) λ y.
+      cond-rule Calm (eqb (recordsStored (liveAt st (placeOf t st) .phase)) (writeCount (liveAt st (placeOf t st)))) _ _ (λ w. calm-stores _ _ _ _ _ refl) λ w. calm-says _ _ refl)))
   calm (Abort t) = off 2 _ _ st _ off2 (row 3 _ _ st _ refl λ h3. row 8 _ _ st _ refl λ h8. row 9 _ _ st _ refl λ h9. unguarded Calm st _ (calm-says _ _ refl))
   calm (Collect d) = off 1 _ _ st _ off1 (off 2 _ _ st _ off2 (row 14 _ _ st _ refl λ h14. row 15 _ _ st _ refl λ h15. row 16 _ _ st _ refl λ h16.
       off 17 _ _ st _ (not-of-true _ (committed-carries s d (entryAt st d) (inv .slots .entered d (held-txn st d (not-false _ (or-right _ _ h14)))))) (unguarded Calm st _ (calm-stores _ _ _ _ _ refl))))

@@ -1,22 +1,21 @@
 -- start, put and abort keep the invariant.
-use Prim.Native.Nat.{ℕ, _<_, _≤_}
+use Prim.Native.Nat.{ℕ, _<_}
 use mathlib.Core.Path.{_≡_, refl, sym, ap, subst, _∙_}
 use mathlib.Core.Logic.{_≢_, ⊎-elim}
-use mathlib.Core.Bool.{Bool, true, false, not, cond, true≢false}
+use mathlib.Core.Bool.{Bool, true, false, cond, true≢false}
 use mathlib.Core.List.{List, [], _∷_, List·Memᴰ·not-nil}
 use mathlib.Core.Option.{some}
-use lib.Dec.{eqb, ltb, leb, lit<}
+use lib.Dec.{eqb, ltb, lit<}
 use lib.ListN.{length}
 use native.Mathlib.Omega.{arith}
 use borrow.Author.Tests.{ltb-true, eqb-true, eqb-false, not-false}
 use Rattle.model.specs.declared.Write.{Write}
 use Rattle.model.specs.declared.Live.{Live}
-use Rattle.model.specs.declared.Entry.{Entry}
-use Rattle.model.specs.declared.Station.{Station}
+use Rattle.model.specs.Types.{Entry, Station}
 use Rattle.model.specs.declared.Answer.the-variants as A
 use Rattle.model.specs.Lists.{_and_, insert}
-use Rattle.model.specs.Limits.{keys, writeLimit, txnRange, numberRange}
-use Rattle.model.specs.Lives.{noWrite, writesOf, readsOf, writeKey, hasWritten, isClosing, closingClock, withWrites}
+use Rattle.model.specs.Limits.{txnRange, numberRange}
+use Rattle.model.specs.Lives.{writesOf, readsOf, writeKey, isClosing, closingClock, withWrites}
 use Rattle.model.specs.Stations.{liveAt, setLive, isLive, placeOf}
 use Rattle.model.specs.Sound.{sound}
 use Rattle.model.specs.Reading.{Atomic}
@@ -25,10 +24,10 @@ use Rattle.model.specs.Put.{withWrite, put}
 use Rattle.model.specs.Abort.{abort}
 use Rattle.model.specs.Calls.{Start, Put, Abort, txnOf, keyOf, numberOf}
 use Rattle.model.proofs.Tests.{or-left}
-use Rattle.model.proofs.InsertLaws.{insert-mem, insert-fits, padded-length}
+use Rattle.model.proofs.InsertLaws.{insert-mem}
 use Rattle.model.proofs.StationLaws.{place-hit, is-live, not-closing}
-use Rattle.model.proofs.SoundLaws.{write-limit, writes-ascending, writes-length, writesOf-withWrites}
-use Rattle.model.proofs.SoundFacts.{live-facts, unused-open}
+use Rattle.model.proofs.SoundLaws.{writesOf-withWrites}
+use Rattle.model.proofs.SoundFacts.{unused-open}
 use Rattle.history.specs.Ledger.{Draft, Ledger, without, revised, withDrafts, at, blankDraft, keeping, feed}
 use Rattle.history.specs.Matches.{lookup, Matches}
 use Rattle.history.proofs.Invariant.{draftIn, Ranges, Inv, Good, good-says, row, unrefused}
@@ -45,7 +44,6 @@ unfolding opened writesOf
 opened-ranges t o = record {
   txn = o;
   clock = unfold closingClock in lit< tt;
-  filled = λ n. refl;
   values = λ w m. absurd (List·Memᴰ·not-nil m);
 }
 
@@ -129,36 +127,26 @@ put-matches k v p l nc m = record {
   reads = m .reads;
 }
 
-put-ranges : (k v : ℕ) (l : Live) → v < numberRange → isClosing (l .phase) ≡ false → length (insert writeKey (written k v) (writesOf l)) ≤ writeLimit → Ranges l → Ranges (withWrite k v l)
+put-ranges : (k v : ℕ) (l : Live) → v < numberRange → Ranges l → Ranges (withWrite k v l)
 unfolding withWrite
-put-ranges k v l o nc len rg = record {
+put-ranges k v l o rg = record {
   txn = unfold withWrites in rg .txn;
   clock = unfold withWrites in rg .clock;
-  filled = λ n. unfold withWrites in padded-length noWrite writeLimit (insert writeKey (written k v) (writesOf l)) len;
   values = λ w m. ⊎-elim (λ e. rw e o) (λ x. rg .values w x) (insert-mem writeKey (written k v) (writesOf l) w (rw writesOf-withWrites at m));
 }
 
--- a live transaction's writes are within the limit with one more, unless 11 applies
-put-fits : (st : Station) → sound st ≡ true → (i k v : ℕ) → liveAt st i .txn ≢ 0 → (not (hasWritten k (liveAt st i)) and leb writeLimit (liveAt st i .«write_count»)) ≡ false
-    → length (insert writeKey (written k v) (writesOf (liveAt st i))) ≤ writeLimit
-unfolding hasWritten
-put-fits st h i k v n h11 =
-    let f = live-facts st h i n in
-    insert-fits writeKey (written k v) keys (liveAt st i .«write_count») writeLimit (writesOf (liveAt st i)) (writes-ascending (liveAt st i) (f .sets)) (writes-length (liveAt st i)) (write-limit (liveAt st i) (f .sets)) h11
-
 kept : (st : Station) (s : List ℕ) (b : Ledger) (t k v : ℕ) → Inv st s b → sound st ≡ true → v < numberRange → t ≢ 0 → isLive t st ≡ true
-    → isClosing (liveAt st (placeOf t st) .phase) ≡ false → (not (hasWritten k (liveAt st (placeOf t st))) and leb writeLimit (liveAt st (placeOf t st) .«write_count»)) ≡ false
+    → isClosing (liveAt st (placeOf t st) .phase) ≡ false
     → Inv (setLive st (placeOf t st) (withWrite k v (liveAt st (placeOf t st)))) s
     (withDrafts (revised t (keeping k v) (b .drafts)) b)
 unfolding withDrafts
-kept st s b t k v inv h o n z nc h11 = record {
+kept st s b t k v inv h o n z nc = record {
   core = inv .core;
   slots = slots-set st s i l (inv .slots) (place-hit st t z .0) nc (λ d c m e. absurd (not-closing (l .phase) d c m open-still e));
   drafts = drafts-as _ _ _ (draft-revised t (keeping k v) (λ p. refl) (b .drafts)) (drafts-revised st (draftIn b) (inv .drafts) h t n z l same-txn (keeping k v) (λ p m. put-matches k v p (liveAt st i) nc m));
   once = once-revised t (keeping k v) (λ p. refl) (b .drafts) (inv .once);
   reads = reads-set st i l (place-hit st t z .0) (inv .reads) same-reads;
-  ranges = ranges-set st i l (place-hit st t z .0) (inv .ranges)
-      (put-ranges k v (liveAt st i) o nc (put-fits st h i k v (λ y. n (sym (place-hit st t z .1) ∙ y)) h11) (inv .ranges i));
+  ranges = ranges-set st i l (place-hit st t z .0) (inv .ranges) (put-ranges k v (liveAt st i) o (inv .ranges i));
 }
   where
     i : ℕ
@@ -185,4 +173,4 @@ put-keeps st s b t k v inv h o =
     row s b (Put t k v) st _ 8 _ _ inv λ h8.
     row s b (Put t k v) st _ 9 _ _ inv λ h9.
     row s b (Put t k v) st _ 11 _ _ inv λ h11.
-    unrefused s b (Put t k v) st _ (good-says s b (Put t k v) A.Kept _ (kept st s b t k v inv h o (eqb-false t 0 h3) (not-false _ h8) h9 h11))
+    unrefused s b (Put t k v) st _ (good-says s b (Put t k v) A.Kept _ (kept st s b t k v inv h o (eqb-false t 0 h3) (not-false _ h8) h9))

@@ -10,8 +10,7 @@ use borrow.Author.Tests.{eqb-false, not-false}
 use Rattle.model.specs.declared.Id.{Id}
 use Rattle.model.specs.declared.Read.{Read}
 use Rattle.model.specs.declared.Live.{Live}
-use Rattle.model.specs.declared.Entry.{Entry}
-use Rattle.model.specs.declared.Station.{Station}
+use Rattle.model.specs.Types.{Entry, Station}
 use Rattle.model.specs.declared.Answer.the-variants as A
 use Rattle.model.specs.Lists.{insert}
 use Rattle.model.specs.Lives.{writesOf, readsOf, readKey, isClosing, withReads}
@@ -114,7 +113,7 @@ module _ (st : Station) (s : List ℕ) (b : Ledger) (inv : Inv st s b) (h : soun
 
   l-ranges : Ranges l
   unfolding l withRead withReads writesOf
-  l-ranges = let rg = inv .ranges (placeOf t st) in record { txn = rg .txn; clock = rg .clock; filled = rg .filled; values = rg .values }
+  l-ranges = let rg = inv .ranges (placeOf t st) in record { txn = rg .txn; clock = rg .clock; values = rg .values }
 
   pub version-read : Inv (setLive st (placeOf t st) (withRead k (entryAt st d .id) (liveAt st (placeOf t st)))) s
       (withDrafts (revised t (reading k (entryAt st d .id)) (b .drafts)) b)

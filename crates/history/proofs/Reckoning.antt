@@ -9,8 +9,7 @@ use native.Mathlib.Nat.{le-antisymm}
 use native.Mathlib.Decide.{ℕ-discrete}
 use native.Mathlib.Omega.{arith}
 use Rattle.model.specs.declared.Id.{Id}
-use Rattle.model.specs.declared.Entry.{Entry}
-use Rattle.model.specs.declared.Station.{Station}
+use Rattle.model.specs.Types.{Entry, Station}
 use Rattle.model.specs.Lists.{maximum}
 use Rattle.model.specs.Limits.{numberRange}
 use Rattle.model.specs.Lives.{closingClock}

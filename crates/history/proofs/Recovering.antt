@@ -11,8 +11,7 @@ use native.Mathlib.Decide.{decLt}
 use native.Mathlib.Omega.{arith}
 use Rattle.model.specs.declared.Id.{Id}
 use Rattle.model.specs.declared.Live.{Live}
-use Rattle.model.specs.declared.Entry.{Entry}
-use Rattle.model.specs.declared.Station.{Station}
+use Rattle.model.specs.Types.{Entry, Station}
 use Rattle.model.specs.declared.Phase.the-variants.{Unused, Closing}
 use Rattle.model.specs.declared.Answer.the-variants as A
 use Rattle.model.specs.Lists.{count, from}
@@ -71,7 +70,6 @@ idle-inv es s standing past count entry core = record {
   ranges = idle es (λ l. Ranges l) noLive-ranges (unfold writesOf in record {
     txn = lit< tt;
     clock = unfold closingClock in lit< tt;
-    filled = λ n. absurd (n refl);
     values = λ w m. absurd (List·Memᴰ·not-nil m);
   });
 }

@@ -8,26 +8,30 @@ use lib.Dec.{eqb}
 use native.Mathlib.Decide.{ℕ-discrete, decLt}
 use native.Mathlib.Omega.{arith}
 use Rattle.model.specs.declared.Live.{Live}
-use Rattle.model.specs.declared.Entry.{Entry}
-use Rattle.model.specs.declared.Station.{Station}
+use Rattle.model.specs.Types.{Entry, Station}
 use Rattle.model.specs.declared.Phase.the-variants.{Closing}
 use Rattle.model.specs.Lists.{first, member}
 use Rattle.model.specs.Limits.{slots, writeLimit, width}
-use Rattle.model.specs.Lives.{closingClock, recordsStored}
+use Rattle.model.specs.Lives.{writeCount, closingClock, recordsStored}
 use Rattle.model.specs.Entries.{entryFor}
 use Rattle.model.specs.Stations.{liveAt, entryAt, closingSlots}
 use Rattle.model.specs.Records.{recordAt}
 use Rattle.model.specs.Slots.{Seen, free, committed, seen}
-use Rattle.model.specs.Sound.{sound}
+use Rattle.model.specs.Sound.{setsRight, sound}
 use Rattle.model.proofs.ListLaws.{member-finds}
 use Rattle.model.proofs.InsideLaws.{entryFor-txn}
 use Rattle.model.proofs.SlotLaws.{committed-injective, committed≢free, seen-frame}
 use Rattle.model.proofs.StationLaws.{mark-at, closing-same, marked, slot-marked}
+use Rattle.model.proofs.SoundLaws.{write-limit, writes-length}
 use Rattle.model.proofs.SoundFacts.{one-place, live-not-held, closing-facts}
 use Rattle.history.proofs.Invariant.{Prepared, Slots}
 
+-- a live transaction writes at most eight keys
+pub writes-few : (l : Live) → setsRight l ≡ true → writeCount l ≤ writeLimit
+writes-few l h = omega (arith, writes-length l, write-limit l h)
+
 -- the same records: the slot is as far as it was
-pub prepared-frame : (s s′ : List ℕ) (l : Live) (d c n : ℕ) → l .«write_count» ≤ writeLimit → ((m : ℕ) → m < width → recordAt s′ d m ≡ recordAt s d m) → Prepared s l d c n → Prepared s′ l d c n
+pub prepared-frame : (s s′ : List ℕ) (l : Live) (d c n : ℕ) → writeCount l ≤ writeLimit → ((m : ℕ) → m < width → recordAt s′ d m ≡ recordAt s d m) → Prepared s l d c n → Prepared s′ l d c n
 prepared-frame s s′ l d c n o f pr = record {
   low = pr .low;
   versions = λ j a b. f (suc j) (omega arith) ∙ pr .versions j a b;
@@ -57,7 +61,7 @@ kind st s sl d o = go (ℕ-discrete (entryAt st d .id .txn) 0)
 -- a committed slot is an entry's, or that of a transaction that has stored its commit record
 pub data Owner (st : Station) (d : ℕ) (e : Entry) : Type 0 where
   by-entry : entryAt st d .id .txn ≢ 0 → e ≡ entryAt st d → Owner st d e
-  by-live : (i c n : ℕ) → liveAt st i .phase ≡ Closing d c n → liveAt st i .«write_count» < n → e ≡ entryFor (liveAt st i) → Owner st d e
+  by-live : (i c n : ℕ) → liveAt st i .phase ≡ Closing d c n → writeCount (liveAt st i) < n → e ≡ entryFor (liveAt st i) → Owner st d e
 
 pub not-free : {A : Type 0} (x : Seen) (e : Entry) → x ≡ committed e → x ≡ free → A
 not-free x e h k = absurd (committed≢free e (sym h ∙ k))
@@ -67,9 +71,9 @@ owner st s sl d e o h = go (kind st s sl d o)
   where
     go : Kind st s d → Owner st d e
     go (entered n) = by-entry n (committed-injective e _ (sym h ∙ sl .entered d n))
-    go (closing i c n q) = full (decLt (liveAt st i .«write_count») n)
+    go (closing i c n q) = full (decLt (writeCount (liveAt st i)) n)
       where
-        full : Dec (liveAt st i .«write_count» < n) → Owner st d e
+        full : Dec (writeCount (liveAt st i) < n) → Owner st d e
         full (yes y) = by-live i c n q y (committed-injective e _ (sym h ∙ sl .closing i d c n q .marked y))
         full (no y) = not-free (seen s d) e h (sl .closing i d c n q .unmarked (omega arith))
     go (nobodys f) = not-free (seen s d) e h f

@@ -7,7 +7,7 @@ use mathlib.Core.List.{List, [], _∷_, _++_, map, List·Permᴰ, List·Permᴰ�
 use mathlib.Core.Option.{Option, some, none}
 use lib.Dec.{eqb, ltb, lit<}
 use lib.ListN.{length, getD, length-map, List·getD-map}
-use lib.Seq.{getD-take, length-take-le}
+use lib.Seq.{getD-take}
 use native.Mathlib.Nat.{lt-irrefl, not-suc-le-zero}
 use native.Mathlib.Decide.{ℕ-discrete}
 use native.Mathlib.Omega.{arith}
@@ -17,13 +17,12 @@ use Rattle.model.specs.declared.Id.{Id}
 use Rattle.model.specs.declared.Write.{Write}
 use Rattle.model.specs.declared.Read.{Read}
 use Rattle.model.specs.declared.Live.{Live}
-use Rattle.model.specs.declared.Entry.{Entry}
-use Rattle.model.specs.declared.Station.{Station}
+use Rattle.model.specs.Types.{Entry, Station}
 use Rattle.model.specs.declared.Phase.{Phase}
 use Rattle.model.specs.declared.Phase.the-variants.{Unused, Open, Closing}
 use Rattle.model.specs.Lists.{any, first, member, same}
 use Rattle.model.specs.Limits.{slots, recordSize, width, storeSize, numberRange}
-use Rattle.model.specs.Lives.{noWrite, noLive, writesOf, readsOf, writeKey, isClosing, closingSlot, closingClock, recordsStored, withPhase}
+use Rattle.model.specs.Lives.{noWrite, noLive, writesOf, readsOf, writeCount, writeKey, isClosing, closingSlot, closingClock, recordsStored, withPhase}
 use Rattle.model.specs.Entries.{keysOf, wrote, wroteAs, entryIn, commitRecord, entryRules, recordOf, entryFor}
 use Rattle.model.specs.Stations.{liveAt, entryAt, setLive, setEntry, isLive, placeOf}
 use Rattle.model.specs.Records.{valueIn, versionRecord, carriesVersion, recordAt, withRecord}
@@ -33,14 +32,14 @@ use Rattle.model.specs.Reading.{Atomic}
 use Rattle.model.specs.Step.{oneMore, stepped, step}
 use Rattle.model.specs.Calls.{Step, txnOf}
 use Rattle.model.specs.Answers.{values}
-use Rattle.model.proofs.ListLaws.{first-yes, first-no, getD-mem, member-yes, member-no, member-finds, take-map}
+use Rattle.model.proofs.ListLaws.{first-yes, first-no, getD-mem, member-yes, member-no, member-finds}
 use Rattle.model.proofs.IdLaws.{same-id}
 use Rattle.model.proofs.RecordLaws.{Fits, length-commit, length-version, entry-round, commit-rules, version-value, version-round, with-length, record-same, record-other, record-elsewhere}
 use Rattle.model.proofs.InsideLaws.{entryFor-txn, entryFor-id, entryFor-phase}
 use Rattle.model.proofs.SlotLaws.{committed-injective, committed≢damaged, free≢damaged, seen-frame, seen-free, seen-free-mark, seen-committed}
 use Rattle.model.proofs.ReadingLaws.{wrote-as, as-wrote}
 use Rattle.model.proofs.StationLaws.{place-hit, entry-get, setLive-at, liveAt-same, liveAt-other, setLive-entry, setEntry-at, entryAt-same, entryAt-other, setEntry-live, setEntry-length, not-closing, closing-same, clock-closing}
-use Rattle.model.proofs.SoundLaws.{sound-at, write-limit, writes-length, entryFor-sound}
+use Rattle.model.proofs.SoundLaws.{sound-at, writes-length, entryFor-sound}
 use Rattle.model.proofs.SoundFacts.{live-not-held, one-closing, IsClosing, closing-facts}
 use Rattle.history.specs.Ledger.{Draft, Committed, Ledger, draftOf, without, withDrafts, at, committedFrom, feed}
 use Rattle.history.specs.CutRule.{committedIn}
@@ -49,10 +48,10 @@ use Rattle.history.proofs.Invariant.{inStore, nth, Prepared, Dominated,
 use Rattle.history.proofs.DraftLaws.{draft-txn, draft-without, once-without, drafts-as, draft-of, matches-at, drafts-cast, drafts-same, drafts-cleared}
 use Rattle.history.proofs.Lasting.{lasting}
 use Rattle.history.proofs.LiveLaws.{reads-set, ranges-set, noLive-open, noLive-reads, noLive-ranges}
-use Rattle.history.proofs.Committing.{phase-ranges, phase-reads, phase-of, txn-of}
+use Rattle.history.proofs.Committing.{phase-ranges, phase-reads, phase-writes, phase-of, txn-of}
 use Rattle.history.proofs.Reading.{read-named}
 use Rattle.history.proofs.CommittedLaws.{slotHolds, holds-free, holds-committed, cond-frame, holds-frame, in-store, hold-same, hold-one-more}
-use Rattle.history.proofs.SlotOwners.{prepared-frame, not-free, unseen}
+use Rattle.history.proofs.SlotOwners.{writes-few, prepared-frame, not-free, unseen}
 
 -- ── a closing transaction writes to its slot ──
 module _ (st : Station) (s s′ : List ℕ) (b : Ledger) (inv : Inv st s b) (h : sound st ≡ true) (t d c n m : ℕ) (nz : t ≢ 0) (z : isLive t st ≡ true)
@@ -85,7 +84,7 @@ module _ (st : Station) (s s′ : List ℕ) (b : Ledger) (inv : Inv st s b) (h :
     entered = λ d′. rw (setLive-entry st i now d′) (λ y. seen-other d′ (λ e. y (ap (λ (x : ℕ). entryAt st x .id .txn) e ∙ facts .unheld)) ∙ sl .entered d′ y);
     closing = setLive-at st i now (λ j x. (d′ c′ n′ : ℕ) → x .phase ≡ Closing d′ c′ n′ → Prepared s′ x d′ c′ n′) oi
         (λ d′ c′ n′ e. let r = closing-same d c m d′ c′ n′ (sym (phase-of (Closing d c m) (liveAt st i)) ∙ e) in rw (← (r .0), ← (r .1), ← (r .2)) pr)
-        (λ j nj d′ c′ n′ e. prepared-frame s s′ (liveAt st j) d′ c′ n′ (write-limit (liveAt st j) (closing-facts st h j d′ c′ n′ e .used .sets)) (λ k o. frame d′ k (other-slot j d′ c′ n′ nj e) o) (sl .closing j d′ c′ n′ e));
+        (λ j nj d′ c′ n′ e. prepared-frame s s′ (liveAt st j) d′ c′ n′ (writes-few (liveAt st j) (closing-facts st h j d′ c′ n′ e .used .sets)) (λ k o. frame d′ k (other-slot j d′ c′ n′ nj e) o) (sl .closing j d′ c′ n′ e));
     unused = λ d′ od. rw (setLive-entry st i now d′) (λ y un.
         let nd : d′ ≢ d = (λ e. un i c m (ap (λ (x : Live). x .phase) (liveAt-same st i now oi) ∙ (phase-of (Closing d c m) (liveAt st i) ∙ ap (λ (x : ℕ). Closing x c m) (sym e)))) in
         seen-other d′ nd ∙ sl .unused d′ od y (λ j c′ n′ e. still d′ nd un j c′ n′ e (ℕ-discrete j i)));
@@ -160,16 +159,16 @@ first-written [] o = absurd (not-suc-le-zero o)
 first-written (w ∷ ws) o = (w .key, w .value, rw (eq-eqb (w .key) (w .key) refl))
 
 keys-for : (l : Live) → keysOf (entryFor l) ≡ map writeKey (writesOf l)
-unfolding keysOf entryFor writesOf
-keys-for l = take-map writeKey (l .«write_count») (l .writes)
+unfolding entryFor
+keys-for l = refl
 
-nth-written : (l : Live) (j : ℕ) → j < l .«write_count» → getD (writesOf l) j noWrite ≡ nth l j
+nth-written : (l : Live) (j : ℕ) → j < writeCount l → getD (writesOf l) j noWrite ≡ nth l j
 unfolding writesOf
-nth-written l j o = getD-take (l .«write_count») (l .writes) j noWrite o
+nth-written l j o = getD-take (l .«write_count») (l .writes) j noWrite (omega (arith, o, writes-length l))
 
 -- the transaction in the slot is the draft's
 pub committed-of-draft : (s : List ℕ) (d c n : ℕ) (l : Live) (p : Draft) → l .phase ≡ Closing d c n → Ranges l → Matches p l
-    → ((j : ℕ) → j < l .«write_count» → recordAt s d (suc j) ≡ versionRecord (nth l j .key) (record { clock = c; txn = l .txn }) (nth l j .value))
+    → ((j : ℕ) → j < writeCount l → recordAt s d (suc j) ≡ versionRecord (nth l j .key) (record { clock = c; txn = l .txn }) (nth l j .value))
     → committedIn s d (entryFor l) ≡ record { id = record { clock = p .clock; txn = l .txn }; values = p .values }
 unfolding committedIn
 committed-of-draft s d c n l p q rg mt f = λ y. record { id = same-id y; values = fun-ext values y }
@@ -183,9 +182,8 @@ committed-of-draft s d c n l p q rg mt f = λ y. record { id = same-id y; values
     value : (k : ℕ) → member k ks ≡ true → _≡_ {A = Option ℕ} (some (valueIn (recordAt s d (suc (first (eqb k) ks))))) (some (getD (writesOf l) (first (eqb k) ks) noWrite .value))
     value k h =
         let j : ℕ = first (eqb k) ks in
-        let o : j < length (writesOf l) = subst (λ (x : ℕ). j < x) (length-map (writesOf l) writeKey) (member-finds k ks h .0) in
-        let o′ : j < l .«write_count» = omega (arith, o, writes-length l) in
-        ap some (ap valueIn (f j o′) ∙ (version-value _ _ _ (rw (← (nth-written l j o′)) (rg .values _ (getD-mem (writesOf l) j noWrite o))) ∙ ap (λ (w : Write). w .value) (sym (nth-written l j o′))))
+        let o : j < writeCount l = subst (λ (x : ℕ). j < x) (length-map (writesOf l) writeKey) (member-finds k ks h .0) in
+        ap some (ap valueIn (f j o) ∙ (version-value _ _ _ (rw (← (nth-written l j o)) (rg .values _ (getD-mem (writesOf l) j noWrite o))) ∙ ap (λ (w : Write). w .value) (sym (nth-written l j o))))
 
     values : (k : ℕ) → _≡_ {A = Option ℕ} (cond (wrote (entryFor l) k) (some (valueIn (recordAt s d (recordOf (entryFor l) k)))) none) (p .values k)
     values k = unfold wrote recordOf in rw (keys-for l) (cond-frame (member k ks) _ _ none (value k) ∙ (sym (lookup-first (writesOf l) k) ∙ sym (mt .values k)))
@@ -205,7 +203,7 @@ module _ (st : Station) (s : List ℕ) (b : Ledger) (inv : Inv st s b) (h : soun
   abbrev content : List ℕ
   content = versionRecord (nth l n .key) (record { clock = c; txn = l .txn }) (nth l n .value)
 
-  pub version-stored : n < l .«write_count» → Inv (setLive st (placeOf t st) (withPhase (Closing d c (n + 1)) l)) (withRecord s d (n + 1) content) b
+  pub version-stored : n < writeCount l → Inv (setLive st (placeOf t st) (withPhase (Closing d c (n + 1)) l)) (withRecord s d (n + 1) content) b
   version-stored o = step-inv st s s′ b inv h t d c n (n + 1) nz z q size′ frame prepared (b .standing) (b .past)
       (core-step st s s′ b inv h t d c n (n + 1) nz z q size′ frame (λ x. free≢damaged (sym unmarked ∙ x)) (λ d′ e e′ nd o′ x. not-free (seen s′ d) e x unmarked) (b .standing) (b .past)
       (rw (in-store s′, hold-same s s′ slots 0 (λ d′ y. same d′ (ℕ-discrete d′ d)), ← in-store) (inv .core .found)) (inv .core .kept) (inv .core .dominated) (inv .core .recorded))
@@ -217,7 +215,7 @@ module _ (st : Station) (s : List ℕ) (b : Ledger) (inv : Inv st s b) (h : soun
       lb = length-version (nth l n .key) (record { clock = c; txn = l .txn }) (nth l n .value)
 
       on : n + 1 < width
-      on = omega (arith, o, write-limit l (closes .used .sets))
+      on = omega (arith, o, writes-few l (closes .used .sets))
 
       size′ : length s′ ≡ storeSize
       size′ = with-length s d (n + 1) content (inv .core .size) (pr .low) on lb ∙ inv .core .size
@@ -238,12 +236,17 @@ module _ (st : Station) (s : List ℕ) (b : Ledger) (inv : Inv st s b) (h : soun
       same d′ (yes e) = rw e (holds-free s′ d unmarked ∙ sym (holds-free s d was))
       same d′ (no e) = holds-frame s s′ d′ (λ k ok. frame d′ k e ok)
 
-      stored-at : (j : ℕ) → j < n + 1 → j < l .«write_count» → Dec (j ≡ n) → recordAt s′ d (suc j) ≡ versionRecord (nth l j .key) (record { clock = c; txn = l .txn }) (nth l j .value)
+      stored-at : (j : ℕ) → j < n + 1 → j < writeCount l → Dec (j ≡ n) → recordAt s′ d (suc j) ≡ versionRecord (nth l j .key) (record { clock = c; txn = l .txn }) (nth l j .value)
       stored-at j a x (yes e) = rw (e, ← (add-one n)) (record-same s d (n + 1) content (inv .core .size) (pr .low) on lb)
       stored-at j a x (no e) = other (suc j) (λ y. e (omega arith)) ∙ pr .versions j (omega arith) x
 
       prepared : Prepared s′ (withPhase (Closing d c (n + 1)) l) d c (n + 1)
-      prepared = unfold withPhase in record { low = pr .low; versions = λ j a x. stored-at j a x (ℕ-discrete j n); unmarked = λ a. unmarked; marked = λ a. absurd (lt-irrefl n (omega arith)) }
+      prepared = record {
+        low = pr .low;
+        versions = λ j a x. unfold withPhase in stored-at j a (omega (arith, x, phase-writes (Closing d c (n + 1)) l)) (ℕ-discrete j n);
+        unmarked = λ a. unmarked;
+        marked = λ a. absurd (lt-irrefl n (omega (arith, a, phase-writes (Closing d c (n + 1)) l)));
+      }
 
   -- ── step n + 1: the commit record ──
   abbrev E : Entry
@@ -254,7 +257,7 @@ module _ (st : Station) (s : List ℕ) (b : Ledger) (inv : Inv st s b) (h : soun
   fits = record {
     txn32 = inv .ranges (placeOf t st) .txn;
     clock64 = inv .ranges (placeOf t st) .clock;
-    keys8 = length-map (l .writes) writeKey ∙ inv .ranges (placeOf t st) .filled (closes .used .numbered);
+    keys8 = omega (arith, length-map (writesOf l) writeKey, writes-few l (closes .used .sets));
   }
 
   c-low : c < numberRange
@@ -263,7 +266,7 @@ module _ (st : Station) (s : List ℕ) (b : Ledger) (inv : Inv st s b) (h : soun
   rules : entryRules E ≡ true
   rules = entryFor-sound st (sound-at st h) (placeOf t st) (subst (λ (p : Phase). isClosing p ≡ true) (sym q) (unfold isClosing in refl))
 
-  pub commit-stored : n ≡ l .«write_count» → (p : Draft) → Matches p l
+  pub commit-stored : n ≡ writeCount l → (p : Draft) → Matches p l
       → Inv (setLive st (placeOf t st) (withPhase (Closing d c (n + 1)) l)) (withRecord s d 0 (commitRecord E))
       (record {
         drafts = b .drafts;
@@ -284,8 +287,7 @@ module _ (st : Station) (s : List ℕ) (b : Ledger) (inv : Inv st s b) (h : soun
 
       recorded : Recorded J
       recorded =
-          let full : length (writesOf l) ≡ l .«write_count» = unfold writesOf in length-take-le (l .«write_count») (l .writes) (omega (arith, write-limit l (closes .used .sets), inv .ranges (placeOf t st) .filled (closes .used .numbered))) in
-          let r = first-written (writesOf l) (omega (arith, closes .keyed, full)) in
+          let r = first-written (writesOf l) (closes .keyed) in
           (omega (arith, c-low, mt .clock, clock-closing _ d c n q), r .0, (r .1, mt .values (r .0) ∙ r .2))
 
       s′ : List ℕ
@@ -303,18 +305,18 @@ module _ (st : Station) (s : List ℕ) (b : Ledger) (inv : Inv st s b) (h : soun
       was : seen s d ≡ free
       was = pr .unmarked (omega (arith, en))
 
-      stored-at : (j : ℕ) → j < l .«write_count» → recordAt s′ d (suc j) ≡ versionRecord (nth l j .key) (record { clock = c; txn = l .txn }) (nth l j .value)
+      stored-at : (j : ℕ) → j < writeCount l → recordAt s′ d (suc j) ≡ versionRecord (nth l j .key) (record { clock = c; txn = l .txn }) (nth l j .value)
       stored-at j o = record-other s d 0 (commitRecord E) (inv .core .size) (pr .low) (lit< tt) lb (suc j) (omega arith) ∙ pr .versions j (omega (arith, en)) o
 
       at-0 : recordAt s′ d 0 ≡ commitRecord E
       at-0 = record-same s d 0 (commitRecord E) (inv .core .size) (pr .low) (lit< tt) lb
 
-      key-at : (j : ℕ) → j < l .«write_count» → getD (keysOf E) j 0 ≡ nth l j .key
+      key-at : (j : ℕ) → j < writeCount l → getD (keysOf E) j 0 ≡ nth l j .key
       key-at j o = ap (λ (x : List ℕ). getD x j 0) (keys-for l) ∙ (List·getD-map writeKey (writesOf l) j noWrite ∙ ap writeKey (nth-written l j o))
 
       carried : (j : ℕ) → j < length (keysOf E) → carriesVersion (recordAt s′ d (suc j)) (getD (keysOf E) j 0) (E .id) ≡ true
       carried j o =
-          let o′ : j < l .«write_count» = omega (arith, o, writes-length l, ap length (keys-for l) ∙ length-map (writesOf l) writeKey) in
+          let o′ : j < writeCount l = omega (arith, o, ap length (keys-for l) ∙ length-map (writesOf l) writeKey) in
           rw (stored-at j o′, key-at j o′, entryFor-id l d c n q) (version-round _ (record { clock = c; txn = l .txn }) _ (inv .ranges (placeOf t st) .txn) c-low)
 
       full : seen s′ d ≡ committed E
@@ -333,8 +335,8 @@ module _ (st : Station) (s : List ℕ) (b : Ledger) (inv : Inv st s b) (h : soun
       prepared : Prepared s′ (withPhase (Closing d c (n + 1)) l) d c (n + 1)
       prepared = record {
         low = pr .low;
-        versions = unfold withPhase in (λ j a x. stored-at j x);
-        unmarked = unfold withPhase in (λ a. absurd (lt-irrefl n (omega (arith, en))));
+        versions = λ j a x. unfold withPhase in stored-at j (omega (arith, x, phase-writes (Closing d c (n + 1)) l));
+        unmarked = λ a. absurd (lt-irrefl n (omega (arith, a, en, phase-writes (Closing d c (n + 1)) l)));
         marked = λ a. full ∙ ap committed (sym (entryFor-phase l d c n (n + 1) q));
       }
 
@@ -380,7 +382,7 @@ module _ (st : Station) (s : List ℕ) (b : Ledger) (inv : Inv st s b) (h : soun
           subst (λ (y : Id). wroteAs (st .entries) y x ≡ true) (ap (λ (y : Entry). y .id) (entry-get st c o) ∙ g .0)
           (as-wrote (st .entries) x c o (subst (λ (y : Entry). wrote y x ≡ true) (sym (entry-get st c o)) (g .1)))
 
-  pub acknowledged : l .«write_count» < n → Inv end s (withDrafts (without t (b .drafts)) b)
+  pub acknowledged : writeCount l < n → Inv end s (withDrafts (without t (b .drafts)) b)
   unfolding withDrafts
   acknowledged o = record {
     core = inv .core;
@@ -431,7 +433,7 @@ by-phase st s b t inv h nz z (Closing d c n) q _ =
     good-says s b (Step t) _ _ (acknowledged st s b inv h t d c n nz z q (omega (arith, ltb-false n wc x, eqb-false n wc y)))
   where
     wc : ℕ
-    wc = liveAt st (placeOf t st) .«write_count»
+    wc = writeCount (liveAt st (placeOf t st))
 
 pub step-keeps : (st : Station) (s : List ℕ) (b : Ledger) (t : ℕ) → Inv st s b → sound st ≡ true → Good s b (Step t) (step st s t)
 unfolding step

@@ -8,7 +8,7 @@ use lib.Dec.{lit<}
 use native.Mathlib.Decide.{ℕ-discrete}
 use native.Mathlib.Omega.{arith}
 use Rattle.model.specs.declared.Id.{Id}
-use Rattle.model.specs.declared.Entry.{Entry}
+use Rattle.model.specs.Types.{Entry}
 use Rattle.model.specs.Lists.{_and_}
 use Rattle.model.specs.Limits.{slots, width}
 use Rattle.model.specs.Ids.{older}

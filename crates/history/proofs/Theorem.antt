@@ -8,7 +8,7 @@ use lib.ListN.{length, take, replicate, length-replicate, getD-replicate}
 use lib.Seq.{take-all}
 use native.Mathlib.Decide.{decLt}
 use native.Mathlib.Omega.{arith}
-use Rattle.model.specs.declared.Station.{Station}
+use Rattle.model.specs.Types.{Station}
 use Rattle.model.specs.Limits.{slots, storeSize}
 use Rattle.model.specs.Entries.{noEntry}
 use Rattle.model.specs.Stations.{emptyStation, entryAt}
@@ -80,7 +80,7 @@ call-keeps (Sweep n) st s b f h inv = sweep-keeps st s b n inv h
 
 -- ── a history ──
 -- what holds of a world: what lasts, and of a running station that it is sound, and the invariant
-abbrev pub Running : Node → List ℕ → Ledger → Type 0
+abbrev pub Running : Node Station → List ℕ → Ledger → Type 0
 Running (running st) s b = (sound st ≡ true) × Inv st s b
 Running down s b = Unit {0}
 
@@ -106,7 +106,7 @@ unfolding does reports isSweep
 scan-owed s b st core = (good-reported s b Scan _ (scan-keeps s b core), sound-scan s)
 
 -- a call that is handed a station does what it owes
-pub handed-keeps : (c : Call) (s : List ℕ) (b : Ledger) (k : Node) (st : Station) → InRange c → Core s (b .standing) (b .past) → Running k s b → handed c k ≡ some st
+pub handed-keeps : (c : Call) (s : List ℕ) (b : Ledger) (k : Node Station) (st : Station) → InRange c → Core s (b .standing) (b .past) → Running k s b → handed c k ≡ some st
     → Owed c st s b × (sound (does c st s .station) ≡ true)
 unfolding handed
 handed-keeps c s b (running st₀) st f core r e =
@@ -160,7 +160,7 @@ history-keeps vs f = run-keeps vs begin f begin-state
 
 -- of the station that runs after a history
 pub running-keeps : (vs : List Event) → AllInRange vs → (st : Station) → run vs begin .node ≡ running st → (sound st ≡ true) × Inv st (run vs begin .store) (run vs begin .ledger)
-running-keeps vs f st e = subst (λ (k : Node). Running k (run vs begin .store) (run vs begin .ledger)) e (history-keeps vs f .runs)
+running-keeps vs f st e = subst (λ (k : Node Station). Running k (run vs begin .store) (run vs begin .ledger)) e (history-keeps vs f .runs)
 
 -- ── the cut rule ──
 pub cut-rule : Demand3

@@ -6,7 +6,7 @@ use mathlib.Core.List.{List, _∷_, _++_, List·Memᴰ}
 use mathlib.Core.Option.{some, none}
 use Rattle.model.specs.declared.Id.{Id}
 use Rattle.model.specs.declared.Read.{Read}
-use Rattle.model.specs.declared.Station.{Station}
+use Rattle.model.specs.Types.{Station}
 use Rattle.model.specs.declared.Answer.{Answer}
 use Rattle.model.specs.declared.Answer.the-variants as A
 use Rattle.model.specs.Ranges.{Every}

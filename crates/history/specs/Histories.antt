@@ -5,7 +5,7 @@ use mathlib.Core.List.{List, [], _∷_, map}
 use mathlib.Core.Option.{Option, some, none}
 use lib.Dec.{leb}
 use lib.ListN.{length, take, replicate}
-use Rattle.model.specs.declared.Station.{Station}
+use Rattle.model.specs.Types.{Station}
 use Rattle.model.specs.Limits.{storeSize}
 use Rattle.model.specs.Stations.{emptyStation}
 use Rattle.model.specs.Ranges.{Every}
@@ -22,13 +22,13 @@ pub data Event : Type 0 where
   -- a call cut short: power goes after its first n stores
   cut : Call → ℕ → Event
 
--- a node of the paper: a station that runs, or that a cut has taken
-pub data Node : Type 0 where
-  running : Station → Node
-  down : Node
+-- a node of the paper: a station that runs, the definitions' or the machine's, or that a cut has taken
+pub data Node (S : Type 0) : Type 0 where
+  running : S → Node S
+  down : Node S
 
 pub record World : Type 0 where
-  pub node : Node
+  pub node : Node Station
   pub store : List ℕ
   pub ledger : Ledger
 
@@ -37,7 +37,7 @@ unfoldable pub begin : World
 begin = record { node = running emptyStation; store = replicate storeSize 0; ledger = emptyLedger }
 
 -- the station that a call is handed. "All else in a station is lost in a cut.": until a scan, which needs none, a call does nothing
-unfoldable pub handed : Call → Node → Option Station
+unfoldable pub handed : Call → Node Station → Option Station
 handed c (running st) = some st
 handed c down = cond (isScan c) (some emptyStation) none
 

@@ -2,13 +2,16 @@
 use Prim.Native.Nat.{ℕ}
 use mathlib.Core.Path.{_≡_, refl}
 use mathlib.Core.Bool.{true, false}
-use mathlib.Core.List.{List, _∷_, _++_}
+use mathlib.Core.List.{List, [], _∷_, _++_}
 use lib.ListN.{replicate}
 use Rattle.model.specs.declared.Live.{Live}
+use Rattle.model.specs.declared.Entry.{Entry}
 use Rattle.model.specs.declared.Phase.the-variants.{Closing}
 use Rattle.model.specs.Lists.{_and_, same}
 use Rattle.model.specs.Bytes.{bytes, number, idIn}
 use Rattle.model.specs.Lives.{noWrite, noRead, closingSlot, closingClock, recordsStored}
+use Rattle.model.specs.KeySets.{setNumber}
+use Rattle.model.specs.Listed.{numbered}
 use Rattle.model.specs.Stations.{emptyStation}
 use Rattle.image.specs.Layout.{flat, parts, fieldBytes, row, writeBytes, writeFrom, readBytes, readFrom, entryBytes, entryFrom, phaseNumber, phaseOf, phaseFrom, placeHead, placeSize, placesSize, imageSize}
 use Rattle.image.specs.Images.{placeBytes, placeFrom, stationBytes, stationIn, isImage}
@@ -38,24 +41,34 @@ pub place-read : placeFrom bytes-of-place ≡ place
 unfolding placeFrom phaseFrom phaseOf idIn number parts writeFrom readFrom
 place-read = refl
 
--- an entry of two keys
-pub entry-written : entryBytes (record { id = record { clock = 256; txn = 9 }; count = 2; keys = 4 ∷ 63 ∷ replicate 6 0 }) ≡ 2 ∷ 0 ∷ 0 ∷ 0 ∷ 9 ∷ 0 ∷ 0 ∷ 0 ∷ 0 ∷ 1 ∷ replicate 6 0 ++ (4 ∷ 63 ∷ replicate 6 0)
-unfolding entryBytes row flat fieldBytes bytes
+-- an entry of keys 4 and 63, its bits 4 and 63
+abbrev pub entry : Entry
+entry = record { id = record { clock = 256; txn = 9 }; keys = setNumber (4 ∷ 63 ∷ []) }
+
+abbrev pub bytes-of-entry : List ℕ
+bytes-of-entry = (9 ∷ 0 ∷ 0 ∷ 0 ∷ 0 ∷ 1 ∷ replicate 6 0) ++ (16 ∷ replicate 6 0 ++ (128 ∷ []))
+
+pub entry-written : entryBytes entry ≡ bytes-of-entry
+unfolding entryBytes row flat fieldBytes bytes setNumber
 entry-written = refl
 
-pub sizes : (placeSize ≡ 408) × (placesSize ≡ 3264) × (imageSize ≡ 4800)
+pub entry-read : entryFrom bytes-of-entry ≡ entry
+unfolding entryFrom number setNumber
+entry-read = refl
+
+pub sizes : (placeSize ≡ 408) × (placesSize ≡ 3264) × (imageSize ≡ 4544)
 sizes = (refl, refl, refl)
 
 -- the empty station's image is all zero
-pub empty-written : same (stationBytes emptyStation) (replicate imageSize 0) ≡ true
-unfolding stationBytes emptyStation placeBytes placeHead row fieldBytes phaseNumber closingSlot closingClock recordsStored flat writeBytes readBytes entryBytes bytes same
+pub empty-written : same (stationBytes (numbered emptyStation)) (replicate imageSize 0) ≡ true
+unfolding stationBytes emptyStation setNumber placeBytes placeHead row fieldBytes phaseNumber closingSlot closingClock recordsStored flat writeBytes readBytes entryBytes bytes same
 empty-written = refl
 
 -- a first byte that is no phase; bytes that are one too few
-pub phase-three : isImage (3 ∷ replicate 4799 0) ≡ false
+pub phase-three : isImage (3 ∷ replicate 4543 0) ≡ false
 unfolding isImage _and_ stationBytes stationIn placeBytes placeFrom placeHead row fieldBytes phaseNumber phaseFrom phaseOf closingSlot closingClock recordsStored flat parts writeBytes writeFrom readBytes readFrom entryBytes entryFrom idIn number bytes same
 phase-three = refl
 
-pub one-short : isImage (replicate 4799 0) ≡ false
+pub one-short : isImage (replicate 4543 0) ≡ false
 unfolding isImage _and_
 one-short = refl

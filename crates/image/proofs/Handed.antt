@@ -1,5 +1,4 @@
 -- A station that a function is handed: what owning it gives is that its numbers are in their ranges and its arrays have their lengths.
-use Prim.Native.Nat.{ℕ}
 use mathlib.Core.Path.{_∙_, sym}
 use mathlib.Core.List.{List, [], _∷_, map}
 use lib.ListN.{length-map}
@@ -7,7 +6,7 @@ use native.Mathlib.Omega.{arith}
 use mir.Val.{Val}
 use denote.Shadow.{shadow}
 use denote.Array.{each}
-use denote.Struct.Field.{Field, u8-field}
+use denote.Struct.Field.{Field}
 use Rattle.model.specs.declared.Id.{Id}
 use Rattle.model.specs.declared.Write.{Write}
 use Rattle.model.specs.declared.Read.{Read}
@@ -17,7 +16,7 @@ use Rattle.model.specs.declared.Station.{Station}
 use Rattle.model.specs.declared.Phase.{Phase}
 use Rattle.model.specs.declared.Phase.the-variants.{Unused, Open, Closing}
 use Rattle.model.specs.Lives.{closingSlot, closingClock, recordsStored}
-use Rattle.model.specs.Ranges.{Every, IsByte, IdFits, WriteFits, ReadFits, PhaseFits, LiveFits, EntryFits, StationFits}
+use Rattle.model.specs.Ranges.{Every, IdFits, WriteFits, ReadFits, PhaseFits, LiveFits, EntryFits, StationFits}
 use Rattle.model.proofs.Id as IdType
 use Rattle.model.proofs.Write as WriteType
 use Rattle.model.proofs.Read as ReadType
@@ -49,12 +48,7 @@ phase-handed Open vs s = record { slot8 = omega arith; clock64 = omega arith; st
 phase-handed (Closing d c n) vs s = record { slot8 = s .1 .1 .1 .1 .0 .1; clock64 = s .1 .1 .1 .1 .1 .0 .1; stored8 = s .1 .1 .1 .1 .1 .1 .0 .1 }
 
 entry-handed : (e : Entry) (vs : List Val) → shadow (EntryType.the-row .own e vs) → EntryFits e
-entry-handed e vs s = record {
-  id = id-handed (e .id) _ (s .1 .1 .0);
-  count8 = s .1 .1 .1 .0 .1;
-  key-places = sym (length-map (e .keys) (λ (k : ℕ). k)) ∙ s .1 .1 .1 .1 .0 .1 .0 .1;
-  keys = each-handed u8-field IsByte (λ x us t. t .1) (e .keys) (s .1 .1 .1 .1 .0 .0) (s .1 .1 .1 .1 .0 .1 .1);
-}
+entry-handed e vs s = record { id = id-handed (e .id) _ (s .1 .1 .0); keys64 = s .1 .1 .1 .0 .1 }
 
 live-handed : (l : Live) (vs : List Val) → shadow (LiveType.the-row .own l vs) → LiveFits l
 live-handed l vs s =

@@ -2,7 +2,7 @@
 pub use Prim.Native.Nat.{_+_, _*_, _-_, _≤_, ℕ, zero, suc, _/_, _%_, _<_, _^_, suc-le-suc}
 pub use mathlib.Core.Path.{_≡_, refl, sym, ap, ap₂, _∙_, subst}
 pub use mathlib.Core.Logic.{_≢_}
-pub use mathlib.Core.Bool.{Bool, true, false, true≢false, cond}
+pub use mathlib.Core.Bool.{Bool, true, false, true≢false}
 pub use mathlib.Core.List.{List, [], _∷_, _++_, map, append-nil, append-assoc}
 pub use lib.ListN.{length, drop, length-drop, take, getD, set, replicate, length-append, length-map, take-append-drop, drop-of-length-le, length-set, length-replicate}
 pub use lib.Dec.{eqb}
@@ -15,24 +15,21 @@ pub use borrow.Author.Tests.{not-true, not-false, eqb-true, eq-eqb, ne-eqb}
 pub use borrow.Rule.Slice.PartMut.{putMid, midOf, mid-len, same-len-mid}
 pub use Rattle.model.specs.declared.Id.{Id}
 pub use Rattle.model.specs.declared.Write.{Write}
-pub use Rattle.model.specs.declared.Read.{Read}
 pub use Rattle.model.specs.declared.Live.{Live}
 pub use Rattle.model.specs.declared.Entry.{Entry}
 pub use Rattle.model.specs.declared.Phase.{Phase}
 pub use Rattle.model.specs.declared.Phase.the-variants.{Unused, Open, Closing}
 pub use Rattle.model.specs.declared.Station.{Station}
-pub use Rattle.model.specs.Limits.{writeLimit, readLimit, recordSize, numberRange, byteRange, livePlaces, slots}
+pub use Rattle.model.specs.Limits.{writeLimit, readLimit, numberRange, byteRange, livePlaces, slots}
 pub use Rattle.model.specs.Ranges.{IsByte, IdFits, WriteFits, ReadFits, PhaseFits, LiveFits, EntryFits, Every, StationFits}
 unfoldable pub use Rattle.model.specs.Lists.{_and_, all, same}
 unfoldable pub use Rattle.model.specs.Bytes.{bytes, number, idIn}
 unfoldable pub use Rattle.model.specs.Lives.{closingSlot, closingClock, recordsStored}
-unfoldable pub use Rattle.model.specs.Stations.{emptyStation}
 pub use Rattle.model.proofs.Tests.{and-none-left, and-none-right, and-intro, and-left, and-right}
 pub use Rattle.model.proofs.ListLaws.{every-append}
 pub use Rattle.model.proofs.RangesKept.{bytes-are, bytes-zeros}
 pub use Rattle.model.proofs.RecordLaws.{Bytes, bytes-take, bytes-drop, length-bytes, number-bytes, same-refl, bytes-number, same-true}
 pub use Rattle.records.proofs.SlotSteps.{part-length}
-pub use Rattle.records.proofs.ByteLaws.{keys-read}
 pub use Rattle.image.specs.Layout.{Field, num, raw}
-unfoldable pub use Rattle.image.specs.Layout.{headSize, itemSize, writesSize, readsSize, placeSize, fieldBytes, row, flat, parts, writeRow, writeBytes, writeFrom, startBytes, readRow, readBytes, readFrom, entryRow, entryBytes, entryFrom, phaseNumber, phaseOf, phaseFrom, headRow, placeHead, byte, zeros, placesSize, entriesSize, imageSize}
+unfoldable pub use Rattle.image.specs.Layout.{headSize, itemSize, writesSize, readsSize, placeSize, fieldBytes, row, flat, parts, writeRow, writeBytes, writeFrom, startBytes, readRow, readBytes, readFrom, entryRow, entryBytes, entryFrom, phaseNumber, phaseOf, phaseFrom, headRow, placeHead, byte, zeros, placesSize, entrySize, entriesSize, imageSize}
 unfoldable pub use Rattle.image.specs.Images.{isAlone, placeBytes, placeFrom, isHead, isPlace, stationBytes, stationIn, isImage}

@@ -1,8 +1,8 @@
 -- A station is written as bytes from which it is read back, and bytes are an image exactly where they are those of the station read.
-use Rattle.image.proofs.Names.{ℕ, _+_, _≤_, _≡_, sym, ap, ap₂, _∙_, _≢_, Bool, true, false, cond, List, _++_, map, length, take, drop, length-append, length-drop, drop-at, arith, eqb-true, eq-eqb, ne-eqb, Station, livePlaces, slots, recordSize, _and_, all, same, emptyStation, and-left, and-right, and-intro, Bytes, bytes-drop, same-refl, same-true, placeSize, placesSize, entriesSize, imageSize, flat, parts, entryBytes, entryFrom, isAlone, placeBytes, isPlace, stationBytes, stationIn, isImage, StationFits, Every, IsByte, every-append}
+use Rattle.image.proofs.Names.{ℕ, _+_, _≤_, _≡_, refl, sym, ap, ap₂, _∙_, _≢_, Bool, true, false, List, [], _∷_, _++_, map, length, take, drop, length-append, length-drop, drop-at, arith, eqb-true, eq-eqb, ne-eqb, Station, livePlaces, slots, entrySize, _and_, all, same, and-left, and-right, and-intro, Bytes, bytes-drop, same-refl, same-true, placeSize, placesSize, entriesSize, imageSize, flat, parts, entryBytes, entryFrom, placeBytes, isPlace, stationBytes, stationIn, isImage, StationFits, Every, IsByte, every-append}
 use Rattle.image.proofs.PartLaws.{parts-take}
-use Rattle.image.proofs.RowLaws.{begins-then, begins-all, array-long, array-back, array-last, array-many, array-fits, array-begins, array-bytes}
-use Rattle.image.proofs.PlaceLaws.{entry-coded, place-coded}
+use Rattle.image.proofs.RowLaws.{and-end, begins-then, begins-all, array-long, array-back, array-last, array-many, array-fits, array-begins, array-bytes}
+use Rattle.image.proofs.PlaceLaws.{anyBytes, entry-coded, place-coded}
 
 -- ── bytes are an image ──
 pub no-image : (b : List ℕ) → length b ≢ imageSize → isImage b ≡ false
@@ -13,12 +13,17 @@ pub image-length : (b : List ℕ) → isImage b ≡ true → length b ≡ imageS
 unfolding isImage
 image-length b h = eqb-true (length b) imageSize (and-left _ _ h)
 
--- of the right length, where every place is one and every entry has its zeros
+-- of the right length, where every place is one: any entries' bytes are some entries'
+any-parts : (bs : List (List ℕ)) → all anyBytes bs ≡ true
+unfolding all
+any-parts [] = refl
+any-parts (b ∷ bs) = any-parts bs
+
 module _ (b : List ℕ) (l : length b ≡ imageSize) (y : Bytes b) where
   entries-in : entriesSize ≤ length (drop placesSize b)
   entries-in = omega (arith, length-drop placesSize b)
 
-  image-tested : isImage b ≡ (all isPlace (parts placeSize livePlaces b) and all (isAlone 4) (parts recordSize slots (drop placesSize b)))
+  image-tested : isImage b ≡ (all isPlace (parts placeSize livePlaces b) and all anyBytes (parts entrySize slots (drop placesSize b)))
   unfolding isImage stationBytes stationIn _and_
   image-tested =
       let p = array-begins place-coded livePlaces b (omega arith) y in
@@ -26,10 +31,11 @@ module _ (b : List ℕ) (l : length b ≡ imageSize) (y : Bytes b) where
       let o : length b ≤ placesSize + entriesSize = omega arith in
       ap (λ (t : Bool). t and same (stationBytes (stationIn b)) b) (eq-eqb (length b) imageSize l) ∙ begins-all (begins-then p e) o
 
-  pub image-is : isImage b ≡ (all isPlace (parts placeSize livePlaces (take placesSize b)) and all (isAlone 4) (parts recordSize slots (take entriesSize (drop placesSize b))))
+  pub image-is : isImage b ≡ all isPlace (parts placeSize livePlaces (take placesSize b))
   image-is =
       image-tested
-      ∙ ap₂ (λ (p e : List (List ℕ)). all isPlace p and all (isAlone 4) e) (sym (parts-take placeSize livePlaces b (omega arith))) (sym (parts-take recordSize slots (drop placesSize b) entries-in))
+      ∙ ap₂ _and_ (ap (all isPlace) (sym (parts-take placeSize livePlaces b (omega arith)))) (any-parts (parts entrySize slots (drop placesSize b)))
+      ∙ and-end (all isPlace (parts placeSize livePlaces (take placesSize b)))
 
   -- what is read off bytes is in its ranges
   pub image-fits : StationFits (stationIn b)
@@ -46,7 +52,7 @@ module _ (st : Station) (f : StationFits st) where
   places-long : length (flat placeBytes (st .live)) ≡ placesSize
   places-long = array-long place-coded (st .live) livePlaces (f .live-places) (f .live)
 
-  -- the image has 4,800 bytes
+  -- the image has 4,544 bytes
   pub image-long : length (stationBytes st) ≡ imageSize
   unfolding stationBytes
   image-long = length-append (flat placeBytes (st .live)) (flat entryBytes (st .entries)) ∙ ap₂ _+_ places-long (array-long entry-coded (st .entries) slots (f .entry-places) (f .entries))
@@ -58,7 +64,7 @@ module _ (st : Station) (f : StationFits st) where
       let d : drop placesSize (flat placeBytes (st .live) ++ flat entryBytes (st .entries)) ≡ flat entryBytes (st .entries) = drop-at (flat placeBytes (st .live)) (flat entryBytes (st .entries)) placesSize places-long in
       λ z. record {
         live = array-back place-coded (st .live) livePlaces (f .live-places) (f .live) (flat entryBytes (st .entries)) z;
-        entries = (ap (λ (b : List ℕ). map entryFrom (parts recordSize slots b)) d ∙ array-last entry-coded (st .entries) slots (f .entry-places) (f .entries)) z;
+        entries = (ap (λ (b : List ℕ). map entryFrom (parts entrySize slots b)) d ∙ array-last entry-coded (st .entries) slots (f .entry-places) (f .entries)) z;
       }
 
   pub image-round : (isImage (stationBytes st) ≡ true) × (stationIn (stationBytes st) ≡ st)
@@ -79,10 +85,10 @@ unfolding isImage
 image-only b h = same-true (stationBytes (stationIn b)) b (and-right _ _ h)
 
 -- what is read of bytes that are an image: the station, and its bytes are these
-pub image-read : (b : List ℕ) (whole : Bool) (st : Station) → whole ≡ isImage b → st ≡ cond (isImage b) (stationIn b) emptyStation → whole ≡ true → (isImage b ≡ true) × (st ≡ stationIn b) × (stationBytes st ≡ b)
+pub image-read : (b : List ℕ) (whole : Bool) (st : Station) → whole ≡ isImage b → (isImage b ≡ true → st ≡ stationIn b) → whole ≡ true → (isImage b ≡ true) × (st ≡ stationIn b) × (stationBytes st ≡ b)
 image-read b whole st e s h =
     let i : isImage b ≡ true = sym e ∙ h in
-    let q : st ≡ stationIn b = s ∙ ap (λ (t : Bool). cond t (stationIn b) emptyStation) i in
+    let q : st ≡ stationIn b = s i in
     (i, q, ap stationBytes q ∙ image-only b i)
 
 -- two images of one station are the same bytes

@@ -157,10 +157,6 @@ unfolding number
 number-small [] h = omega arith
 number-small (b ∷ bs) h = omega (arith, pow-succ' byteRange (length bs), h 0 (zero-lt-suc _), number-small bs (λ i o. h (suc i) (suc-le-suc o)))
 
-pub bytes-every : (bs : List ℕ) → Bytes bs → Every IsByte bs
-bytes-every [] h = tt
-bytes-every (b ∷ bs) h = (h 0 (zero-lt-suc _), bytes-every bs (λ i o. h (suc i) (suc-le-suc o)))
-
 pub number-fits : (b : List ℕ) (a k : ℕ) → a + k ≤ length b → Bytes b → number (take k (drop a b)) < byteRange ^ k
 number-fits b a k h y = subst (λ (n : ℕ). number (take k (drop a b)) < byteRange ^ n) (part-size b a k h) (number-small (take k (drop a b)) (bytes-take k (drop a b) (bytes-drop a b y)))
 

@@ -7,9 +7,9 @@ use lib.ListN.{length, take, drop, getD}
 use Rattle.model.specs.declared.Live.{Live}
 use Rattle.model.specs.declared.Station.{Station}
 use Rattle.model.specs.Lists.{_and_, same}
-use Rattle.model.specs.Limits.{livePlaces, slots, writeLimit, readLimit, recordSize}
+use Rattle.model.specs.Limits.{livePlaces, slots, writeLimit, readLimit}
 use Rattle.model.specs.Bytes.{number, idIn}
-use Rattle.image.specs.Layout.{headSize, itemSize, writesSize, placeSize, placesSize, imageSize, flat, parts, writeBytes, writeFrom, readBytes, readFrom, entryBytes, entryFrom, placeHead, phaseFrom}
+use Rattle.image.specs.Layout.{headSize, itemSize, writesSize, placeSize, placesSize, entrySize, imageSize, flat, parts, writeBytes, writeFrom, readBytes, readFrom, entryBytes, entryFrom, placeHead, phaseFrom}
 
 -- ── "then 8 writes of 16 bytes ..; then 16 reads of 16 bytes" ──
 unfoldable pub placeBytes : Live → List ℕ
@@ -32,7 +32,7 @@ stationBytes st = flat placeBytes (st .live) ++ flat entryBytes (st .entries)
 unfoldable pub stationIn : List ℕ → Station
 stationIn b = record {
   live = map placeFrom (parts placeSize livePlaces b);
-  entries = map entryFrom (parts recordSize slots (drop placesSize b));
+  entries = map entryFrom (parts entrySize slots (drop placesSize b));
 }
 
 -- ── bytes are an image, or a part's, where they are the bytes of what is read off them: every zero and every phase is as it must be ──
@@ -45,6 +45,6 @@ isPlace b = same (placeBytes (placeFrom b)) b
 unfoldable pub isImage : List ℕ → Bool
 isImage b = eqb (length b) imageSize and same (stationBytes (stationIn b)) b
 
--- the first of n bytes stands alone in them, as in the writes, the reads and the entries of an image: the others are zero
+-- the first of n bytes stands alone in them, as in the writes and the reads of an image: the others are zero
 unfoldable pub isAlone : ℕ → List ℕ → Bool
 isAlone n b = eqb (number (take (n - 1) (drop 1 b))) 0

@@ -1,9 +1,9 @@
 -- The station as an image of fixed length in lent bytes, for hosts in other languages: sizes, and the bytes of each part.
--- "All numbers are least byte first; 4,800 bytes.
+-- "All numbers are least byte first; 4,544 bytes.
 -- Live place, 408 bytes, eight of them: byte 0 phase (0 unused, 1 open, 2 closing), byte 1 slot, byte 2 records stored (both 0 unless
 -- closing), byte 3 count of writes, bytes 4 to 7 transaction, bytes 8 to 15 clock (0 unless closing), byte 16 count of reads, bytes 17
 -- to 23 zero; then 8 writes of 16 bytes (key, seven zeros, value 8); then 16 reads of 16 bytes (key, three zeros, transaction 4, clock 8).
--- Entry, 24 bytes, 64 of them after the places: count, three zeros, transaction 4, clock 8, keys 8."
+-- Entry, 20 bytes, 64 of them after the places: transaction 4, clock 8, keys 8 (a number in which bit k stands for key k)."
 use Prim.Native.Nat.{ℕ, zero, suc, _+_, _*_}
 use mathlib.Core.List.{List, [], _∷_, _++_}
 use lib.ListN.{take, drop, getD, replicate}
@@ -13,7 +13,7 @@ use Rattle.model.specs.declared.Read.{Read}
 use Rattle.model.specs.declared.Entry.{Entry}
 use Rattle.model.specs.declared.Phase.{Phase}
 use Rattle.model.specs.declared.Phase.the-variants.{Unused, Open, Closing}
-use Rattle.model.specs.Limits.{livePlaces, slots, writeLimit, readLimit, recordSize}
+use Rattle.model.specs.Limits.{livePlaces, slots, writeLimit, readLimit}
 use Rattle.model.specs.Bytes.{bytes, number, idIn}
 use Rattle.model.specs.Lives.{closingSlot, closingClock, recordsStored}
 
@@ -31,15 +31,18 @@ writesSize = itemSize * writeLimit
 abbrev pub readsSize : ℕ
 readsSize = itemSize * readLimit
 
--- "live place, 408 bytes, eight of them", "entry, 24 bytes, 64 of them after the places"
+-- "live place, 408 bytes, eight of them", "entry, 20 bytes, 64 of them after the places"
 abbrev pub placeSize : ℕ
 placeSize = headSize + writesSize + readsSize
 
 abbrev pub placesSize : ℕ
 placesSize = placeSize * livePlaces
 
+abbrev pub entrySize : ℕ
+entrySize = 20
+
 abbrev pub entriesSize : ℕ
-entriesSize = recordSize * slots
+entriesSize = entrySize * slots
 
 abbrev pub imageSize : ℕ
 imageSize = placesSize + entriesSize
@@ -84,7 +87,7 @@ writeBytes w = row (writeRow w)
 unfoldable pub writeFrom : List ℕ → Write
 writeFrom b = record { key = getD b 0 0; value = number (take 8 (drop 8 b)) }
 
--- ── what begins a read, an entry and a place: four bytes, then "transaction 4, clock 8" ──
+-- ── what begins a read and a place: four bytes, then "transaction 4, clock 8" ──
 unfoldable pub startBytes : ℕ → ℕ → ℕ → ℕ → Id → List ℕ
 startBytes a b c d i = row (byte a ∷ byte b ∷ byte c ∷ byte d ∷ num 4 (i .txn) ∷ num 8 (i .clock) ∷ [])
 
@@ -98,15 +101,15 @@ readBytes r = row (readRow r)
 unfoldable pub readFrom : List ℕ → Read
 readFrom b = record { key = getD b 0 0; id = idIn b }
 
--- ── "Entry, 24 bytes ..: count, three zeros, transaction 4, clock 8, keys 8" ──
+-- ── "Entry, 20 bytes ..: transaction 4, clock 8, keys 8" ──
 abbrev pub entryRow : Entry → List Field
-entryRow e = byte (e .count) ∷ zeros 3 ∷ num 4 (e .id .txn) ∷ num 8 (e .id .clock) ∷ raw writeLimit (e .keys) ∷ []
+entryRow e = num 4 (e .id .txn) ∷ num 8 (e .id .clock) ∷ num 8 (e .keys) ∷ []
 
 unfoldable pub entryBytes : Entry → List ℕ
 entryBytes e = row (entryRow e)
 
 unfoldable pub entryFrom : List ℕ → Entry
-entryFrom b = record { id = idIn b; count = getD b 0 0; keys = take writeLimit (drop 16 b) }
+entryFrom b = record { id = record { clock = number (take 8 (drop 4 b)); txn = number (take 4 b) }; keys = number (take 8 (drop 12 b)) }
 
 -- ── a phase: "0 unused, 1 open, 2 closing"; any other number is taken as closing, and is then not among the bytes written ──
 unfoldable pub phaseNumber : Phase → ℕ

@@ -8,19 +8,18 @@ use model::Station;
 use model::Write;
 use records::id_in;
 use records::number_in;
-use records::write_keys;
 use records::write_number;
 ghost use mathlib.Core.Path.{_≡_};
 ghost use Prim.Native.Nat.{_*_, _≤_};
-ghost use mathlib.Core.Bool.{true, cond};
+ghost use mathlib.Core.Bool.{true};
 ghost use mathlib.Core.List.{map};
 ghost use lib.ListN.{length};
 ghost use Rattle.model.specs.Lists.{all};
-ghost use Rattle.model.specs.Limits.{livePlaces, slots, writeLimit, readLimit, recordSize};
+ghost use Rattle.model.specs.Limits.{livePlaces, slots, writeLimit, readLimit};
 ghost use Rattle.model.specs.Bytes.{idIn};
+ghost use Rattle.model.specs.Listed.{listed, numbered};
 ghost use Rattle.model.specs.Lives.{closingSlot, closingClock, recordsStored};
-ghost use Rattle.model.specs.Stations.{emptyStation};
-ghost use Rattle.image.specs.Layout.{headSize, itemSize, writesSize, readsSize, placeSize, placesSize, entriesSize, imageSize, flat, parts, writeBytes, writeFrom, startBytes, readBytes, readFrom, entryBytes, entryFrom, phaseNumber, placeHead, phaseFrom};
+ghost use Rattle.image.specs.Layout.{headSize, itemSize, writesSize, readsSize, placeSize, placesSize, entrySize, entriesSize, imageSize, flat, parts, writeBytes, writeFrom, startBytes, readBytes, readFrom, entryBytes, entryFrom, phaseNumber, placeHead, phaseFrom};
 ghost use Rattle.image.specs.Images.{placeBytes, placeFrom, stationBytes, stationIn, isAlone, isHead, isPlace, isImage};
 
 // The bytes of a write or a read, of what stands before a place's sets, and where its reads begin.
@@ -33,7 +32,7 @@ const READS_AT: usize = HEAD + ITEM * Station::WRITES;
 // The bytes of a place, of an entry, of all places, and of the image.
 const PLACE: usize = READS_AT + ITEM * Station::READS;
 
-const ENTRY: usize = 24;
+const ENTRY: usize = 20;
 
 const ENTRIES_AT: usize = PLACE * Station::LIVE;
 
@@ -46,7 +45,7 @@ const OPEN: u8 = 1;
 
 const CLOSING: u8 = 2;
 
-// What bytes are read as: the station is the empty one where they are no image.
+// What bytes are read as; where they are no image, the station says nothing.
 pub struct Image {
     pub whole: bool,
     pub station: Station,
@@ -69,7 +68,7 @@ fn is_alone(row: &[u8], width: usize) -> bool
     number_in(&row[1..width]) == 0
 }
 
-// So it is in each of n rows, of writes, of reads or of entries.
+// So it is in each of n rows, of writes or of reads.
 fn are_alone(b: &[u8], size: usize, n: usize, width: usize) -> bool
     requires { ⌜ (length (now b) ≡ size * n) × (width ≤ size) × (1 ≤ width) × (width ≤ 8) ⌝ }
     ensures { λ r. ⌜ r ≡ all (isAlone width) (parts size n (now (b .entry))) ⌝ }
@@ -143,10 +142,7 @@ pub fn is_image(bytes: &[u8]) -> bool
     if bytes.len() != IMAGE {
         return false;
     }
-    if !are_places(&bytes[0..ENTRIES_AT]) {
-        return false;
-    }
-    are_alone(&bytes[ENTRIES_AT..IMAGE], ENTRY, Station::SLOTS, 4)
+    are_places(&bytes[0..ENTRIES_AT])
 }
 
 // ---- parts read off
@@ -167,14 +163,15 @@ fn read_in(b: &[u8]) -> Read
 }
 
 fn entry_in(b: &[u8]) -> Entry
-    requires { ⌜ length (now b) ≡ recordSize ⌝ }
+    requires { ⌜ length (now b) ≡ entrySize ⌝ }
     ensures { λ r. ⌜ r ≡ entryFrom (now (b .entry)) ⌝ }
 {
-    let id = id_in(b);
+    let txn = number_in(&b[0..4]) as u32;
+    let clock = number_in(&b[4..12]);
+    let keys = number_in(&b[12..20]);
     Entry {
-        id,
-        count: b[0],
-        keys: [b[16], b[17], b[18], b[19], b[20], b[21], b[22], b[23]],
+        id: Id { clock, txn },
+        keys,
     }
 }
 
@@ -262,7 +259,7 @@ fn places_in(b: &[u8]) -> [Live; Station::LIVE]
 
 fn entries_in(b: &[u8]) -> [Entry; Station::SLOTS]
     requires { ⌜ length (now b) ≡ entriesSize ⌝ }
-    ensures { λ r. ⌜ r ≡ map entryFrom (parts recordSize slots (now (b .entry))) ⌝ }
+    ensures { λ r. ⌜ r ≡ map entryFrom (parts entrySize slots (now (b .entry))) ⌝ }
 {
     let first = entry_in(&b[0..ENTRY]);
     let mut entries = [first; Station::SLOTS];
@@ -276,9 +273,9 @@ fn entries_in(b: &[u8]) -> [Entry; Station::SLOTS]
     entries
 }
 
-// Bytes of any length, read: the station that they are the image of, the empty one where they are none.
+// Bytes of any length, read: whether they are an image, and of which station.
 pub fn read_image(bytes: &[u8]) -> Image
-    ensures { λ r. ⌜ (r .whole ≡ isImage (now (bytes .entry))) × (r .station ≡ cond (isImage (now (bytes .entry))) (stationIn (now (bytes .entry))) emptyStation) ⌝ }
+    ensures { λ r. ⌜ (r .whole ≡ isImage (now (bytes .entry))) × (isImage (now (bytes .entry)) ≡ true → r .station ≡ stationIn (now (bytes .entry))) ⌝ }
 {
     if !is_image(bytes) {
         let empty = Station::empty();
@@ -304,7 +301,7 @@ fn write_write(part: &mut [u8], w: Write)
     write_number(&mut part[8..16], w.value);
 }
 
-// Four bytes and an id: what begins a place, a read and an entry.
+// Four bytes and an id: what begins a place and a read.
 fn write_start(part: &mut [u8], a: u8, b: u8, c: u8, d: u8, id: Id)
     requires { ⌜ length (now part) ≡ itemSize ⌝ }
     ensures { λ _. ⌜ now (part .exit) ≡ startBytes a b c d id ⌝ }
@@ -326,13 +323,13 @@ fn write_read(part: &mut [u8], r: Read)
 }
 
 fn write_entry(part: &mut [u8], e: Entry)
-    requires { ⌜ length (now part) ≡ recordSize ⌝ }
+    requires { ⌜ length (now part) ≡ entrySize ⌝ }
     ensures { λ _. ⌜ now (part .exit) ≡ entryBytes e ⌝ }
 {
     let id = e.id;
-    let keys = e.keys;
-    write_start(&mut part[0..16], e.count, 0, 0, 0, id);
-    write_keys(&mut part[16..24], keys);
+    write_number(&mut part[0..4], id.txn as u64);
+    write_number(&mut part[4..12], id.clock);
+    write_number(&mut part[12..20], e.keys);
 }
 
 fn phase_marks(p: Phase) -> Marked
@@ -448,6 +445,7 @@ pub fn write_image(bytes: &mut [u8], station: Station)
     requires { ⌜ length (now bytes) ≡ imageSize ⌝ }
     ensures { λ _. ⌜ now (bytes .exit) ≡ stationBytes station ⌝ }
     ensures { λ _. ⌜ (isImage (now (bytes .exit)) ≡ true) × (stationIn (now (bytes .exit)) ≡ station) ⌝ }
+    ensures { λ _. ⌜ numbered (listed station) ≡ station ⌝ }
 {
     let live = station.live;
     let entries = station.entries;

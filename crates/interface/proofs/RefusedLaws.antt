@@ -6,12 +6,12 @@ use mathlib.Core.Bool.{Bool, false, cond, true≢false}
 use mathlib.Core.List.{List, [], _∷_}
 use mathlib.Core.Option.{Option, some, none}
 use lib.Dec.{eqb, ltb}
-use Rattle.model.specs.declared.Station.{Station}
+use Rattle.model.specs.Types.{Station}
 use Rattle.model.specs.declared.Live.{Live}
 use Rattle.model.specs.declared.Phase.{Phase}
 use Rattle.model.specs.declared.Answer.{Answer}
 use Rattle.model.specs.declared.Answer.the-variants as A
-use Rattle.model.specs.Lives.{recordsStored}
+use Rattle.model.specs.Lives.{writeCount, recordsStored}
 use Rattle.model.specs.Stations.{liveAt, isHeld, placeOf}
 use Rattle.model.specs.Reading.{Choice, own, absent, nofit, version}
 use Rattle.model.specs.Effects.{Effect, Row, says, saysStoring, refusals}
@@ -62,7 +62,7 @@ said-storing a st d n r h = record { accepts = h }
 stepped-on : (st : Station) (i : ℕ) (l : Live) (p : Phase) → Accepted (stepped st i l p)
 unfolding stepped refusedWith
 stepped-on st i l p =
-    either (ltb (recordsStored p) (l .«write_count»)) (eqb (recordsStored p) (l .«write_count»)) _ _ _ (said-storing _ _ _ _ _ refl) (said-storing _ _ _ _ _ refl) (said _ _ refl)
+    either (ltb (recordsStored p) (writeCount l)) (eqb (recordsStored p) (writeCount l)) _ _ _ (said-storing _ _ _ _ _ refl) (said-storing _ _ _ _ _ refl) (said _ _ refl)
 
 -- ── so only a row refuses ──
 rows : (rs : List Row) (st : Station) (e : Effect) → Accepted e → Kept st (refusals rs st e)
@@ -76,7 +76,7 @@ call-kept none st s n = unfold says in record { keeps = λ _. record { station-s
 call-kept (some (Start t)) st s n = rows _ st _ (said A.Started _ refl)
 call-kept (some (Put t k v)) st s n = rows _ st _ (said A.Kept _ refl)
 call-kept (some (Get t k)) st s n = rows _ st _ (got st s _ k _)
-call-kept (some (Commit t c)) st s n = rows _ st _ (either (isHeld t st) (eqb (liveAt st (placeOf t st) .«write_count») 0) _ _ _ (said _ _ refl) (said _ _ refl) (said _ _ refl))
+call-kept (some (Commit t c)) st s n = rows _ st _ (either (isHeld t st) (eqb (writeCount (liveAt st (placeOf t st))) 0) _ _ _ (said _ _ refl) (said _ _ refl) (said _ _ refl))
 call-kept (some (Step t)) st s n = rows _ st _ (stepped-on st _ _ _)
 call-kept (some (Abort t)) st s n = rows _ st _ (said A.Dropped _ refl)
 call-kept (some (Collect d)) st s n = rows _ st _ (said-storing (A.Collected _) _ _ _ _ refl)

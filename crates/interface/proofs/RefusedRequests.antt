@@ -17,22 +17,24 @@ use Rattle.model.specs.Effects.{RecordWrite, Effect, says, stored}
 use Rattle.model.specs.Calls.{Call, does}
 use Rattle.model.specs.Answers.{refusedWith}
 use Rattle.model.proofs.Tests.{or-left, or-right, or-intro-left, or-false}
+use Rattle.model.proofs.RecordLaws.{Bytes}
+use Rattle.model.proofs.ListedLaws.{station-back}
 use Rattle.desk.specs.Acts.{asksScan}
 use Rattle.desk.proofs.ActLaws.{Barred, call-barred}
-use Rattle.image.specs.Images.{isImage}
-use Rattle.image.proofs.Round.{image-only}
+use Rattle.image.specs.Images.{stationBytes, stationIn, isImage}
+use Rattle.image.proofs.Round.{image-length, image-fits, image-only}
 use Rattle.sheet.specs.Sheets.{lineEffect}
-use Rattle.interface.specs.Exchange.{requestSize, requestCall, Held, unsoundStation, heldIn, requestEffect, afterRequest, afterRequests, imageAfter, afterRun}
+use Rattle.interface.specs.Exchange.{requestSize, requestCall, Held, unsoundStation, heldIn, requestEffect, afterRequest, afterRequests, imageOf, imageAfter, afterRun}
 use Rattle.interface.proofs.RefusedLaws.{Unaltered, refused-unaltered}
 use Rattle.interface.proofs.LengthLaws.{one-part}
 
 -- ── where nothing was done the image stays as it was ──
-pub image-held : (image s : List ℕ) → imageAfter image (heldIn image s) ≡ image
-unfolding imageAfter heldIn
-image-held image s = go (isImage image) refl
+pub image-held : (image s : List ℕ) → Bytes image → imageAfter image (heldIn image s) ≡ image
+unfolding imageAfter imageOf heldIn
+image-held image s y = go (isImage image) refl
   where
     go : (b : Bool) → isImage image ≡ b → imageAfter image (heldIn image s) ≡ image
-    go true e = rw e (image-only image e)
+    go true e = rw e (ap stationBytes (station-back (stationIn image) (image-fits image (image-length image e) y)) ∙ image-only image e)
     go false e = rw e
 
 -- ── a refused request ──
@@ -49,16 +51,16 @@ module _ (image s q : List ℕ) (n : asksScan (requestCall q) ≡ false) (r : re
     store = ap (λ (w : List RecordWrite). stored w (heldIn image s .store)) (unaltered .none-stored) i;
   }
 
-  pub refused-image : imageAfter image (afterRequest q (heldIn image s)) ≡ image
-  refused-image = ap (imageAfter image) refused-held ∙ image-held image s
+  pub refused-image : Bytes image → imageAfter image (afterRequest q (heldIn image s)) ≡ image
+  refused-image y = ap (imageAfter image) refused-held ∙ image-held image s y
 
   pub refused-store : afterRequest q (heldIn image s) .store ≡ s
   unfolding heldIn
   refused-store = ap (λ (h : Held). h .store) refused-held
 
   -- as bytes handed over
-  pub refused-run : length q ≡ requestSize → (imageAfter image (afterRun image s q) ≡ image) × (afterRun image s q .store ≡ s)
-  refused-run l = (ap (imageAfter image) one ∙ refused-image, ap (λ (h : Held). h .store) one ∙ refused-store)
+  pub refused-run : Bytes image → length q ≡ requestSize → (imageAfter image (afterRun image s q) ≡ image) × (afterRun image s q .store ≡ s)
+  refused-run y l = (ap (imageAfter image) one ∙ refused-image y, ap (λ (h : Held). h .store) one ∙ refused-store)
     where
       one : afterRun image s q ≡ afterRequest q (heldIn image s)
       one = unfold afterRun in unfold afterRequests in ap (λ (qs : List (List ℕ)). afterRequests qs (heldIn image s)) (one-part q l)

@@ -7,8 +7,9 @@ use lib.ListN.{length, take, drop}
 use lib.Seq.{take-all}
 use native.Mathlib.Omega.{arith}
 use borrow.Rule.Slice.PartMut.{putMid}
-use Rattle.model.specs.declared.Station.{Station}
-use Rattle.model.specs.declared.Outcome.{Outcome}
+use Rattle.model.specs.declared.Station as machine
+use Rattle.model.specs.Types.{Outcome}
+use Rattle.model.specs.Listed.{listed, listedOutcome}
 use Rattle.model.specs.Lists.{_or_}
 use Rattle.model.specs.Sound.{sound}
 use Rattle.model.specs.Effects.{stored, outcomeOf}
@@ -27,10 +28,10 @@ use Rattle.desk.specs.declared.Request.{Request}
 use Rattle.desk.specs.Acts.{callOf, asksScan, effectOf, acted, kept}
 use Rattle.desk.proofs.ActLaws.{call-is, acted-is, kept-is, scan-acts, sweep-acts, acted-tested}
 use Rattle.image.specs.Layout.{parts}
-use Rattle.image.specs.Images.{stationBytes, stationIn, isImage}
+use Rattle.image.specs.Images.{stationIn, isImage}
 use Rattle.image.proofs.PartLaws.{next-place, part-is, parts-next, put-front}
 use Rattle.interface.specs.declared.Current.{Current}
-use Rattle.interface.specs.Exchange.{requestSize, answerSize, requestCall, answerBytes, Held, unsoundStation, heldIn, requestEffect, afterRequest, afterRequests, answersTo, imageAfter, requestsIn, afterRun, answersIn}
+use Rattle.interface.specs.Exchange.{requestSize, answerSize, requestCall, answerBytes, Held, unsoundStation, heldIn, requestEffect, afterRequest, afterRequests, answersTo, imageOf, imageAfter, requestsIn, afterRun, answersIn}
 use Rattle.interface.specs.Parts.{heldOf}
 use Rattle.interface.proofs.LengthLaws.{one-part}
 
@@ -39,14 +40,14 @@ module _ (q : List ℕ) (h : Current) (s : List ℕ) (r : Request) (e : r .comma
   scan-of : asksScan (callOf (r .command)) ≡ asksScan (requestCall q)
   scan-of = ap asksScan (call-is r (requestCall q) e)
 
-  module _ (o : Outcome) (p : o ≡ acted (h .station) s r) where
-    outcome-is : o ≡ outcomeOf (lineEffect (requestCall q) (h .station) s)
-    outcome-is = p ∙ acted-is r (requestCall q) e (h .station) s
+  module _ (o : Outcome) (p : o ≡ acted (listed (h .station)) s r) where
+    outcome-is : o ≡ outcomeOf (lineEffect (requestCall q) (listed (h .station)) s)
+    outcome-is = p ∙ acted-is r (requestCall q) e (listed (h .station)) s
 
-    request-run : (l : Current) → l .whole ≡ (h .whole or asksScan (requestCall q)) → l .station ≡ o .station → (s′ : List ℕ) → s′ ≡ kept (h .station) s r
+    request-run : (l : Current) → l .whole ≡ (h .whole or asksScan (requestCall q)) → listed (l .station) ≡ o .station → (s′ : List ℕ) → s′ ≡ kept (listed (h .station)) s r
         → heldOf l s′ ≡ afterRequest q (heldOf h s)
     unfolding heldOf afterRequest requestEffect outcomeOf
-    request-run l w g s′ k = λ i. record { whole = w i; station = (g ∙ ap (λ (x : Outcome). x .station) outcome-is) i; store = (k ∙ kept-is r (requestCall q) e (h .station) s) i }
+    request-run l w g s′ k = λ i. record { whole = w i; station = (g ∙ ap (λ (x : Outcome). x .station) outcome-is) i; store = (k ∙ kept-is r (requestCall q) e (listed (h .station)) s) i }
 
     request-answered : answerBytes (o .answer) ≡ answerBytes (requestEffect q (heldOf h s) .answer)
     unfolding heldOf requestEffect outcomeOf
@@ -54,12 +55,12 @@ module _ (q : List ℕ) (h : Current) (s : List ℕ) (r : Request) (e : r .comma
 
   -- a scan, and its station
   module _ (n : asksScan (callOf (r .command)) ≡ true) where
-    scan-is : outcomeOf (scan s) ≡ acted (h .station) s r
-    scan-is = scan-acts (h .station) s r n _ refl .0
+    scan-is : outcomeOf (scan s) ≡ acted (listed (h .station)) s r
+    scan-is = scan-acts (listed (h .station)) s r n _ refl .0
 
-    pub scan-run : (l : Current) → l .whole ≡ true → l .station ≡ scan s .station → heldOf l s ≡ afterRequest q (heldOf h s)
+    pub scan-run : (l : Current) → l .whole ≡ true → listed (l .station) ≡ scan s .station → heldOf l s ≡ afterRequest q (heldOf h s)
     unfolding outcomeOf
-    scan-run l w g = request-run _ scan-is l (w ∙ sym (or-intro-right (h .whole) _ (sym scan-of ∙ n))) g s (scan-acts (h .station) s r n _ refl .1)
+    scan-run l w g = request-run _ scan-is l (w ∙ sym (or-intro-right (h .whole) _ (sym scan-of ∙ n))) g s (scan-acts (listed (h .station)) s r n _ refl .1)
 
     pub scan-answered : answerBytes (scan s .answer) ≡ answerBytes (requestEffect q (heldOf h s) .answer)
     unfolding outcomeOf
@@ -71,29 +72,29 @@ module _ (q : List ℕ) (h : Current) (s : List ℕ) (r : Request) (e : r .comma
     unfolding callOf asksScan isScan
     no-scan = ap (λ (x : Command). asksScan (callOf x)) c
 
-    sweep-is : outcomeOf (sweep (h .station) s n) ≡ acted (h .station) s r
-    sweep-is = sweep-acts (h .station) s r n c _ refl _ refl .0
+    sweep-is : outcomeOf (sweep (listed (h .station)) s n) ≡ acted (listed (h .station)) s r
+    sweep-is = sweep-acts (listed (h .station)) s r n c _ refl _ refl .0
 
-    pub sweep-run : (t : Bool) (st : Station) → st ≡ sweep (h .station) s n .station → (s′ : List ℕ) → s′ ≡ stored (sweep (h .station) s n .stores) s
+    pub sweep-run : (t : Bool) (st : machine.Station) → listed st ≡ sweep (listed (h .station)) s n .station → (s′ : List ℕ) → s′ ≡ stored (sweep (listed (h .station)) s n .stores) s
         → heldOf (record { whole = h .whole; tested = t; station = st }) s′ ≡ afterRequest q (heldOf h s)
     unfolding outcomeOf
-    sweep-run t st g s′ k = request-run _ sweep-is _ (sym (ap (λ (b : Bool). h .whole or b) (sym scan-of ∙ no-scan) ∙ or-false (h .whole))) g s′ (sweep-acts (h .station) s r n c _ refl s′ k .1)
+    sweep-run t st g s′ k = request-run _ sweep-is _ (sym (ap (λ (b : Bool). h .whole or b) (sym scan-of ∙ no-scan) ∙ or-false (h .whole))) g s′ (sweep-acts (listed (h .station)) s r n c _ refl s′ k .1)
 
-    pub sweep-answered : answerBytes (sweep (h .station) s n .answer) ≡ answerBytes (requestEffect q (heldOf h s) .answer)
+    pub sweep-answered : answerBytes (sweep (listed (h .station)) s n .answer) ≡ answerBytes (requestEffect q (heldOf h s) .answer)
     unfolding outcomeOf
     sweep-answered = request-answered _ sweep-is
 
-    pub sweep-tested : h .tested ≡ sound (h .station) → (st : Station) → st ≡ sweep (h .station) s n .station → h .tested ≡ sound st
+    pub sweep-tested : h .tested ≡ sound (listed (h .station)) → (st : machine.Station) → listed st ≡ sweep (listed (h .station)) s n .station → h .tested ≡ sound (listed st)
     unfolding _or_ outcomeOf
-    sweep-tested t st g = t ∙ sym (acted-tested (h .station) s r ∙ ap (λ (b : Bool). b or sound (h .station)) no-scan) ∙ ap (λ (x : Outcome). sound (x .station)) (sym sweep-is) ∙ ap sound (sym g)
+    sweep-tested t st g = t ∙ sym (acted-tested (listed (h .station)) s r ∙ ap (λ (b : Bool). b or sound (listed (h .station))) no-scan) ∙ ap (λ (x : Outcome). sound (x .station)) (sym sweep-is) ∙ ap sound (sym g)
 
   -- any other request: a change
-  module _ (n : asksScan (callOf (r .command)) ≡ false) (c : Change) (d : IsChange (h .station) (effectOf (h .station) s r) c) where
-    change-is : changedBy (h .station) c ≡ acted (h .station) s r
+  module _ (n : asksScan (callOf (r .command)) ≡ false) (c : Change) (d : IsChange (h .station) (effectOf (listed (h .station)) s r) c) where
+    change-is : listedOutcome (changedBy (h .station) c) ≡ acted (listed (h .station)) s r
     unfolding acted
     change-is = comes-to _ _ _ d
 
-    pub change-run : (t : Bool) (s′ : List ℕ) → s′ ≡ kept (h .station) s r
+    pub change-run : (t : Bool) (s′ : List ℕ) → s′ ≡ kept (listed (h .station)) s r
         → heldOf (record { whole = h .whole; tested = t; station = changedBy (h .station) c .station }) s′ ≡ afterRequest q (heldOf h s)
     change-run t s′ k = request-run _ change-is _ (sym (ap (λ (b : Bool). h .whole or b) (sym scan-of ∙ n) ∙ or-false (h .whole))) refl s′ k
 
@@ -102,9 +103,9 @@ module _ (q : List ℕ) (h : Current) (s : List ℕ) (r : Request) (e : r .comma
     change-answered = request-answered _ change-is
 
     -- the soundness test says of the station what it did
-    pub change-tested : h .tested ≡ sound (h .station) → h .tested ≡ sound (changedBy (h .station) c .station)
+    pub change-tested : h .tested ≡ sound (listed (h .station)) → h .tested ≡ sound (listed (changedBy (h .station) c .station))
     unfolding _or_
-    change-tested t = t ∙ sym (acted-tested (h .station) s r ∙ ap (λ (b : Bool). b or sound (h .station)) n) ∙ ap (λ (x : Outcome). sound (x .station)) (sym change-is)
+    change-tested t = t ∙ sym (acted-tested (listed (h .station)) s r ∙ ap (λ (b : Bool). b or sound (listed (h .station))) n) ∙ ap (λ (x : Outcome). sound (x .station)) (sym change-is)
 
 -- ── one after the other ──
 -- what is left of n requests after the first i
@@ -148,7 +149,7 @@ module _ (n : ℕ) (b : List ℕ) (done : Held) (said : List ℕ) (i : ℕ) (h :
       )
 
 -- ── bytes handed over ──
-module _ (image s b : List ℕ) (f : Current) (e : f .whole ≡ isImage image) (g : f .station ≡ cond (isImage image) (stationIn image) unsoundStation) where
+module _ (image s b : List ℕ) (f : Current) (e : f .whole ≡ isImage image) (g : listed (f .station) ≡ cond (isImage image) (listed (stationIn image)) unsoundStation) where
   first-held : heldOf f s ≡ heldIn image s
   unfolding heldOf heldIn
   first-held = λ i. record { whole = e i; station = g i; store = s }
@@ -175,6 +176,6 @@ pub run-store : (l : Current) (s′ : List ℕ) (h : Held) → heldOf l s′ ≡
 unfolding heldOf
 run-store l s′ h e = ap (λ (x : Held). x .store) e
 
-pub run-image : (image : List ℕ) (l : Current) (s′ : List ℕ) (h : Held) → heldOf l s′ ≡ h → cond (l .whole) (stationBytes (l .station)) image ≡ imageAfter image h
+pub run-image : (image : List ℕ) (l : Current) (s′ : List ℕ) (h : Held) → heldOf l s′ ≡ h → cond (l .whole) (imageOf (listed (l .station))) image ≡ imageAfter image h
 unfolding heldOf imageAfter
 run-image image l s′ h e = ap (imageAfter image) e

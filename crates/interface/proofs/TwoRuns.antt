@@ -7,30 +7,31 @@ use lib.ListN.{length, take, drop, length-append, length-drop}
 use lib.Seq.{take-append-le, drop-append-le}
 use native.Mathlib.Nat.{mul-zero, mul-suc, suc-ne-zero}
 use native.Mathlib.Omega.{arith}
+use Rattle.model.specs.Listed.{listed}
 use Rattle.image.specs.Layout.{parts}
-use Rattle.image.specs.Images.{stationBytes, stationIn, isImage}
+use Rattle.image.specs.Images.{stationIn, isImage}
 use Rattle.interface.specs.declared.Current.{Current}
-use Rattle.interface.specs.Exchange.{requestSize, answerBytes, Held, unsoundStation, heldIn, requestEffect, afterRequest, afterRequests, answersTo, imageAfter, requestsIn, afterRun, answersIn}
+use Rattle.interface.specs.Exchange.{requestSize, answerBytes, Held, unsoundStation, heldIn, requestEffect, afterRequest, afterRequests, answersTo, imageOf, imageAfter, requestsIn, afterRun, answersIn}
 use Rattle.interface.specs.Parts.{heldOf}
 use Rattle.interface.proofs.LengthLaws.{cond-yes, cond-no}
 use Rattle.interface.proofs.RefusedRequests.{whole-stays, untouched}
 
 -- ── what is held after a run ──
-module _ (image s b x : List ℕ) (h : Held) (k : h ≡ afterRun image s b) (e : x ≡ cond (h .whole) (stationBytes (h .station)) image)
-    (f : h .whole ≡ true → (isImage x ≡ true) × (stationIn x ≡ h .station)) where
+module _ (image s b x : List ℕ) (h : Held) (k : h ≡ afterRun image s b) (e : x ≡ cond (h .whole) (imageOf (h .station)) image)
+    (f : h .whole ≡ true → (isImage x ≡ true) × (listed (stationIn x) ≡ h .station)) where
   pub held-after : heldIn x (h .store) ≡ afterRun image s b
   held-after = go (h .whole) refl ∙ k
     where
       go : (w : Bool) → h .whole ≡ w → heldIn x (h .store) ≡ h
       go true g = unfold heldIn in λ i. record {
         whole = (f g .0 ∙ sym g) i;
-        station = (sym (cond-yes (isImage x) (stationIn x) unsoundStation (f g .0)) ∙ f g .1) i;
+        station = (sym (cond-yes (isImage x) (listed (stationIn x)) unsoundStation (f g .0)) ∙ f g .1) i;
         store = h .store;
       }
       go false g = ap₂ heldIn same-image same-store ∙ sym same-held
         where
           same-image : x ≡ image
-          same-image = e ∙ sym (cond-no (h .whole) (stationBytes (h .station)) image g)
+          same-image = e ∙ sym (cond-no (h .whole) (imageOf (h .station)) image g)
 
           same-held : h ≡ heldIn image s
           same-held = k ∙ (unfold afterRun in untouched image s (requestsIn b) (sym (ap (λ (y : Held). y .whole) (unfold afterRun in k)) ∙ g))
@@ -39,19 +40,19 @@ module _ (image s b x : List ℕ) (h : Held) (k : h ≡ afterRun image s b) (e :
           same-store = unfold heldIn in ap (λ (y : Held). y .store) same-held
 
 -- the same of what the code hands on
-pub run-kept : (image s b x : List ℕ) (l : Current) (s′ : List ℕ) → heldOf l s′ ≡ afterRun image s b → x ≡ cond (l .whole) (stationBytes (l .station)) image
-    → (l .whole ≡ true → (isImage x ≡ true) × (stationIn x ≡ l .station)) → heldIn x s′ ≡ afterRun image s b
+pub run-kept : (image s b x : List ℕ) (l : Current) (s′ : List ℕ) → heldOf l s′ ≡ afterRun image s b → x ≡ cond (l .whole) (imageOf (listed (l .station))) image
+    → (l .whole ≡ true → (isImage x ≡ true) × (listed (stationIn x) ≡ listed (l .station))) → heldIn x s′ ≡ afterRun image s b
 unfolding heldOf
 run-kept image s b x l s′ k e f = held-after image s b x (heldOf l s′) k e f
 
 -- ── two runs ──
-image-own : (x : List ℕ) (h : Held) → h .whole ≡ true → imageAfter x h ≡ stationBytes (h .station)
+image-own : (x : List ℕ) (h : Held) → h .whole ≡ true → imageAfter x h ≡ imageOf (h .station)
 unfolding imageAfter
-image-own x h e = sym (cond-yes (h .whole) (stationBytes (h .station)) x e)
+image-own x h e = sym (cond-yes (h .whole) (imageOf (h .station)) x e)
 
 image-as-was : (x : List ℕ) (h : Held) → h .whole ≡ false → imageAfter x h ≡ x
 unfolding imageAfter
-image-as-was x h e = sym (cond-no (h .whole) (stationBytes (h .station)) x e)
+image-as-was x h e = sym (cond-no (h .whole) (imageOf (h .station)) x e)
 
 after-append : (ps qs : List (List ℕ)) (h : Held) → afterRequests (ps ++ qs) h ≡ afterRequests qs (afterRequests ps h)
 unfolding afterRequests

@@ -4,13 +4,13 @@ use mathlib.Core.Bool.{Bool, cond}
 use mathlib.Core.List.{List, [], _∷_, _++_}
 use mathlib.Core.Option.{Option, some, none}
 use lib.Dec.{eqb}
-use lib.ListN.{length, getD, replicate}
-use Rattle.model.specs.declared.Station.{Station}
+use lib.ListN.{length, getD}
+use Rattle.model.specs.Types.{Station}
 use Rattle.model.specs.declared.Answer.{Answer}
 use Rattle.model.specs.declared.Answer.the-variants as A
 use Rattle.model.specs.Lists.{_and_, _or_}
-use Rattle.model.specs.Limits.{writeLimit}
 use Rattle.model.specs.Ids.{noId}
+use Rattle.model.specs.Listed.{listed, numbered}
 use Rattle.model.specs.Bytes.{bytes, idIn}
 use Rattle.model.specs.Stations.{emptyStation, setEntry}
 use Rattle.model.specs.Effects.{Effect, stored}
@@ -87,13 +87,13 @@ pub record Held : Type 0 where
   pub station : Station
   pub store : List ℕ
 
--- an entry with a count and no id: every call but a scan is refused with 2, or with 1
+-- an entry with a key and no id: every call but a scan is refused with 2, or with 1
 unfoldable pub unsoundStation : Station
-unsoundStation = setEntry emptyStation 0 (record { id = noId; count = 1; keys = replicate writeLimit 0 })
+unsoundStation = setEntry emptyStation 0 (record { id = noId; keys = 0 ∷ [] })
 
 -- at first: the station of the image; where the image is none, a station that is not sound
 unfoldable pub heldIn : List ℕ → List ℕ → Held
-heldIn image s = record { whole = isImage image; station = cond (isImage image) (stationIn image) unsoundStation; store = s }
+heldIn image s = record { whole = isImage image; station = cond (isImage image) (listed (stationIn image)) unsoundStation; store = s }
 
 -- a request comes to what a sheet's line does: its call's effect, or 19 where it asks for none
 unfoldable pub requestEffect : List ℕ → Held → Effect
@@ -112,9 +112,13 @@ unfoldable pub answersTo : List (List ℕ) → Held → List ℕ
 answersTo [] h = []
 answersTo (q ∷ qs) h = answerBytes (requestEffect q h .answer) ++ answersTo qs (afterRequest q h)
 
+-- the image of a station, whose write sets are numbers in it
+unfoldable pub imageOf : Station → List ℕ
+imageOf st = stationBytes (numbered st)
+
 -- afterwards: an image that is no station's stays as it was until a scan
 unfoldable pub imageAfter : List ℕ → Held → List ℕ
-imageAfter image h = cond (h .whole) (stationBytes (h .station)) image
+imageAfter image h = cond (h .whole) (imageOf (h .station)) image
 
 -- ── bytes handed over ──
 unfoldable pub requestsIn : List ℕ → List (List ℕ)

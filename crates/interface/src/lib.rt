@@ -28,13 +28,14 @@ ghost use Rattle.model.specs.Calls.{Sweep};
 ghost use Rattle.sheet.specs.Lines.{ifUnused};
 ghost use lib.ListN.{length};
 ghost use Rattle.model.specs.Stations.{emptyStation};
+ghost use Rattle.model.specs.Listed.{listed};
 ghost use Rattle.model.specs.Sound.{sound};
 ghost use Rattle.model.specs.Scan.{scan};
 ghost use Rattle.sheet.specs.Commands.{commandOf};
 ghost use Rattle.sheet.specs.Parts.{verbOf};
 ghost use Rattle.image.specs.Layout.{imageSize};
-ghost use Rattle.image.specs.Images.{stationBytes, stationIn, isImage};
-ghost use Rattle.interface.specs.Exchange.{requestSize, answerSize, verbNumbered, requestCall, kindOf, answerBytes, unsoundStation, heldIn, requestEffect, afterRequest, afterRequests, answersTo, imageAfter, requestsIn, afterRun, answersIn, fits, fitsOne};
+ghost use Rattle.image.specs.Images.{stationIn, isImage};
+ghost use Rattle.interface.specs.Exchange.{requestSize, answerSize, verbNumbered, requestCall, kindOf, answerBytes, unsoundStation, heldIn, requestEffect, afterRequest, afterRequests, answersTo, imageOf, imageAfter, requestsIn, afterRun, answersIn, fits, fitsOne};
 ghost use Rattle.interface.specs.Parts.{heldOf};
 
 // The bytes of a request and of an answer.
@@ -142,7 +143,7 @@ pub fn write_answer(out: &mut [u8], answer: Answer)
 // A scan answered: the station is sound, and the image is to be its own.
 fn run_scan(store: &[u8], out: &mut [u8]) -> Current
     requires { ⌜ length (now out) ≡ answerSize ⌝ }
-    ensures { λ r. ⌜ (r .whole ≡ true) × (r .tested ≡ true) × (r .station ≡ scan (now (store .entry)) .station) × (now (out .exit) ≡ answerBytes (scan (now (store .entry)) .answer)) ⌝ }
+    ensures { λ r. ⌜ (r .whole ≡ true) × (r .tested ≡ true) × (listed (r .station) ≡ scan (now (store .entry)) .station) × (now (out .exit) ≡ answerBytes (scan (now (store .entry)) .answer)) ⌝ }
 {
     let scanned = scan(store);
     let said = scanned.answer;
@@ -163,8 +164,8 @@ fn run_sweep(
     limit: u64,
     out: &mut [u8],
 ) -> Station
-    requires { ⌜ (tested ≡ sound station) × (length (now out) ≡ answerSize) ⌝ }
-    ensures { λ r. ⌜ (r ≡ sweep station (now (store .entry)) limit .station) × (now (store .exit) ≡ stored (sweep station (now (store .entry)) limit .stores) (now (store .entry))) × (now (out .exit) ≡ answerBytes (sweep station (now (store .entry)) limit .answer)) ⌝ }
+    requires { ⌜ (tested ≡ sound (listed station)) × (length (now out) ≡ answerSize) ⌝ }
+    ensures { λ r. ⌜ (listed r ≡ sweep (listed station) (now (store .entry)) limit .station) × (now (store .exit) ≡ stored (sweep (listed station) (now (store .entry)) limit .stores) (now (store .entry))) × (now (out .exit) ≡ answerBytes (sweep (listed station) (now (store .entry)) limit .answer)) ⌝ }
 {
     let swept = sweep(station, tested, store, limit);
     let said = swept.answer;
@@ -176,7 +177,7 @@ fn run_sweep(
 // Requests one after the other. The station is changed in place. Its soundness was tested once: no call but a scan alters what the test says.
 fn run_requests(first: Current, store: &mut [u8], requests: &[u8], answers: &mut [u8]) -> Current
     requires { ⌜ (length (now requests) % requestSize ≡ 0) × (length (now answers) ≡ answerSize * (length (now requests) / requestSize)) ⌝ }
-    requires { ⌜ first .tested ≡ sound (first .station) ⌝ }
+    requires { ⌜ first .tested ≡ sound (listed (first .station)) ⌝ }
     ensures { λ r. ⌜ (heldOf r (now (store .exit)) ≡ afterRequests (requestsIn (now (requests .entry))) (heldOf first (now (store .entry)))) × (now (answers .exit) ≡ answersTo (requestsIn (now (requests .entry))) (heldOf first (now (store .entry)))) ⌝ }
 {
     let count = requests.len() / REQUEST;
@@ -220,20 +221,20 @@ fn run_requests(first: Current, store: &mut [u8], requests: &[u8], answers: &mut
     }
 }
 
-// A station that is not sound: an entry with a count and no id.
+// A station that is not sound: an entry with a key and no id.
 fn unsound_station() -> Station
-    ensures { λ r. ⌜ r ≡ unsoundStation ⌝ }
+    ensures { λ r. ⌜ listed r ≡ unsoundStation ⌝ }
 {
     let mut station = Station::empty();
     let mut entry = station.entries[0];
-    entry.count = 1;
+    entry.keys = 1;
     station.entries[0] = entry;
     station
 }
 
 // What is held at first: the image's station, or where it has none one that every call but a scan refuses.
 fn current_in(image: &[u8]) -> Current
-    ensures { λ r. ⌜ (r .whole ≡ isImage (now (image .entry))) × (r .station ≡ cond (isImage (now (image .entry))) (stationIn (now (image .entry))) unsoundStation) × (r .tested ≡ sound (r .station)) ⌝ }
+    ensures { λ r. ⌜ (r .whole ≡ isImage (now (image .entry))) × (listed (r .station) ≡ cond (isImage (now (image .entry))) (listed (stationIn (now (image .entry)))) unsoundStation) × (r .tested ≡ sound (listed (r .station))) ⌝ }
 {
     let read = read_image(image);
     let whole = read.whole;
@@ -257,8 +258,8 @@ fn current_in(image: &[u8]) -> Current
 // The image afterwards: the station's own, or as it was.
 fn keep(image: &mut [u8], last: Current)
     requires { ⌜ length (now image) ≡ imageSize ⌝ }
-    ensures { λ _. ⌜ now (image .exit) ≡ cond (last .whole) (stationBytes (last .station)) (now (image .entry)) ⌝ }
-    ensures { λ _. ⌜ (last .whole ≡ true → (isImage (now (image .exit)) ≡ true) × (stationIn (now (image .exit)) ≡ last .station)) ⌝ }
+    ensures { λ _. ⌜ now (image .exit) ≡ cond (last .whole) (imageOf (listed (last .station))) (now (image .entry)) ⌝ }
+    ensures { λ _. ⌜ (last .whole ≡ true → (isImage (now (image .exit)) ≡ true) × (listed (stationIn (now (image .exit))) ≡ listed (last .station))) ⌝ }
 {
     if !last.whole {
         return;
@@ -311,7 +312,7 @@ pub extern "C" fn gorehimu_run(
 #[no_mangle]
 pub extern "C" fn gorehimu_empty(image: &mut [u8]) -> u32
     ensures { λ r. ⌜ r ≡ cond (eqb (length (now (image .entry))) imageSize) 0 1 ⌝ }
-    ensures { λ _. ⌜ now (image .exit) ≡ cond (eqb (length (now (image .entry))) imageSize) (stationBytes emptyStation) (now (image .entry)) ⌝ }
+    ensures { λ _. ⌜ now (image .exit) ≡ cond (eqb (length (now (image .entry))) imageSize) (imageOf emptyStation) (now (image .entry)) ⌝ }
 {
     if image.len() != IMAGE {
         return 1;
@@ -359,7 +360,7 @@ pub extern "C" fn gorehimu_call(
 #[no_mangle]
 pub extern "C" fn gorehimu_recover(image: &mut [u8], store: &[u8], answer: &mut [u8]) -> u32
     ensures { λ r. ⌜ r ≡ cond (fitsOne (length (now (image .entry))) requestSize (length (now (answer .entry)))) 0 1 ⌝ }
-    ensures { λ _. ⌜ now (image .exit) ≡ cond (fitsOne (length (now (image .entry))) requestSize (length (now (answer .entry)))) (stationBytes (scan (now (store .entry)) .station)) (now (image .entry)) ⌝ }
+    ensures { λ _. ⌜ now (image .exit) ≡ cond (fitsOne (length (now (image .entry))) requestSize (length (now (answer .entry)))) (imageOf (scan (now (store .entry)) .station)) (now (image .entry)) ⌝ }
     ensures { λ _. ⌜ now (answer .exit) ≡ cond (fitsOne (length (now (image .entry))) requestSize (length (now (answer .entry)))) (answerBytes (scan (now (store .entry)) .answer)) (now (answer .entry)) ⌝ }
 {
     if !one_fits(image.len(), REQUEST, answer.len()) {

@@ -6,8 +6,7 @@ use mathlib.Core.List.{List, [], _∷_, map}
 use mathlib.Core.Option.{Option·elim}
 use lib.ListN.{replicate, set}
 use Rattle.model.specs.declared.Id.{Id}
-use Rattle.model.specs.declared.Entry.{Entry}
-use Rattle.model.specs.declared.Station.{Station}
+use Rattle.model.specs.Types.{Entry, Station}
 use Rattle.model.specs.declared.Phase.the-variants.{Open}
 use Rattle.model.specs.declared.Answer.{Answer}
 use Rattle.model.specs.declared.Answer.the-variants as A
@@ -16,7 +15,7 @@ use Rattle.model.specs.Limits.{slots, slotSize, storeSize}
 use Rattle.model.specs.Ids.{older, sameId}
 use Rattle.model.specs.Bytes.{bytes, number, idIn, headBytes}
 use Rattle.model.specs.Lives.{blank, writesOf, readsOf, slotMark, withReads}
-use Rattle.model.specs.Entries.{noEntry, keysOf, wrote, wroteAs, markIn, entryIn, commitRecord, entryRules, carriesEntry, isNoEntry}
+use Rattle.model.specs.Entries.{carriesKeys, noEntry, keysOf, wrote, wroteAs, markIn, entryIn, commitRecord, entryRules, carriesEntry, isNoEntry}
 use Rattle.model.specs.Stations.{idleStation, liveAt, entryAt, setLive, setEntry, liveTxns, heldTxns, holds, closingSlots}
 use Rattle.model.specs.Records.{zeroRecord, recordAt, withRecord}
 use Rattle.model.specs.Sound.{isNoWrite, isNoRead, isNoLive, zeroPastCounts, setsRight, names, inUse, placeRight, entryRight, sound}
@@ -36,7 +35,7 @@ K = 11
 
 -- an entry of K alone
 abbrev keyed : ℕ → ℕ → Entry
-keyed c t = record { id = id c t; count = 1; keys = K ∷ replicate 7 0 }
+keyed c t = record { id = id c t; keys = K ∷ [] }
 
 -- these entries in slots 0, 1, .., and their commit records
 pub held : List Entry → Station
@@ -107,5 +106,5 @@ rows =
 
 -- The claim: every line of every row is answered as it says, and leaves those slots held.
 pub sweeps-hold : map (λ (r : Row). ran (map (λ (l : Call × (Answer × List Bool)). l .0) (r .lines)) (r .station) (r .store)) rows ≡ map (λ (r : Row). map (λ (l : Call × (Answer × List Bool)). l .1) (r .lines)) rows
-unfolding held storing records damaged readBy9 ran four mixed rows _and_ _or_ all any first filter padded from member ascending distinct same older sameId writesOf readsOf keysOf wrote wroteAs liveAt entryAt setLive setEntry liveTxns heldTxns holds slotMark closingSlots bytes number idIn markIn entryIn headBytes commitRecord zeroRecord entryRules carriesEntry recordAt withRecord isNoWrite isNoRead isNoEntry isNoLive zeroPastCounts setsRight names inUse placeRight entryRight sound withReads Option·elim keepFirst foremost newer oldest newerOn superseded isReadBy isRead stored says saysStoring refusals wrongLength unsound collect mayCollect oldestToCollect refusedWith collections stationAfter recordsOf sweep does
+unfolding held storing records damaged readBy9 ran four mixed rows _and_ _or_ all any first filter padded from member ascending distinct same older sameId writesOf readsOf wrote wroteAs liveAt entryAt setLive setEntry liveTxns heldTxns holds slotMark closingSlots bytes number idIn markIn entryIn headBytes commitRecord zeroRecord entryRules carriesKeys carriesEntry recordAt withRecord isNoWrite isNoRead isNoEntry isNoLive zeroPastCounts setsRight names inUse placeRight entryRight sound withReads Option·elim keepFirst foremost newer oldest newerOn superseded isReadBy isRead stored says saysStoring refusals wrongLength unsound collect mayCollect oldestToCollect refusedWith collections stationAfter recordsOf sweep does
 sweeps-hold = refl

@@ -9,8 +9,7 @@ use lib.ListN.{length, replicate}
 use Rattle.model.specs.declared.Id.{Id}
 use Rattle.model.specs.declared.Write.{Write}
 use Rattle.model.specs.declared.Read.{Read}
-use Rattle.model.specs.declared.Entry.{Entry}
-use Rattle.model.specs.declared.Station.{Station}
+use Rattle.model.specs.Types.{Entry, Station}
 use Rattle.model.specs.declared.Phase.the-variants.{Open, Closing}
 use Rattle.model.specs.declared.Answer.{Answer}
 use Rattle.model.specs.declared.Answer.the-variants as A
@@ -19,7 +18,7 @@ use Rattle.model.specs.Limits.{slots, storeSize, lastClock}
 use Rattle.model.specs.Ids.{older, sameId, newerOf, greatest}
 use Rattle.model.specs.Bytes.{bytes, number, idIn, headBytes}
 use Rattle.model.specs.Lives.{blank, writesOf, readsOf, hasWritten, hasRead, valueUnder, isClosing, closingSlot, closingClock, recordsStored, slotMark, withWrites, withReads, withPhase}
-use Rattle.model.specs.Entries.{noEntry, keysOf, wrote, wroteAs, markIn, entryIn, commitRecord, entryRules, commitRules, carriesEntry, recordOf, isNoEntry, entryFor}
+use Rattle.model.specs.Entries.{carriesKeys, noEntry, keysOf, wrote, wroteAs, markIn, entryIn, commitRecord, entryRules, commitRules, carriesEntry, recordOf, isNoEntry, entryFor}
 use Rattle.model.specs.Stations.{idleStation, emptyStation, liveAt, entryAt, setLive, setEntry, liveTxns, heldTxns, isLive, isHeld, placeOf, slotOf, holds, closingSlots, isFree}
 use Rattle.model.specs.Records.{valueIn, versionRecord, zeroRecord, carriesVersion, recordAt, withRecord}
 use Rattle.model.specs.Slots.{versionsCarry, judged, seen}
@@ -92,7 +91,7 @@ fresh ls = record { held = []; lines = ls }
 
 -- an entry of K alone
 abbrev keyed : Id → Entry
-keyed i = record { id = i; count = 1; keys = K ∷ replicate 7 0 }
+keyed i = record { id = i; keys = K ∷ [] }
 
 pub storing : List (ℕ × Id × ℕ) → List ℕ
 storing [] = replicate storeSize 0
@@ -175,7 +174,7 @@ noClockLeft =
 
 -- computed by the definitions
 pub given : Case → List Answer
-unfolding storing _and_ _or_ all any first filter count insert padded from member ascending distinct same anyBelow greatestBelow older sameId newerOf greatest emptyStation writesOf readsOf keysOf wrote wroteAs hasWritten hasRead valueUnder isClosing closingSlot closingClock recordsStored liveAt entryAt setLive setEntry liveTxns heldTxns isLive isHeld placeOf slotOf holds slotMark closingSlots isFree bytes number idIn markIn entryIn valueIn headBytes commitRecord versionRecord zeroRecord entryRules commitRules carriesEntry carriesVersion recordAt withRecord recordOf versionsCarry judged seen isNoWrite isNoRead isNoEntry isNoLive zeroPastCounts setsRight names inUse closingRight placeRight entryRight sound lowerBound conflictsWith least lowestConflict conflicts Option·elim passes keepFirst foremost newest newestWriter keyInTheWay chosen choose newerOn superseded isReadBy isRead stored says saysStoring refusals wrongLength unsound opened start withWrites withWrite put choiceOf withReads withRead versionAt noRoom notCarried answered get withPhase highestFree maximum clocks clockAbove commit entryFor oneMore stepped step abort collect slotsSeen entrySeen isCommitted breaks lowestBroken scanned scan does answers
+unfolding storing _and_ _or_ all any first filter count insert padded from member ascending distinct same anyBelow greatestBelow older sameId newerOf greatest emptyStation writesOf readsOf wrote wroteAs hasWritten hasRead valueUnder isClosing closingSlot closingClock recordsStored liveAt entryAt setLive setEntry liveTxns heldTxns isLive isHeld placeOf slotOf holds slotMark closingSlots isFree bytes number idIn markIn entryIn valueIn headBytes commitRecord versionRecord zeroRecord entryRules carriesKeys commitRules carriesEntry carriesVersion recordAt withRecord recordOf versionsCarry judged seen isNoWrite isNoRead isNoEntry isNoLive zeroPastCounts setsRight names inUse closingRight placeRight entryRight sound lowerBound conflictsWith least lowestConflict conflicts Option·elim passes keepFirst foremost newest newestWriter keyInTheWay chosen choose newerOn superseded isReadBy isRead stored says saysStoring refusals wrongLength unsound opened start withWrites withWrite put choiceOf withReads withRead versionAt noRoom notCarried answered get withPhase highestFree maximum clocks clockAbove commit entryFor oneMore stepped step abort collect slotsSeen entrySeen isCommitted breaks lowestBroken scanned scan does answers
 given x = answers (map (λ (l : Line). l .0) (x .lines)) emptyStation (storing (x .held))
 
 pub expected : Case → List Answer
@@ -210,12 +209,12 @@ answered-at st = commit st 900 5 .answer ∷ commit st 901 5 .answer ∷ commit 
 pub thirteen-first : answered-at (crowded 63 lastClock) ∷ answered-at (crowded 63 70) ∷ answered-at (crowded 62 lastClock) ∷ answered-at (crowded 62 62) ∷ []
     ≡ (A.Refused 13 0 ∷ A.Empty ∷ A.Done (id lastClock 800) ∷ []) ∷ (A.Refused 13 0 ∷ A.Empty ∷ A.Done (id 70 800) ∷ [])
     ∷ (A.Refused 21 0 ∷ A.Empty ∷ A.Done (id lastClock 800) ∷ []) ∷ (A.Closing 63 ∷ A.Empty ∷ A.Done (id 62 800) ∷ []) ∷ []
-unfolding crowded answered-at _and_ _or_ all any first from padded member ascending distinct same anyBelow greatestBelow sameId maximum clocks clockAbove writesOf readsOf keysOf isClosing closingSlot closingClock recordsStored liveAt entryAt setLive liveTxns heldTxns isLive isHeld placeOf slotOf holds slotMark closingSlots isFree entryRules isNoWrite isNoRead isNoEntry isNoLive zeroPastCounts setsRight names inUse closingRight placeRight entryRight sound says refusals unsound withWrites withPhase highestFree commit
+unfolding crowded answered-at _and_ _or_ all any first from padded member ascending distinct same anyBelow greatestBelow sameId maximum clocks clockAbove writesOf readsOf isClosing closingSlot closingClock recordsStored liveAt entryAt setLive liveTxns heldTxns isLive isHeld placeOf slotOf holds slotMark closingSlots isFree entryRules isNoWrite isNoRead isNoEntry isNoLive zeroPastCounts setsRight names inUse closingRight placeRight entryRight sound says refusals unsound withWrites withPhase highestFree commit
 thirteen-first = refl
 
 -- ── Algorithm 1 alone, on entries and reads as no history makes them ──
 abbrev wroteAt : ℕ → List ℕ → Entry
-wroteAt c ks = record { id = id c c; count = length ks; keys = ks }
+wroteAt c ks = record { id = id c c; keys = ks }
 
 abbrev readAt : ℕ → ℕ → Read
 readAt k c = record { key = k; id = id c c }
@@ -235,5 +234,5 @@ choices =
     ∷ []
 
 pub choices-hold : map (λ (x : List Entry × List Read × ℕ × Choice). choose (x .0) (x .1) (x .2)) choices ≡ map (λ (x : List Entry × List Read × ℕ × Choice). x .3) choices
-unfolding choices choose chosen newest foremost keepFirst newestWriter keyInTheWay passes conflicts lowestConflict least Option·elim conflictsWith lowerBound greatest newerOf wroteAs wrote keysOf member any filter sameId older _and_ _or_
+unfolding choices choose chosen newest foremost keepFirst newestWriter keyInTheWay passes conflicts lowestConflict least Option·elim conflictsWith lowerBound greatest newerOf wroteAs wrote member any filter sameId older _and_ _or_
 choices-hold = refl

@@ -10,11 +10,11 @@ use native.Mathlib.Decide.{decLt}
 use native.Mathlib.Nat.{lt-irrefl}
 use native.Mathlib.Omega.{arith}
 use borrow.Author.Tests.{eqb-false, eq-eqb, ne-eqb}
-use Rattle.model.specs.declared.Station.{Station}
+use Rattle.model.specs.Types.{Station}
 use Rattle.model.specs.Lists.{first, member, maximum}
 use Rattle.model.specs.Limits.{numberRange, lastClock}
 use Rattle.model.specs.Lives.{closingClock, liveBeyond}
-use Rattle.model.specs.Entries.{entryBeyond}
+use Rattle.model.specs.Entries.{noEntry}
 use Rattle.model.specs.Stations.{liveAt, entryAt}
 use Rattle.model.specs.Clocks.{entryClock, liveClock, clocks, clockAbove}
 use Rattle.model.proofs.ListLaws.{getD-mem, mem-getD, any-none, member-finds, map-mem, mem-map}
@@ -78,7 +78,7 @@ module _ (c : ℕ) (taken : List ℕ) where
 module _ (st : Station) where
   pub entry-clock : (d : ℕ) → d < length (st .entries) → List·Memᴰ (entryAt st d .id .clock) (clocks st)
   unfolding clocks entryAt
-  entry-clock d o = Memᴰ·append-left {s = map entryClock (st .entries)} (map liveClock (st .live)) (map-mem entryClock (st .entries) _ (getD-mem (st .entries) d entryBeyond o))
+  entry-clock d o = Memᴰ·append-left {s = map entryClock (st .entries)} (map liveClock (st .live)) (map-mem entryClock (st .entries) _ (getD-mem (st .entries) d noEntry o))
 
   pub live-clock : (i : ℕ) → i < length (st .live) → List·Memᴰ (closingClock (liveAt st i .phase)) (clocks st)
   unfolding clocks liveAt
@@ -89,7 +89,7 @@ module _ (st : Station) where
       → (n : ℕ) → List·Memᴰ n (clocks st) → P n
   unfolding clocks entryAt liveAt
   clock-by P f g n m = ⊎-elim
-      (λ x. let y = mem-map entryClock (st .entries) n x in let r = mem-getD (st .entries) (y .0) entryBeyond (y .1) in subst P (ap entryClock (r .2) ∙ y .2) (f (r .0) (r .1)))
+      (λ x. let y = mem-map entryClock (st .entries) n x in let r = mem-getD (st .entries) (y .0) noEntry (y .1) in subst P (ap entryClock (r .2) ∙ y .2) (f (r .0) (r .1)))
       (λ x. let y = mem-map liveClock (st .live) n x in let r = mem-getD (st .live) (y .0) liveBeyond (y .1) in subst P (ap liveClock (r .2) ∙ y .2) (g (r .0) (r .1)))
       (List·Memᴰ·append-cases (map entryClock (st .entries)) m)
 

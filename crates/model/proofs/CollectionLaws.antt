@@ -8,8 +8,7 @@ use mathlib.Core.Option.{Option, some, none, Option·elim}
 use lib.ListN.{length, getD}
 use native.Mathlib.Decide.{ℕ-discrete}
 use borrow.Author.Tests.{not-false, eq-eqb, ne-eqb, leb-false}
-use Rattle.model.specs.declared.Entry.{Entry}
-use Rattle.model.specs.declared.Station.{Station}
+use Rattle.model.specs.Types.{Entry, Station}
 use Rattle.model.specs.declared.Answer.the-variants as A
 use Rattle.model.specs.Lists.{_and_, all}
 use Rattle.model.specs.Limits.{slots, storeSize}

@@ -9,7 +9,7 @@ use mathlib.Core.Option.{Option, some, none, Option·elim}
 use lib.ListN.{getD}
 use native.Mathlib.Omega.{arith}
 use Rattle.model.specs.declared.Read.{Read}
-use Rattle.model.specs.declared.Entry.{Entry}
+use Rattle.model.specs.Types.{Entry}
 use Rattle.model.specs.Lists.{any, filter}
 use Rattle.model.specs.Lives.{noRead, readKey}
 use Rattle.model.specs.Reading.{conflictsWith, lowestConflict, conflicts}

@@ -5,7 +5,7 @@ use mathlib.Core.Bool.{true, false, not, true≢false}
 use mathlib.Core.List.{List, []}
 use mathlib.Core.Option.{Option, some, none, Option·elim}
 use lib.ListN.{length, getD}
-use Rattle.model.specs.declared.Entry.{Entry}
+use Rattle.model.specs.Types.{Entry}
 use Rattle.model.specs.Lists.{_and_, filter, least}
 use Rattle.model.specs.Ids.{older, greatest}
 use Rattle.model.specs.Entries.{noEntry, wrote}

@@ -3,6 +3,8 @@ pub mod ListLaws
 pub mod RestLaws
 pub mod DistinctLaws
 pub mod InsertLaws
+pub mod KeySetLaws
+pub mod ListedLaws
 pub mod IdLaws
 pub mod RefusalLaws
 pub mod StoreLaws

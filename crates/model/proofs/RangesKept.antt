@@ -1,4 +1,4 @@
--- A station within its types stays so under every call, and a store of bytes stays one of bytes.
+-- A station within its types stays so under every call, and a store of bytes stays one of bytes (specs/Ranges).
 use Prim.Native.Nat.{ℕ, zero, suc, _+_, _*_, _/_, _^_, _<_, _≤_}
 use mathlib.Core.Path.{_≡_, refl, sym, _∙_}
 use mathlib.Core.Logic.{_⊎_, inl, inr}
@@ -12,17 +12,16 @@ use native.Mathlib.Omega.{arith}
 use borrow.Author.Tests.{ltb-true, leb-false, eqb-true, eqb-false, not-false, le-leb}
 use Rattle.model.specs.declared.Id.{Id}
 use Rattle.model.specs.declared.Live.{Live}
-use Rattle.model.specs.declared.Entry.{Entry}
-use Rattle.model.specs.declared.Station.{Station}
+use Rattle.model.specs.Types.{Entry, Station}
 use Rattle.model.specs.declared.Phase.{Phase}
 use Rattle.model.specs.declared.Phase.the-variants.{Unused, Open, Closing}
 use Rattle.model.specs.declared.Answer.{Answer}
-use Rattle.model.specs.Lists.{_and_, member, anyBelow}
+use Rattle.model.specs.Lists.{_and_, member, ascending, padded, anyBelow}
 use Rattle.model.specs.Limits.{keys, livePlaces, slots, writeLimit, readLimit, recordSize, storeSize, txnRange, numberRange, lastClock, byteRange}
 use Rattle.model.specs.Ids.{noId}
 use Rattle.model.specs.Bytes.{bytes, number, headBytes, idIn}
-use Rattle.model.specs.Lives.{noWrite, noRead, blank, noLive, writesOf, readsOf, writeKey, readKey, hasWritten, hasRead, closingSlot, closingClock, recordsStored, withWrites, withReads, withPhase}
-use Rattle.model.specs.Entries.{noEntry, wroteAs, entryIn, entryFor, committedMark, commitRecord}
+use Rattle.model.specs.Lives.{noWrite, noRead, blank, noLive, writesOf, readsOf, writeKey, readKey, hasWritten, hasRead, closingSlot, closingClock, recordsStored, withWrites, withReads, withPhase, writeCount}
+use Rattle.model.specs.Entries.{keysOf, noEntry, wroteAs, entryIn, entryFor, entryRules, committedMark, commitRecord, commitRules}
 use Rattle.model.specs.Stations.{idleStation, emptyStation, liveAt, entryAt, setLive, setEntry, isLive, isHeld, placeOf, isFree}
 use Rattle.model.specs.Records.{versionRecord, zeroRecord, recordPlace, recordAt, withRecord}
 use Rattle.model.specs.Slots.{judged, seen}
@@ -37,18 +36,19 @@ use Rattle.model.specs.Step.{oneMore, stepped, step}
 use Rattle.model.specs.Abort.{abort}
 use Rattle.model.specs.Collect.{collect}
 use Rattle.model.specs.Scan.{slotsSeen, entrySeen, lowestBroken, scanned, scan}
-use Rattle.model.specs.Ranges.{Every, IsByte, IdFits, WriteFits, ReadFits, PhaseFits, LiveFits, EntryFits, StationFits}
+use Rattle.model.specs.Ranges.{Every, IsByte, IdFits, WriteFits, ReadFits, PhaseFits, LiveFits, ListFits, ListsFit}
 use Rattle.model.specs.Sweep.{collections, stationAfter, recordsOf, sweep}
 use Rattle.model.specs.Calls.{Call, Start, Put, Get, Commit, Step, Abort, Collect, Scan, Sweep, does, txnOf, numberOf, IsTyped}
-use Rattle.model.proofs.Tests.{and-first, and-second, not-of-false}
+use Rattle.model.proofs.Tests.{and-left, and-right, and-first, and-second, not-of-false}
 use Rattle.model.proofs.ListLaws.{greatest-below, every-at, every-everywhere, every-set, every-take, every-drop, every-append, every-replicate, every-from, every-map}
-use Rattle.model.proofs.InsertLaws.{every-insert, padded-length, every-padded}
+use Rattle.model.proofs.InsertLaws.{ascending-head, ascending-tail, every-insert, padded-length, every-padded}
+use Rattle.model.proofs.RecordLaws.{rules-entry}
 use Rattle.model.proofs.RefusalLaws.{guard, unguarded, cond-rule}
 use Rattle.model.proofs.ScanLaws.{entries-length}
 use Rattle.model.proofs.StationLaws.{place-hit}
 use Rattle.model.proofs.ClockLaws.{clock-below, clock-by}
 use Rattle.model.proofs.GetLaws.{version-entry, version-wrote}
-use Rattle.model.proofs.SoundLaws.{Used, write-limit, read-limit, used-withWrite, used-withRead}
+use Rattle.model.proofs.SoundLaws.{Used, writes-length, writes-ascending, write-limit, read-limit, used-withWrite, used-withRead}
 use Rattle.model.proofs.SoundFacts.{live-facts}
 use Rattle.model.proofs.CollectionLaws.{Ends, Goes, ends-or-goes, ends, nextStation, nextStore, goes}
 
@@ -82,8 +82,8 @@ noWrite-fits = record { key8 = lit< tt; value64 = lit< tt }
 noRead-fits : ReadFits noRead
 noRead-fits = record { key8 = lit< tt; id = noId-fits }
 
-noEntry-fits : EntryFits noEntry
-noEntry-fits = record { id = noId-fits; count8 = lit< tt; key-places = refl; keys = bytes-zeros writeLimit }
+noEntry-fits : ListFits noEntry
+noEntry-fits = record { id = noId-fits; ascends = unfold ascending in refl }
 
 blank-fits : (t : ℕ) (p : Phase) → t < txnRange → PhaseFits p → LiveFits (blank t p)
 blank-fits t p o f = record {
@@ -105,22 +105,22 @@ opened-fits : (t : ℕ) → t < txnRange → LiveFits (opened t)
 unfolding opened closingSlot closingClock recordsStored
 opened-fits t o = blank-fits t Open o (record { slot8 = lit< tt; clock64 = lit< tt; stored8 = lit< tt })
 
-idle-fits : (es : List Entry) → length es ≡ slots → Every EntryFits es → StationFits (idleStation es)
+idle-fits : (es : List Entry) → length es ≡ slots → Every ListFits es → ListsFit (idleStation es)
 idle-fits es l f = record { live-places = refl; live = every-replicate LiveFits livePlaces noLive noLive-fits; entry-places = l; entries = f }
 
-pub fits-empty : StationFits emptyStation
+pub fits-empty : ListsFit emptyStation
 unfolding emptyStation
-fits-empty = idle-fits (replicate slots noEntry) refl (every-replicate EntryFits slots noEntry noEntry-fits)
+fits-empty = idle-fits (replicate slots noEntry) refl (every-replicate ListFits slots noEntry noEntry-fits)
 
 -- ── a station's places and slots ──
-module _ (st : Station) (f : StationFits st) where
-  setLive-fits : (i : ℕ) (l : Live) → LiveFits l → StationFits (setLive st i l)
+module _ (st : Station) (f : ListsFit st) where
+  setLive-fits : (i : ℕ) (l : Live) → LiveFits l → ListsFit (setLive st i l)
   unfolding setLive
   setLive-fits i l g = record { live-places = length-set (st .live) i l ∙ f .live-places; live = every-set LiveFits (st .live) (f .live) i l g; entry-places = f .entry-places; entries = f .entries }
 
-  setEntry-fits : (d : ℕ) (e : Entry) → EntryFits e → StationFits (setEntry st d e)
+  setEntry-fits : (d : ℕ) (e : Entry) → ListFits e → ListsFit (setEntry st d e)
   unfolding setEntry
-  setEntry-fits d e g = record { live-places = f .live-places; live = f .live; entry-places = length-set (st .entries) d e ∙ f .entry-places; entries = every-set EntryFits (st .entries) (f .entries) d e g }
+  setEntry-fits d e g = record { live-places = f .live-places; live = f .live; entry-places = length-set (st .entries) d e ∙ f .entry-places; entries = every-set ListFits (st .entries) (f .entries) d e g }
 
 -- ── a live transaction changed ──
 module _ (l : Live) (f : LiveFits l) where
@@ -161,14 +161,9 @@ module _ (l : Live) (f : LiveFits l) where
   withPhase-fits p g = record { txn32 = f .txn32; phase = g; writes8 = f .writes8; write-places = f .write-places; writes = f .writes; reads8 = f .reads8; read-places = f .read-places; reads = f .reads }
 
   -- its entry
-  entryFor-fits : EntryFits (entryFor l)
+  entryFor-fits : (es : List Entry) → Used es l → ListFits (entryFor l)
   unfolding entryFor
-  entryFor-fits = record {
-    id = record { clock64 = f .phase .clock64; txn32 = f .txn32 };
-    count8 = f .writes8;
-    key-places = length-map (l .writes) writeKey ∙ f .write-places;
-    keys = every-map IsByte writeKey WriteFits (λ w g. g .key8) (l .writes) (f .writes);
-  }
+  entryFor-fits es u = record { id = record { clock64 = f .phase .clock64; txn32 = f .txn32 }; ascends = writes-ascending l (u .sets) }
 
 closing-fits : (d c : ℕ) → d < slots → c < numberRange → PhaseFits (Closing d c 0)
 unfolding closingSlot closingClock recordsStored
@@ -189,46 +184,41 @@ version-bytes : (k : ℕ) (i : Id) (v : ℕ) → IsByte k → Every IsByte (vers
 unfolding versionRecord
 version-bytes k i v h = every-append IsByte (headBytes k 0 i) (bytes 8 v) (head-bytes k 0 i h (lit< tt)) (bytes-are 8 v)
 
-commit-bytes : (e : Entry) → EntryFits e → Every IsByte (commitRecord e)
+keys-bytes : (lo : ℕ) (ks : List ℕ) → ascending lo keys ks ≡ true → Every IsByte ks
+keys-bytes lo [] h = tt
+keys-bytes lo (k ∷ ks) h = let o = ascending-head lo keys k ks h in (omega (arith, o .1), keys-bytes (suc k) ks (ascending-tail lo keys k ks h))
+
+commit-bytes : (e : Entry) → ListFits e → length (keysOf e) ≤ writeLimit → Every IsByte (commitRecord e)
 unfolding commitRecord
-commit-bytes e f = every-append IsByte (headBytes committedMark (e .count) (e .id)) (e .keys) (head-bytes committedMark (e .count) (e .id) (lit< tt) (f .count8)) (f .keys)
+commit-bytes e f o =
+    every-append IsByte (headBytes committedMark (length (keysOf e)) (e .id)) (padded 0 writeLimit (keysOf e)) (head-bytes committedMark (length (keysOf e)) (e .id) (lit< tt) (omega arith))
+    (every-padded IsByte 0 writeLimit (keysOf e) (keys-bytes 0 (keysOf e) (f .ascends)) (lit< tt))
 
 -- the entry in a record's bytes
-entryIn-fits : (r : List ℕ) → length r ≡ recordSize → Every IsByte r → EntryFits (entryIn r)
+entryIn-fits : (r : List ℕ) → length r ≡ recordSize → Every IsByte r → commitRules r ≡ true → ListFits (entryIn r)
 unfolding entryIn idIn
-entryIn-fits r l h = record {
-  id = record { clock64 = part 8 8 (omega arith); txn32 = part 4 4 (omega arith) };
-  count8 = every-everywhere IsByte r h 0 (lit< tt) 1;
-  key-places = part-length 8 16 (omega arith);
-  keys = part-bytes 8 16;
-}
+entryIn-fits r l h k = record { id = record { clock64 = part 8 8 (omega arith); txn32 = part 4 4 (omega arith) }; ascends = unfold entryRules in and-right _ _ (rules-entry r k) }
   where
-    part-length : (n at : ℕ) → at + n ≤ recordSize → length (take n (drop at r)) ≡ n
-    part-length n at o = length-take-le n (drop at r) (omega (arith, length-drop at r))
-
-    part-bytes : (n at : ℕ) → Every IsByte (take n (drop at r))
-    part-bytes n at = every-take IsByte n (drop at r) (every-drop IsByte at r h)
-
     part : (n at : ℕ) → at + n ≤ recordSize → number (take n (drop at r)) < byteRange ^ n
-    part n at o = number-below n (take n (drop at r)) (part-length n at o) (part-bytes n at)
+    part n at o = number-below n (take n (drop at r)) (length-take-le n (drop at r) (omega (arith, length-drop at r))) (every-take IsByte n (drop at r) (every-drop IsByte at r h))
 
 -- ── what is read of a slot ──
-judged-fits : (a b : Bool) (e : Entry) → EntryFits e → EntryFits (entrySeen (judged a b e))
+judged-fits : (a b : Bool) (e : Entry) → (b ≡ true → ListFits e) → ListFits (entrySeen (judged a b e))
 unfolding judged entrySeen
 judged-fits true b e f = noEntry-fits
-judged-fits false true e f = f
+judged-fits false true e f = f refl
 judged-fits false false e f = noEntry-fits
 
-seen-fits : (s : List ℕ) (d : ℕ) → length s ≡ storeSize → Every IsByte s → d < slots → EntryFits (entrySeen (seen s d))
+seen-fits : (s : List ℕ) (d : ℕ) → length s ≡ storeSize → Every IsByte s → d < slots → ListFits (entrySeen (seen s d))
 unfolding seen recordAt
-seen-fits s d l h o = judged-fits _ _ _ (entryIn-fits (recordAt s d 0)
+seen-fits s d l h o = judged-fits _ _ _ (λ k. entryIn-fits (recordAt s d 0)
     (length-take-le recordSize (drop (recordPlace d 0) s) (omega (arith, length-drop (recordPlace d 0) s)))
-    (every-take IsByte recordSize (drop (recordPlace d 0) s) (every-drop IsByte (recordPlace d 0) s h)))
+    (every-take IsByte recordSize (drop (recordPlace d 0) s) (every-drop IsByte (recordPlace d 0) s h)) (and-left _ _ k))
 
-found-fits : (s : List ℕ) → length s ≡ storeSize → Every IsByte s → Every EntryFits (map entrySeen (slotsSeen s))
+found-fits : (s : List ℕ) → length s ≡ storeSize → Every IsByte s → Every ListFits (map entrySeen (slotsSeen s))
 unfolding slotsSeen
-found-fits s l h = every-map EntryFits entrySeen (λ x. EntryFits (entrySeen x)) (λ x f. f) (slotsSeen s)
-    (every-from (λ x. EntryFits (entrySeen x)) (seen s) slots 0 (λ d a b. seen-fits s d l h (omega arith)))
+found-fits s l h = every-map ListFits entrySeen (λ x. ListFits (entrySeen x)) (λ x f. f) (slotsSeen s)
+    (every-from (λ x. ListFits (entrySeen x)) (seen s) slots 0 (λ d a b. seen-fits s d l h (omega arith)))
 
 -- ── what is shown of each call ──
 abbrev ContentFits : RecordWrite → Type 0
@@ -236,14 +226,14 @@ ContentFits w = Every IsByte (w .content)
 
 -- the station handed back is within its types, and what is stored are bytes
 record EffectFits (e : Effect) : Type 0 where
-  pub handed : StationFits (e .station)
+  pub handed : ListsFit (e .station)
   pub writes : Every ContentFits (e .stores)
 
-says-fits : (a : Answer) (st : Station) → StationFits st → EffectFits (says a st)
+says-fits : (a : Answer) (st : Station) → ListsFit st → EffectFits (says a st)
 unfolding says
 says-fits a st f = record { handed = f; writes = tt }
 
-stores-fits : (a : Answer) (st : Station) (d n : ℕ) (r : List ℕ) → StationFits st → Every IsByte r → EffectFits (saysStoring a st d n r)
+stores-fits : (a : Answer) (st : Station) (d n : ℕ) (r : List ℕ) → ListsFit st → Every IsByte r → EffectFits (saysStoring a st d n r)
 unfolding saysStoring
 stores-fits a st d n r f h = record { handed = f; writes = (h, tt) }
 
@@ -261,22 +251,22 @@ unfolding highestFree
 free-low st h = greatest-below (isFree st) slots h .0
 
 -- a row of refusals hands back the station unaltered
-fits-row : (st : Station) → StationFits st → (n : ℕ) (b : Bool) (rs : List Row) (e : Effect) → (b ≡ false → EffectFits (refusals rs st e)) → EffectFits (refusals (n when b ∷ rs) st e)
+fits-row : (st : Station) → ListsFit st → (n : ℕ) (b : Bool) (rs : List Row) (e : Effect) → (b ≡ false → EffectFits (refusals rs st e)) → EffectFits (refusals (n when b ∷ rs) st e)
 fits-row st f n b rs e g = guard EffectFits n b rs st e (says-fits _ st f) g
 
 -- a collect, and a sweep's collects
-collect-fits : (st : Station) → StationFits st → (s : List ℕ) (d : ℕ) → EffectFits (collect st s d)
+collect-fits : (st : Station) → ListsFit st → (s : List ℕ) (d : ℕ) → EffectFits (collect st s d)
 unfolding collect zeroRecord
 collect-fits st f s d =
     fits-row st f 1 _ _ _ λ h1. fits-row st f 2 _ _ _ λ h2. fits-row st f 14 _ _ _ λ h14. fits-row st f 15 _ _ _ λ h15. fits-row st f 16 _ _ _ λ h16. fits-row st f 17 _ _ _ λ h17.
     unguarded EffectFits st _ (stores-fits _ _ _ _ _ (setEntry-fits st f d noEntry noEntry-fits) (bytes-zeros recordSize))
 
-collections-fit : (n : ℕ) (st : Station) (s : List ℕ) → StationFits st → (a : Answer) → EffectFits (saysStoringAll a (stationAfter (collections n st s) st) (recordsOf (collections n st s)))
+collections-fit : (n : ℕ) (st : Station) (s : List ℕ) → ListsFit st → (a : Answer) → EffectFits (saysStoringAll a (stationAfter (collections n st s) st) (recordsOf (collections n st s)))
 unfolding collections stationAfter recordsOf
 collections-fit zero st s f a = record { handed = f; writes = tt }
 collections-fit (suc n) st s f a = go (ends-or-goes st s) (λ st₁ s₁ f₁. collections-fit n st₁ s₁ f₁ a)
   where
-    go : Ends st s ⊎ Goes st s → ((st₁ : Station) (s₁ : List ℕ) → StationFits st₁ → EffectFits (saysStoringAll a (stationAfter (collections n st₁ s₁) st₁) (recordsOf (collections n st₁ s₁))))
+    go : Ends st s ⊎ Goes st s → ((st₁ : Station) (s₁ : List ℕ) → ListsFit st₁ → EffectFits (saysStoringAll a (stationAfter (collections n st₁ s₁) st₁) (recordsOf (collections n st₁ s₁))))
         → EffectFits (saysStoringAll a (stationAfter (collections (suc n) st s) st) (recordsOf (collections (suc n) st s)))
     go (inl e) ih = rw (ends st s e (suc n)) (record { handed = f; writes = tt })
     go (inr g) ih =
@@ -284,10 +274,10 @@ collections-fit (suc n) st s f a = go (ends-or-goes st s) (λ st₁ s₁ f₁. c
         let r = ih (nextStation st s g) (nextStore st s g) (c .handed) in
         rw (goes st s g n) (record { handed = r .handed; writes = every-append ContentFits (collect st s (g .slot) .stores) _ (c .writes) (r .writes) })
 
-module _ (st : Station) (f : StationFits st) where
-  entry-fits : (d : ℕ) → d < length (st .entries) → EntryFits (entryAt st d)
+module _ (st : Station) (f : ListsFit st) where
+  entry-fits : (d : ℕ) → d < length (st .entries) → ListFits (entryAt st d)
   unfolding entryAt
-  entry-fits d o = every-at EntryFits (st .entries) (f .entries) d _ o
+  entry-fits d o = every-at ListFits (st .entries) (f .entries) d _ o
 
   live-fits : (t : ℕ) → not (isLive t st) ≡ false → LiveFits (liveAt st (placeOf t st))
   unfolding liveAt
@@ -329,14 +319,14 @@ module _ (st : Station) (f : StationFits st) where
     stepped-fits : LiveFits l → Used (st .entries) l → EffectFits (stepped st i l (l .phase))
     unfolding stepped
     stepped-fits g u =
-        cond-rule EffectFits (ltb (recordsStored (l .phase)) (l .«write_count»)) _ _
-        (λ q. stores-fits _ _ _ _ _ (more (omega (arith, ltb-true (recordsStored (l .phase)) (l .«write_count») q))) (version-bytes _ _ _ (every-everywhere WriteFits (l .writes) (g .writes) noWrite noWrite-fits _ .key8))) λ n1.
-        cond-rule EffectFits (eqb (recordsStored (l .phase)) (l .«write_count»)) _ _
-        (λ q. stores-fits _ _ _ _ _ (more (omega (arith, eqb-true (recordsStored (l .phase)) (l .«write_count») q))) (commit-bytes _ (entryFor-fits l g))) λ n2.
-        says-fits _ _ (setEntry-fits _ (setLive-fits st f i noLive noLive-fits) _ _ (entryFor-fits l g))
+        cond-rule EffectFits (ltb (recordsStored (l .phase)) (writeCount l)) _ _
+        (λ q. stores-fits _ _ _ _ _ (more (omega (arith, ltb-true (recordsStored (l .phase)) (writeCount l) q))) (version-bytes _ _ _ (every-everywhere WriteFits (l .writes) (g .writes) noWrite noWrite-fits _ .key8))) λ n1.
+        cond-rule EffectFits (eqb (recordsStored (l .phase)) (writeCount l)) _ _
+        (λ q. stores-fits _ _ _ _ _ (more (omega (arith, eqb-true (recordsStored (l .phase)) (writeCount l) q))) (commit-bytes _ (entryFor-fits l g (st .entries) u) (unfold entryFor in omega (arith, length-map (writesOf l) writeKey, writes-length l, write-limit l (u .sets))))) λ n2.
+        says-fits _ _ (setEntry-fits _ (setLive-fits st f i noLive noLive-fits) _ _ (entryFor-fits l g (st .entries) u))
       where
-        more : recordsStored (l .phase) ≤ l .«write_count» → StationFits (setLive st i (withPhase (oneMore (l .phase)) l))
-        more o = setLive-fits st f i _ (withPhase-fits l g _ (oneMore-fits (l .phase) (g .phase) (omega (arith, o, write-limit l (u .sets)))))
+        more : recordsStored (l .phase) ≤ writeCount l → ListsFit (setLive st i (withPhase (oneMore (l .phase)) l))
+        more o = setLive-fits st f i _ (withPhase-fits l g _ (oneMore-fits (l .phase) (g .phase) (omega (arith, o, writes-length l, write-limit l (u .sets)))))
 
   call-fits : (c : Call) (s : List ℕ) → IsTyped c → Every IsByte s → EffectFits (does c st s)
   unfolding does txnOf numberOf start put get commit step abort sweep
@@ -348,8 +338,8 @@ module _ (st : Station) (f : StationFits st) where
   call-fits (Commit t c) s y h = row 2 _ _ _ λ h2. row 3 _ _ _ λ h3. row 5 _ _ _ λ h5. row 8 _ _ _ λ h8. row 9 _ _ _ λ h9. row 13 _ _ _ λ h13. row 21 _ _ _ λ h21.
       unguarded EffectFits st _ (
       cond-rule EffectFits (isHeld t st) _ _ (λ q. says-fits _ st f) λ nh.
-      cond-rule EffectFits (eqb (l t .«write_count») 0) _ _ (λ q. relive _ _ _ noLive-fits) λ nw.
-      let w : 1 ≤ l t .«write_count» = omega (arith, eqb-false (l t .«write_count») 0 nw) in
+      cond-rule EffectFits (eqb (writeCount (l t)) 0) _ _ (λ q. relive _ _ _ noLive-fits) λ nw.
+      let w : 1 ≤ writeCount (l t) = omega (arith, eqb-false (writeCount (l t)) 0 nw) in
       relive _ _ _ (withPhase-fits _ (live-fits t (and-first _ _ h8 (not-of-false _ nh))) _ (closing-fits _ _ (free-low st (not-false _ (and-second _ _ h13 (le-leb _ _ w)))) (clock-fits c (y .0 .1) (and-second _ _ h21 (le-leb _ _ w))))))
   call-fits (Step t) s y h = row 1 _ _ _ λ h1. row 2 _ _ _ λ h2. row 3 _ _ _ λ h3. row 8 _ _ _ λ h8. row 10 _ _ _ λ h10. unguarded EffectFits st _ (stepped-fits t (live-fits t h8) (live-used t h2 h3 h8))
   call-fits (Abort t) s y h = row 2 _ _ _ λ h2. row 3 _ _ _ λ h3. row 8 _ _ _ λ h8. row 9 _ _ _ λ h9. unguarded EffectFits st _ (relive _ _ _ noLive-fits)
@@ -366,8 +356,8 @@ stored-bytes (w ∷ ws) s g h = stored-bytes ws _ (g .1) (every-append IsByte (t
     at : ℕ
     at = recordPlace (w .slot) (w .index)
 
-module _ (c : Call) (st : Station) (s : List ℕ) (y : IsTyped c) (f : StationFits st) (h : Every IsByte s) where
-  pub fits-kept : StationFits (does c st s .station)
+module _ (c : Call) (st : Station) (s : List ℕ) (y : IsTyped c) (f : ListsFit st) (h : Every IsByte s) where
+  pub fits-kept : ListsFit (does c st s .station)
   fits-kept = call-fits st f c s y h .handed
 
   -- whatever of its record writes is done

@@ -11,7 +11,7 @@ use native.Mathlib.Omega.{arith}
 use borrow.Author.Tests.{not-true}
 use Rattle.model.specs.declared.Id.{Id}
 use Rattle.model.specs.declared.Read.{Read}
-use Rattle.model.specs.declared.Entry.{Entry}
+use Rattle.model.specs.Types.{Entry}
 use Rattle.model.specs.Lists.{_and_, any}
 use Rattle.model.specs.Ids.{older, sameId, noId}
 use Rattle.model.specs.Entries.{noEntry, wrote, wroteAs}

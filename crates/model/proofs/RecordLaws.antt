@@ -6,7 +6,7 @@ use mathlib.Core.Logic.{_≢_}
 use mathlib.Core.Bool.{Bool, true, false, false≢true}
 use mathlib.Core.List.{List, [], _∷_, _++_, append-assoc}
 use lib.Dec.{eqb}
-use lib.ListN.{length, take, drop, getD, length-append, take-append-drop, length-take, length-drop}
+use lib.ListN.{length, take, drop, getD, replicate, length-append, take-append-drop, length-take, length-drop}
 use lib.Seq.{take-all, take-append-le, drop-append-le, drop-append-add, getD-take, getD-drop, drop-drop, take-at, drop-at, length-take-le}
 use native.Mathlib.Nat.{zero-lt-suc, suc-ne-zero}
 use native.Mathlib.Decide.{decLt}
@@ -14,14 +14,15 @@ use native.Mathlib.Omega.{arith}
 use borrow.Author.Tests.{eqb-true, eq-eqb}
 use borrow.Rule.Slice.PartMut.{putMid}
 use Rattle.model.specs.declared.Id.{Id}
-use Rattle.model.specs.declared.Entry.{Entry}
-use Rattle.model.specs.Lists.{_and_, same}
+use Rattle.model.specs.Types.{Entry}
+use Rattle.model.specs.Lists.{_and_, padded, same}
 use Rattle.model.specs.Limits.{slots, writeLimit, recordSize, slotSize, width, storeSize, txnRange, numberRange, byteRange}
 use Rattle.model.specs.Ids.{sameId}
 use Rattle.model.specs.Bytes.{bytes, number, idIn, headBytes}
-use Rattle.model.specs.Entries.{markIn, entryIn, freeMark, committedMark, commitRecord, entryRules, commitRules, carriesEntry}
+use Rattle.model.specs.Entries.{keysOf, markIn, countIn, keyBytes, entryIn, freeMark, committedMark, commitRecord, entryRules, carriesKeys, commitRules, carriesEntry}
 use Rattle.model.specs.Records.{valueIn, versionRecord, zeroRecord, carriesVersion, recordPlace, recordAt, withRecord}
 use Rattle.model.proofs.Tests.{and-left, and-right, and-intro}
+use Rattle.model.proofs.InsertLaws.{padded-length}
 use Rattle.model.proofs.IdLaws.{same-id, id-same}
 
 -- ── numbers and their bytes ──
@@ -86,11 +87,11 @@ same-true (x ∷ xs) (y ∷ ys) h = go (eqb x y) refl (same-true xs ys)
 pub record Fits (e : Entry) : Type 0 where
   pub txn32 : e .id .txn < txnRange
   pub clock64 : e .id .clock < numberRange
-  pub keys8 : length (e .keys) ≡ writeLimit
+  pub keys8 : length (keysOf e) ≤ writeLimit
 
-pub length-commit : (e : Entry) → length (e .keys) ≡ writeLimit → length (commitRecord e) ≡ recordSize
+pub length-commit : (e : Entry) → length (keysOf e) ≤ writeLimit → length (commitRecord e) ≡ recordSize
 unfolding commitRecord headBytes bytes
-length-commit e h = simp h
+length-commit e h = let p = padded-length 0 writeLimit (keysOf e) h in simp p
 
 pub length-version : (k : ℕ) (i : Id) (v : ℕ) → length (versionRecord k i v) ≡ recordSize
 unfolding versionRecord headBytes bytes
@@ -112,17 +113,27 @@ commit-zeros : (e : Entry) → (getD (commitRecord e) 2 0 ≡ 0) × (getD (commi
 unfolding commitRecord headBytes
 commit-zeros e = (refl, refl)
 
+-- the first of as many keys as there are, of their bytes
+key-round : (ks : List ℕ) → length ks ≤ writeLimit → take (length ks) (take writeLimit (padded 0 writeLimit ks)) ≡ ks
+unfolding padded
+key-round ks o = ap (take (length ks)) (take-all writeLimit (ks ++ replicate (writeLimit - length ks) 0) (omega (arith, padded-length 0 writeLimit ks o))) ∙ take-at ks (replicate (writeLimit - length ks) 0) (length ks) refl
+
+commit-keys : (e : Entry) → Fits e → carriesKeys (commitRecord e) (keysOf e) ≡ true
+unfolding carriesKeys commitRecord headBytes bytes
+commit-keys e f =
+    and-intro _ _ (eq-eqb (length (keysOf e)) (length (keysOf e)) refl)
+    (rw (take-all writeLimit (padded 0 writeLimit (keysOf e)) (omega (arith, padded-length 0 writeLimit (keysOf e) (f .keys8)))) (same-refl (padded 0 writeLimit (keysOf e))))
+
 pub entry-round : (e : Entry) → Fits e → entryIn (commitRecord e) ≡ e
 unfolding entryIn idIn commitRecord headBytes bytes
 entry-round e f = λ z. record {
   id = record { clock = number-bytes 8 (e .id .clock) (f .clock64) z; txn = number-bytes 4 (e .id .txn) (f .txn32) z };
-  count = e .count;
-  keys = take-all 8 (e .keys) (omega (arith, f .keys8)) z;
+  keys = key-round (keysOf e) (f .keys8) z;
 }
 
 pub commit-rules : (e : Entry) → Fits e → commitRules (commitRecord e) ≡ entryRules e
 unfolding commitRules _and_
-commit-rules e f = rw (commit-mark e, commit-zeros e .0, commit-zeros e .1, entry-round e f)
+commit-rules e f = rw (commit-mark e, commit-zeros e .0, commit-zeros e .1, entry-round e f, commit-keys e f)
 
 pub version-id : (k : ℕ) (i : Id) (v : ℕ) → i .txn < txnRange → i .clock < numberRange → idIn (versionRecord k i v) ≡ i
 unfolding idIn versionRecord headBytes bytes
@@ -139,51 +150,75 @@ version-head k i v = (refl, refl, refl, refl)
 -- ── what a commit record carries ──
 pub carries-mark : (r : List ℕ) (e : Entry) → carriesEntry r e ≡ true → markIn r ≡ committedMark
 unfolding carriesEntry
-carries-mark r e h = eqb-true (markIn r) committedMark (and-left _ _ (and-left _ _ (and-left _ _ (and-left _ _ (and-left _ _ h)))))
+carries-mark r e h = eqb-true (markIn r) committedMark (and-left _ _ (and-left _ _ (and-left _ _ (and-left _ _ h))))
 
 carries-zeros : (r : List ℕ) (e : Entry) → carriesEntry r e ≡ true → (getD r 2 0 ≡ 0) × (getD r 3 0 ≡ 0)
 unfolding carriesEntry
 carries-zeros r e h =
-    let c : (eqb (markIn r) committedMark and eqb (getD r 2 0) 0 and eqb (getD r 3 0) 0) ≡ true = and-left _ _ (and-left _ _ (and-left _ _ h)) in
+    let c : (eqb (markIn r) committedMark and eqb (getD r 2 0) 0 and eqb (getD r 3 0) 0) ≡ true = and-left _ _ (and-left _ _ h) in
     (eqb-true (getD r 2 0) 0 (and-right _ _ (and-left _ _ c)), eqb-true (getD r 3 0) 0 (and-right _ _ c))
 
-pub carries-entry : (r : List ℕ) (e : Entry) → carriesEntry r e ≡ true → entryIn r ≡ e
+-- a write set's count and key bytes
+module _ (r ks : List ℕ) (h : carriesKeys r ks ≡ true) where
+  keys-counted : countIn r ≡ length ks
+  unfolding carriesKeys
+  keys-counted = eqb-true (countIn r) (length ks) (and-left _ _ h)
+
+  keys-padded : keyBytes r ≡ padded 0 writeLimit ks
+  unfolding carriesKeys
+  keys-padded = same-true (keyBytes r) (padded 0 writeLimit ks) (and-right _ _ h)
+
+  -- are those of its keys alone
+  keys-carried : keysOf (entryIn r) ≡ ks
+  unfolding entryIn padded
+  keys-carried = ap₂ (λ (n : ℕ) (bs : List ℕ). take n bs) keys-counted keys-padded ∙ take-at ks _ (length ks) refl
+
+carries-keys : (r : List ℕ) (e : Entry) → carriesEntry r e ≡ true → carriesKeys r (keysOf e) ≡ true
 unfolding carriesEntry
+carries-keys r e h = and-right _ _ h
+
+pub carries-entry : (r : List ℕ) (e : Entry) → carriesEntry r e ≡ true → entryIn r ≡ e
+unfolding carriesEntry entryIn
 carries-entry r e h = λ z. record {
-  id = same-id (entryIn r .id) (e .id) (and-right _ _ (and-left _ _ (and-left _ _ h))) z;
-  count = eqb-true (entryIn r .count) (e .count) (and-right _ _ (and-left _ _ h)) z;
-  keys = same-true (entryIn r .keys) (e .keys) (and-right _ _ h) z;
+  id = same-id (idIn r) (e .id) (and-right _ _ (and-left _ _ h)) z;
+  keys = keys-carried r (keysOf e) (and-right _ _ h) z;
 }
 
-pub carries-intro : (r : List ℕ) (e : Entry) → markIn r ≡ committedMark → getD r 2 0 ≡ 0 → getD r 3 0 ≡ 0 → entryIn r ≡ e → carriesEntry r e ≡ true
+pub carries-intro : (r : List ℕ) (e : Entry) → markIn r ≡ committedMark → getD r 2 0 ≡ 0 → getD r 3 0 ≡ 0 → idIn r ≡ e .id → carriesKeys r (keysOf e) ≡ true → carriesEntry r e ≡ true
 unfolding carriesEntry
-carries-intro r e hm h2 h3 he =
-    and-intro _ _ (and-intro _ _ (and-intro _ _ (and-intro _ _ (and-intro _ _ (eq-eqb (markIn r) committedMark hm) (eq-eqb (getD r 2 0) 0 h2)) (eq-eqb (getD r 3 0) 0 h3))
-    (subst (λ (x : Entry). sameId (entryIn r .id) (x .id) ≡ true) he (id-same (entryIn r .id) (entryIn r .id) refl)))
-    (eq-eqb (entryIn r .count) (e .count) (ap (λ (x : Entry). x .count) he)))
-    (subst (λ (x : Entry). same (entryIn r .keys) (x .keys) ≡ true) he (same-refl (entryIn r .keys)))
+carries-intro r e hm h2 h3 hi hk =
+    and-intro _ _ (and-intro _ _ (and-intro _ _ (and-intro _ _ (eq-eqb (markIn r) committedMark hm) (eq-eqb (getD r 2 0) 0 h2)) (eq-eqb (getD r 3 0) 0 h3)) (id-same (idIn r) (e .id) hi)) hk
 
 pub carries-commit : (e : Entry) → Fits e → carriesEntry (commitRecord e) e ≡ true
-carries-commit e f = carries-intro (commitRecord e) e (commit-mark e) (commit-zeros e .0) (commit-zeros e .1) (entry-round e f)
+carries-commit e f = carries-intro (commitRecord e) e (commit-mark e) (commit-zeros e .0) (commit-zeros e .1) (unfold entryIn in ap (λ (x : Entry). x .id) (entry-round e f)) (commit-keys e f)
 
-pub rules-mark : (r : List ℕ) → commitRules r ≡ true → markIn r ≡ committedMark
-unfolding commitRules
-rules-mark r h = eqb-true (markIn r) committedMark (and-left _ _ (and-left _ _ (and-left _ _ h)))
+module _ (r : List ℕ) (h : commitRules r ≡ true) where
+  pub rules-mark : markIn r ≡ committedMark
+  unfolding commitRules
+  rules-mark = eqb-true (markIn r) committedMark (and-left _ _ (and-left _ _ (and-left _ _ (and-left _ _ h))))
 
-pub rules-entry : (r : List ℕ) → commitRules r ≡ true → entryRules (entryIn r) ≡ true
-unfolding commitRules
-rules-entry r h = and-right _ _ h
+  pub rules-keys : carriesKeys r (keysOf (entryIn r)) ≡ true
+  unfolding commitRules
+  rules-keys = and-right _ _ (and-left _ _ h)
 
-pub rules-carries : (r : List ℕ) → commitRules r ≡ true → carriesEntry r (entryIn r) ≡ true
-unfolding commitRules
-rules-carries r h = carries-intro r (entryIn r) (eqb-true (markIn r) committedMark (and-left _ _ (and-left _ _ (and-left _ _ h)))) (eqb-true (getD r 2 0) 0 (and-right _ _ (and-left _ _ (and-left _ _ h)))) (eqb-true (getD r 3 0) 0 (and-right _ _ (and-left _ _ h))) refl
+  pub rules-entry : entryRules (entryIn r) ≡ true
+  unfolding commitRules
+  rules-entry = and-right _ _ h
+
+  pub rules-carries : carriesEntry r (entryIn r) ≡ true
+  unfolding commitRules
+  rules-carries =
+      let z : (eqb (markIn r) committedMark and eqb (getD r 2 0) 0 and eqb (getD r 3 0) 0) ≡ true = and-left _ _ (and-left _ _ h) in
+      carries-intro r (entryIn r) rules-mark (eqb-true (getD r 2 0) 0 (and-right _ _ (and-left _ _ z))) (eqb-true (getD r 3 0) 0 (and-right _ _ z)) (unfold entryIn in refl) rules-keys
 
 -- a record that carries an entry that keeps the rules keeps them
 pub carries-rules : (r : List ℕ) (e : Entry) → carriesEntry r e ≡ true → entryRules e ≡ true → commitRules r ≡ true
 unfolding commitRules
 carries-rules r e h k =
     let z = carries-zeros r e h in
-    and-intro _ _ (and-intro _ _ (and-intro _ _ (eq-eqb (markIn r) committedMark (carries-mark r e h)) (eq-eqb (getD r 2 0) 0 (z .0))) (eq-eqb (getD r 3 0) 0 (z .1))) (rw (carries-entry r e h) k)
+    let q = carries-entry r e h in
+    and-intro _ _ (and-intro _ _ (and-intro _ _ (and-intro _ _ (eq-eqb (markIn r) committedMark (carries-mark r e h)) (eq-eqb (getD r 2 0) 0 (z .0))) (eq-eqb (getD r 3 0) 0 (z .1)))
+    (rw q (carries-keys r e h))) (rw q k)
 
 -- the cells of a list, one by one
 unfoldable spread : ℕ → List ℕ → List ℕ
@@ -217,9 +252,10 @@ module _ (r : List ℕ) (l : length r ≡ recordSize) (b : Bytes r) where
   unfolding valueIn
   value-bytes = bytes-number 8 (take 8 (drop 16 r)) (length-take-le 8 (drop 16 r) (omega (arith, length-drop 16 r))) (bytes-take 8 (drop 16 r) (bytes-drop 16 r b))
 
-  commit-parts : markIn r ≡ committedMark → getD r 2 0 ≡ 0 → getD r 3 0 ≡ 0 → r ≡ commitRecord (entryIn r)
-  unfolding commitRecord headBytes entryIn markIn
-  commit-parts h0 h2 h3 = in-parts r l ∙ (rw (h0, h2, h3, txn-bytes, clock-bytes))
+  commit-parts : (ks : List ℕ) → markIn r ≡ committedMark → getD r 2 0 ≡ 0 → getD r 3 0 ≡ 0 → carriesKeys r ks ≡ true → r ≡ commitRecord (record { id = idIn r; keys = ks })
+  unfolding commitRecord headBytes markIn
+  commit-parts ks h0 h2 h3 hk =
+      in-parts r l ∙ (ap₂ (λ (n : ℕ) (bs : List ℕ). (getD r 0 0 ∷ n ∷ getD r 2 0 ∷ getD r 3 0 ∷ take 4 (drop 4 r) ++ take 8 (drop 8 r)) ++ bs) (keys-counted r ks hk) (keys-padded r ks hk) ∙ (rw (h0, h2, h3, txn-bytes, clock-bytes)))
 
   version-parts : getD r 1 0 ≡ 0 → getD r 2 0 ≡ 0 → getD r 3 0 ≡ 0 → r ≡ versionRecord (getD r 0 0) (idIn r) (valueIn r)
   unfolding versionRecord headBytes
@@ -227,7 +263,9 @@ module _ (r : List ℕ) (l : length r ≡ recordSize) (b : Bytes r) where
 
   -- 24 bytes that carry an entry are its commit record
   pub commit-only : (e : Entry) → carriesEntry r e ≡ true → r ≡ commitRecord e
-  commit-only e h = let z = carries-zeros r e h in commit-parts (carries-mark r e h) (z .0) (z .1) ∙ ap commitRecord (carries-entry r e h)
+  commit-only e h =
+      let z = carries-zeros r e h in
+      commit-parts (keysOf e) (carries-mark r e h) (z .0) (z .1) (carries-keys r e h) ∙ ap (λ (i : Id). commitRecord (record { id = i; keys = keysOf e })) (unfold entryIn in ap (λ (x : Entry). x .id) (carries-entry r e h))
 
   -- and 24 bytes that carry a key and an id are a version record of them
   pub version-only : (k : ℕ) (i : Id) → carriesVersion r k i ≡ true → r ≡ versionRecord k i (valueIn r)

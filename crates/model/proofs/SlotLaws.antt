@@ -11,7 +11,7 @@ use native.Mathlib.Nat.{le-of-suc-le-suc, not-suc-le-zero, zero-lt-suc, lt-irref
 use native.Mathlib.Omega.{arith}
 use borrow.Author.Tests.{leb-true, eqb-true, eq-eqb, ne-eqb}
 use Rattle.model.specs.declared.Id.{Id}
-use Rattle.model.specs.declared.Entry.{Entry}
+use Rattle.model.specs.Types.{Entry}
 use Rattle.model.specs.Lists.{_and_, first, ascending}
 use Rattle.model.specs.Limits.{keys, slots, writeLimit, recordSize, width, slotSize, storeSize}
 use Rattle.model.specs.Entries.{keysOf, wrote, markIn, entryIn, freeMark, entryRules, commitRules, carriesEntry, recordOf}
@@ -22,42 +22,34 @@ use Rattle.model.proofs.ListLaws.{member-finds, getD-all}
 use Rattle.model.proofs.RecordLaws.{length-zero, zero-mark, rules-mark, rules-entry, rules-carries, record-same, record-other, record-elsewhere}
 
 -- ── the rules of an entry ──
-pub rules-some : (e : Entry) → entryRules e ≡ true → 1 ≤ e .count
-unfolding entryRules
-rules-some e h = leb-true 1 (e .count) (and-left _ _ (and-left _ _ (and-left _ _ (and-left _ _ (and-left _ _ h)))))
+module _ (e : Entry) (h : entryRules e ≡ true) where
+  pub rules-some : 1 ≤ length (keysOf e)
+  unfolding entryRules
+  rules-some = leb-true 1 (length (keysOf e)) (and-left _ _ (and-left _ _ (and-left _ _ (and-left _ _ h))))
 
-pub rules-count : (e : Entry) → entryRules e ≡ true → e .count ≤ writeLimit
-unfolding entryRules
-rules-count e h = leb-true (e .count) writeLimit (and-right _ _ (and-left _ _ (and-left _ _ (and-left _ _ (and-left _ _ h)))))
+  pub rules-count : length (keysOf e) ≤ writeLimit
+  unfolding entryRules
+  rules-count = leb-true (length (keysOf e)) writeLimit (and-right _ _ (and-left _ _ (and-left _ _ (and-left _ _ h))))
 
-pub rules-txn : (e : Entry) → entryRules e ≡ true → e .id .txn ≢ 0
-unfolding entryRules
-rules-txn e h z = lt-irrefl 0 (omega (arith, z, leb-true 1 (e .id .txn) (and-right _ _ (and-left _ _ (and-left _ _ (and-left _ _ h))))))
+  pub rules-txn : e .id .txn ≢ 0
+  unfolding entryRules
+  rules-txn z = lt-irrefl 0 (omega (arith, z, leb-true 1 (e .id .txn) (and-right _ _ (and-left _ _ (and-left _ _ h)))))
 
-pub rules-clock : (e : Entry) → entryRules e ≡ true → 1 ≤ e .id .clock
-unfolding entryRules
-rules-clock e h = leb-true 1 (e .id .clock) (and-right _ _ (and-left _ _ (and-left _ _ h)))
+  pub rules-clock : 1 ≤ e .id .clock
+  unfolding entryRules
+  rules-clock = leb-true 1 (e .id .clock) (and-right _ _ (and-left _ _ h))
 
-pub rules-ascending : (e : Entry) → entryRules e ≡ true → ascending 0 keys (keysOf e) ≡ true
-unfolding entryRules
-rules-ascending e h = and-right _ _ (and-left _ _ h)
-
--- the keys written are at most the count, and as many where the key bytes are there
-pub keys-le : (e : Entry) → length (keysOf e) ≤ e .count
-unfolding keysOf
-keys-le e = omega (arith, length-take (e .count) (e .keys))
-
-pub keys-count : (e : Entry) → length (e .keys) ≡ writeLimit → e .count ≤ writeLimit → length (keysOf e) ≡ e .count
-unfolding keysOf
-keys-count e l o = length-take-le (e .count) (e .keys) (omega arith)
+  pub rules-ascending : ascending 0 keys (keysOf e) ≡ true
+  unfolding entryRules
+  rules-ascending = and-right _ _ h
 
 -- a written key's version record
 pub record-of : (e : Entry) (k : ℕ) → wrote e k ≡ true → (j : ℕ) × (j < length (keysOf e)) × (recordOf e k ≡ suc j) × (getD (keysOf e) j 0 ≡ k)
 unfolding recordOf wrote
 record-of e k h = let r = member-finds k (keysOf e) h in (first (eqb k) (keysOf e), r .0, refl, r .1)
 
-pub record-of-low : (e : Entry) (k : ℕ) → wrote e k ≡ true → recordOf e k ≤ e .count
-record-of-low e k h = let r = record-of e k h in omega (arith, r .1, r .2, keys-le e)
+pub record-of-low : (e : Entry) (k : ℕ) → wrote e k ≡ true → recordOf e k ≤ length (keysOf e)
+record-of-low e k h = let r = record-of e k h in omega (arith, r .1, r .2)
 
 -- it is one of a slot's records
 pub rules-record : (e : Entry) → entryRules e ≡ true → (k : ℕ) → wrote e k ≡ true → recordOf e k < width
@@ -136,7 +128,7 @@ seen-frame s s′ d d′ f = rw (f 0 (lit< tt), and-frame (commitRules c) (versi
     e = entryIn c
 
     versions : commitRules c ≡ true → versionsCarry (recordAt s d) (e .id) 1 (keysOf e) ≡ versionsCarry (recordAt s′ d′) (e .id) 1 (keysOf e)
-    versions h = versions-frame (recordAt s d) (recordAt s′ d′) (e .id) 1 (keysOf e) (λ m a b. f m (omega (arith, keys-le e, rules-count e (rules-entry c h))))
+    versions h = versions-frame (recordAt s d) (recordAt s′ d′) (e .id) 1 (keysOf e) (λ m a b. f m (omega (arith, rules-count e (rules-entry c h))))
 
 module _ (s : List ℕ) (d : ℕ) where
   pub seen-free : markIn (recordAt s d 0) ≡ freeMark → seen s d ≡ free

@@ -8,11 +8,11 @@ use lib.ListN.{take}
 use native.Mathlib.Nat.{suc-ne-zero}
 use borrow.Author.Tests.{eqb-true}
 use Rattle.model.specs.declared.Live.{Live}
-use Rattle.model.specs.declared.Station.{Station}
+use Rattle.model.specs.Types.{Station}
 use Rattle.model.specs.declared.Phase.{Phase}
 use Rattle.model.specs.declared.Phase.the-variants.{Unused, Open, Closing}
 use Rattle.model.specs.Limits.{slots}
-use Rattle.model.specs.Lives.{readsOf, isClosing, closingSlot, closingClock, recordsStored}
+use Rattle.model.specs.Lives.{readsOf, isClosing, closingSlot, closingClock, recordsStored, writeCount, writesOf}
 use Rattle.model.specs.Entries.{wrote}
 use Rattle.model.specs.Stations.{liveAt, entryAt, isLive, isHeld, placeOf, slotOf, holds}
 use Rattle.model.specs.Sound.{isNoLive, placeRight, sound}
@@ -57,9 +57,9 @@ module _ (st : Station) (h : sound st ≡ true) where
 -- a closing transaction
 pub record IsClosing (st : Station) (l : Live) (d c n : ℕ) : Type 0 where
   pub used : Used (st .entries) l
-  pub keyed : 1 ≤ l .«write_count»
+  pub keyed : 1 ≤ writeCount l
   pub clocked : 1 ≤ c
-  pub within : n ≤ l .«write_count» + 1
+  pub within : n ≤ writeCount l + 1
   pub low : d < slots
   pub unheld : entryAt st d .id .txn ≡ 0
 
@@ -69,7 +69,7 @@ closing-facts st h i d c n e = record {
   used = closing-used st (liveAt st i) _ (sound-at st h .place i) is;
   keyed = u .keyed;
   clocked = subst (λ (p : Phase). 1 ≤ closingClock p) e (u .clocked);
-  within = subst (λ (p : Phase). recordsStored p ≤ liveAt st i .«write_count» + 1) e (u .within);
+  within = subst (λ (p : Phase). recordsStored p ≤ writeCount (liveAt st i) + 1) e (u .within);
   low = subst (λ (p : Phase). closingSlot p < slots) e (u .low);
   unheld = unheld-txn st d (subst (λ (p : Phase). holds st (closingSlot p) ≡ false) e (u .unheld));
 }

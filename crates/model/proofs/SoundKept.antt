@@ -13,15 +13,14 @@ use borrow.Author.Tests.{ltb-true, leb-false, eqb-true, eqb-false, not-true, not
 use Rattle.model.specs.declared.Id.{Id}
 use Rattle.model.specs.declared.Read.{Read}
 use Rattle.model.specs.declared.Live.{Live}
-use Rattle.model.specs.declared.Entry.{Entry}
-use Rattle.model.specs.declared.Station.{Station}
+use Rattle.model.specs.Types.{Entry, Station}
 use Rattle.model.specs.declared.Phase.{Phase}
 use Rattle.model.specs.declared.Phase.the-variants.{Unused, Open, Closing}
 use Rattle.model.specs.declared.Answer.{Answer}
 use Rattle.model.specs.Lists.{_and_, _or_, all, from, ascending, distinct, anyBelow}
 use Rattle.model.specs.Limits.{keys, livePlaces, slots, writeLimit, readLimit, storeSize}
 use Rattle.model.specs.Ids.{sameId}
-use Rattle.model.specs.Lives.{noLive, writesOf, readsOf, hasWritten, hasRead, isClosing, closingSlot, closingClock, recordsStored, slotMark, withWrites, withReads, withPhase}
+use Rattle.model.specs.Lives.{noLive, writesOf, readsOf, hasWritten, hasRead, isClosing, closingSlot, closingClock, recordsStored, slotMark, withWrites, withReads, withPhase, writeCount}
 use Rattle.model.specs.Entries.{noEntry, wrote, wroteAs, isNoEntry, entryFor}
 use Rattle.model.specs.Stations.{emptyStation, liveAt, entryAt, setLive, setEntry, liveTxns, heldTxns, isLive, isHeld, placeOf, holds, closingSlots, isFree, idleStation}
 use Rattle.model.specs.Slots.{Seen, free, committed, damaged, seen}
@@ -184,7 +183,7 @@ used-withPhase : (es : List Entry) (p : Phase) (l : Live) → Used es l → Used
 unfolding withPhase setsRight zeroPastCounts writesOf readsOf
 used-withPhase es p l u = record { numbered = u .numbered; sets = u .sets; named = u .named; zeros = u .zeros }
 
-commit-sound : (st : Station) (t c : ℕ) → Live-at st t → c ≢ 0 → 1 ≤ (liveAt st (placeOf t st)) .«write_count» → anyBelow (isFree st) slots ≡ true
+commit-sound : (st : Station) (t c : ℕ) → Live-at st t → c ≢ 0 → 1 ≤ writeCount (liveAt st (placeOf t st)) → anyBelow (isFree st) slots ≡ true
     → Sound (setLive st (placeOf t st) (withPhase (Closing (highestFree st) c 0) (liveAt st (placeOf t st))))
 unfolding withPhase slotMark
 commit-sound st t c a n o f = sound-setLive st i m s (a .inside-live)
@@ -210,7 +209,7 @@ commit-sound st t c a n o f = sound-setLive st i m s (a .inside-live)
 
     shut : Shut st m
     shut = record {
-      keyed = o;
+      keyed = unfold withPhase writesOf in o;
       clocked = unfold closingClock in omega (arith, n);
       within = unfold recordsStored in omega arith;
       low = unfold closingSlot in r .0;
@@ -230,8 +229,8 @@ commit-keeps st t c h =
     unguarded Keeps st _ (
     cond-rule Keeps (isHeld t st) _ _ (λ q. says-keeps _ st h) λ nh.
     let z : isLive t st ≡ true = not-false _ (and-first _ _ h8 (not-of-false _ nh)) in
-    cond-rule Keeps (eqb ((liveAt st (placeOf t st)) .«write_count») 0) _ _ (λ q. says-keeps _ _ (sound-of _ (sound-unlive st (placeOf t st) (sound-at st h) (place-hit st t z .0)))) λ nw.
-    let o : 1 ≤ (liveAt st (placeOf t st)) .«write_count» = omega (arith, eqb-false ((liveAt st (placeOf t st)) .«write_count») 0 nw) in
+    cond-rule Keeps (eqb (writeCount (liveAt st (placeOf t st))) 0) _ _ (λ q. says-keeps _ _ (sound-of _ (sound-unlive st (placeOf t st) (sound-at st h) (place-hit st t z .0)))) λ nw.
+    let o : 1 ≤ writeCount (liveAt st (placeOf t st)) = omega (arith, eqb-false (writeCount (liveAt st (placeOf t st))) 0 nw) in
     says-keeps _ _ (sound-of _ (commit-sound st t (clockAbove c (clocks st)) (live-at st t h (eqb-false t 0 h3) z) (clock-real c (clocks st)) o (not-false _ (and-second _ _ h13 (le-leb _ _ o))))))
 
 -- ── step ──
@@ -258,7 +257,7 @@ module _ (p : Phase) where
 
 -- a record is stored, and n keys have at most n + 1
 more-sound : (st : Station) (t : ℕ) → Live-at st t → isClosing ((liveAt st (placeOf t st)) .phase) ≡ true
-    → recordsStored ((liveAt st (placeOf t st)) .phase) ≤ (liveAt st (placeOf t st)) .«write_count»
+    → recordsStored ((liveAt st (placeOf t st)) .phase) ≤ writeCount (liveAt st (placeOf t st))
     → Sound (setLive st (placeOf t st) (withPhase (oneMore ((liveAt st (placeOf t st)) .phase)) (liveAt st (placeOf t st))))
 unfolding withPhase
 more-sound st t a c o = sound-relive st i m (a .whole) (a .inside-live)
@@ -279,9 +278,9 @@ more-sound st t a c o = sound-relive st i m (a .whole) (a .inside-live)
 
     shut : Shut st m
     shut = record {
-      keyed = was .keyed;
+      keyed = unfold withPhase writesOf in was .keyed;
       clocked = rw (oneMore-clock (l .phase)) (was .clocked);
-      within = omega (arith, o, oneMore-stored (l .phase));
+      within = unfold withPhase writesOf in omega (arith, o, oneMore-stored (l .phase));
       low = rw (oneMore-slot (l .phase)) (was .low);
       unheld = rw (oneMore-slot (l .phase)) (was .unheld);
     }
@@ -372,10 +371,10 @@ step-keeps st s t h =
     unguarded Keeps st _ (
     let a : Live-at st t = live-at st t h (eqb-false t 0 h3) (not-false _ h8) in
     let c : isClosing ((liveAt st (placeOf t st)) .phase) ≡ true = not-false _ h10 in
-    cond-rule Keeps (ltb (recordsStored ((liveAt st (placeOf t st)) .phase)) ((liveAt st (placeOf t st)) .«write_count»)) _ _
-    (λ q. stores-keeps _ _ _ _ _ (sound-of _ (more-sound st t a c (omega (arith, ltb-true (recordsStored ((liveAt st (placeOf t st)) .phase)) ((liveAt st (placeOf t st)) .«write_count») q))))) λ n1.
-    cond-rule Keeps (eqb (recordsStored ((liveAt st (placeOf t st)) .phase)) ((liveAt st (placeOf t st)) .«write_count»)) _ _
-    (λ q. stores-keeps _ _ _ _ _ (sound-of _ (more-sound st t a c (omega (arith, eqb-true (recordsStored ((liveAt st (placeOf t st)) .phase)) ((liveAt st (placeOf t st)) .«write_count») q))))) λ n2.
+    cond-rule Keeps (ltb (recordsStored ((liveAt st (placeOf t st)) .phase)) (writeCount (liveAt st (placeOf t st)))) _ _
+    (λ q. stores-keeps _ _ _ _ _ (sound-of _ (more-sound st t a c (omega (arith, ltb-true (recordsStored ((liveAt st (placeOf t st)) .phase)) (writeCount (liveAt st (placeOf t st))) q))))) λ n1.
+    cond-rule Keeps (eqb (recordsStored ((liveAt st (placeOf t st)) .phase)) (writeCount (liveAt st (placeOf t st)))) _ _
+    (λ q. stores-keeps _ _ _ _ _ (sound-of _ (more-sound st t a c (omega (arith, eqb-true (recordsStored ((liveAt st (placeOf t st)) .phase)) (writeCount (liveAt st (placeOf t st))) q))))) λ n2.
     says-keeps _ _ (sound-of _ (done-sound st t a c)))
 
 -- ── collect ──

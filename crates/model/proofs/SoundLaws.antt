@@ -6,7 +6,7 @@ use mathlib.Core.Bool.{true, false, not, true≢false, false≢true}
 use mathlib.Core.List.{List, _++_, map, List·Memᴰ}
 use mathlib.Core.Option.{none}
 use lib.Dec.{eqb, leb}
-use lib.ListN.{length, drop, length-take}
+use lib.ListN.{length-map, length, drop, length-take}
 use lib.Seq.{set-out}
 use native.Mathlib.Nat.{lt-irrefl}
 use native.Mathlib.Omega.{arith}
@@ -15,14 +15,13 @@ use Rattle.model.specs.declared.Id.{Id}
 use Rattle.model.specs.declared.Write.{Write}
 use Rattle.model.specs.declared.Read.{Read}
 use Rattle.model.specs.declared.Live.{Live}
-use Rattle.model.specs.declared.Entry.{Entry}
-use Rattle.model.specs.declared.Station.{Station}
+use Rattle.model.specs.Types.{Entry, Station}
 use Rattle.model.specs.declared.Phase.{Phase}
 use Rattle.model.specs.declared.Phase.the-variants.{Unused, Open, Closing}
 use Rattle.model.specs.Lists.{_and_, _or_, all, any, insert, member, ascending, distinct}
 use Rattle.model.specs.Limits.{keys, slots, writeLimit, readLimit}
 use Rattle.model.specs.Ids.{sameId}
-use Rattle.model.specs.Lives.{noWrite, noRead, noLive, writesOf, readsOf, writeKey, readKey, hasWritten, hasRead, isClosing, closingSlot, closingClock, recordsStored, slotMark, withWrites, withReads}
+use Rattle.model.specs.Lives.{noWrite, noRead, noLive, writesOf, readsOf, writeKey, readKey, hasWritten, hasRead, isClosing, closingSlot, closingClock, recordsStored, slotMark, withWrites, withReads, writeCount}
 use Rattle.model.specs.Entries.{keysOf, wrote, wroteAs, entryRules, isNoEntry, entryFor}
 use Rattle.model.specs.Stations.{liveAt, entryAt, setLive, setEntry, liveTxns, heldTxns, holds, closingSlots}
 use Rattle.model.specs.Sound.{isNoWrite, isNoRead, isNoLive, zeroPastCounts, setsRight, names, inUse, closingRight, placeRight, entryRight, sound}
@@ -33,6 +32,7 @@ use Rattle.model.proofs.ListLaws.{all-of, all-by, all-replicate, all-ev
 use Rattle.model.proofs.DistinctLaws.{Once, once-by, once-set, once-at, once-of, once-left, once-right, once-apart, distinct-append}
 use Rattle.model.proofs.InsertLaws.{insert-ascending, insert-fits, insert-all, padded-take, padded-drop}
 use Rattle.model.proofs.StationLaws.{txn-at, held-at, mark-at, setLive-at, liveAt-same, liveAt-other, setLive-entry, setEntry-at, entryAt-same, entryAt-other, setEntry-live}
+use Rattle.model.proofs.InsideLaws.{none-of}
 
 -- ── soundness, place by place ──
 pub record Sound (st : Station) : Type 0 where
@@ -146,9 +146,9 @@ reads-length l = omega (arith, length-take (l .«read_count») (l .reads))
 
 -- a closing one
 pub record Shut (st : Station) (l : Live) : Type 0 where
-  pub keyed : 1 ≤ l .«write_count»
+  pub keyed : 1 ≤ writeCount l
   pub clocked : 1 ≤ closingClock (l .phase)
-  pub within : recordsStored (l .phase) ≤ l .«write_count» + 1
+  pub within : recordsStored (l .phase) ≤ writeCount l + 1
   pub low : closingSlot (l .phase) < slots
   pub unheld : holds st (closingSlot (l .phase)) ≡ false
 
@@ -352,19 +352,14 @@ used-withRead es k i l u o r n = record {
     rs = insert readKey (record { key = k; id = i }) (readsOf l)
 
 -- ── entries ──
-noWrite-key : (w : Write) → isNoWrite w ≡ true → eqb 0 (w .key) ≡ true
-unfolding isNoWrite
-noWrite-key w h = eq-eqb 0 (w .key) (sym (eqb-true (w .key) 0 (and-left _ _ h)))
-
 -- the entry that a closing transaction becomes keeps the rules
 pub entryFor-rules : (st : Station) (es : List Entry) (l : Live) → Used es l → Shut st l → entryRules (entryFor l) ≡ true
-unfolding entryRules entryFor keysOf writesOf
+unfolding entryRules entryFor
 entryFor-rules st es l u s =
-    and-intro _ _ (and-intro _ _ (and-intro _ _ (and-intro _ _ (and-intro _ _
-    (le-leb _ _ (s .keyed)) (le-leb _ _ (write-limit l (u .sets)))) (le-leb 1 (l .txn) (omega (arith, u .numbered)))) (le-leb _ _ (s .clocked)))
-    (rw (take-map writeKey (l .«write_count») (l .writes)) (writes-ascending l (u .sets))))
-    (rw (drop-map writeKey (l .«write_count») (l .writes))
-    (all-map writeKey isNoWrite (eqb 0) noWrite-key (drop (l .«write_count») (l .writes)) (writes-zero l (u .zeros))))
+    let n = length-map (writesOf l) writeKey in
+    and-intro _ _ (and-intro _ _ (and-intro _ _ (and-intro _ _
+    (le-leb 1 (length (map writeKey (writesOf l))) (omega (arith, n, s .keyed))) (le-leb (length (map writeKey (writesOf l))) writeLimit (omega (arith, n, writes-length l, write-limit l (u .sets))))) (le-leb 1 (l .txn) (omega (arith, u .numbered)))) (le-leb _ _ (s .clocked)))
+    (writes-ascending l (u .sets))
 
 pub entryFor-sound : (st : Station) → Sound st → (i : ℕ) → isClosing ((liveAt st i) .phase) ≡ true → entryRules (entryFor (liveAt st i)) ≡ true
 entryFor-sound st s i c = entryFor-rules st (st .entries) (liveAt st i) (closing-used st (liveAt st i) _ (s .place i) c) (place-shut st (liveAt st i) _ (s .place i) c)
@@ -378,19 +373,16 @@ unheld-none : (e : Entry) → entryRight e ≡ true → e .id .txn ≡ 0 → isN
 unfolding entryRight entryRules
 unheld-none e h z = ⊎-elim
     (λ n. n)
-    (λ n. absurd (lt-irrefl 0 (omega (arith, z, leb-true 1 (e .id .txn) (and-right _ _ (and-left _ _ (and-left _ _ (and-left _ _ n))))))))
+    (λ n. absurd (lt-irrefl 0 (omega (arith, z, leb-true 1 (e .id .txn) (and-right _ _ (and-left _ _ (and-left _ _ n)))))))
     (or-cases _ _ h)
 
 pub unheld-wrote : (e : Entry) → entryRight e ≡ true → e .id .txn ≡ 0 → (k : ℕ) → wrote e k ≡ false
 unfolding isNoEntry
-unheld-wrote e h z k = none (eqb-true _ _ (and-right _ _ (and-left _ _ (unheld-none e h z))))
-  where
-    none : e .count ≡ 0 → wrote e k ≡ false
-    none q = unfold wrote keysOf member any in rw q
+unheld-wrote e h z k = unfold wrote member any in rw (none-of (keysOf e) (eqb-true _ _ (and-right _ _ (unheld-none e h z))))
 
 pub unheld-clock : (e : Entry) → entryRight e ≡ true → e .id .txn ≡ 0 → e .id .clock ≡ 0
 unfolding isNoEntry sameId
-unheld-clock e h z = eqb-true _ _ (and-left _ _ (and-left _ _ (and-left _ _ (unheld-none e h z))))
+unheld-clock e h z = eqb-true _ _ (and-left _ _ (and-left _ _ (unheld-none e h z)))
 
 -- a read names what it named, where the entry that is replaced is none that it names
 pub names-setEntry : (st : Station) (d : ℕ) (e : Entry) (r : Read) → names (st .entries) r ≡ true

@@ -10,13 +10,12 @@ use native.Mathlib.Decide.{decLt}
 use native.Mathlib.Omega.{arith}
 use borrow.Author.Tests.{eqb-true, eqb-false, not-true, not-false, eq-eqb}
 use Rattle.model.specs.declared.Live.{Live}
-use Rattle.model.specs.declared.Entry.{Entry}
-use Rattle.model.specs.declared.Station.{Station}
+use Rattle.model.specs.Types.{Entry, Station}
 use Rattle.model.specs.declared.Phase.{Phase}
 use Rattle.model.specs.declared.Phase.the-variants.{Unused, Open, Closing}
 use Rattle.model.specs.Lists.{member}
 use Rattle.model.specs.Lives.{isClosing, closingSlot, closingClock, recordsStored, slotMark, liveBeyond}
-use Rattle.model.specs.Entries.{noEntry, entryBeyond}
+use Rattle.model.specs.Entries.{noEntry}
 use Rattle.model.specs.Stations.{liveAt, entryAt, setLive, setEntry, liveTxns, heldTxns, isLive, isHeld, placeOf, slotOf, holds, closingSlots}
 use Rattle.model.proofs.Tests.{not-of-true}
 use Rattle.model.proofs.ListLaws.{at-set, getD-inside, member-finds, member-at}
@@ -34,7 +33,7 @@ module _ (st : Station) where
 
   pub held-at : (d : ℕ) → getD (heldTxns st) d 0 ≡ entryAt st d .id .txn
   unfolding heldTxns entryAt
-  held-at d = List·getD-map (λ (e : Entry). e .id .txn) (st .entries) d entryBeyond
+  held-at d = List·getD-map (λ (e : Entry). e .id .txn) (st .entries) d noEntry
 
   pub held-length : length (heldTxns st) ≡ length (st .entries)
   unfolding heldTxns
@@ -62,7 +61,7 @@ module _ (st : Station) where
   unfolding liveAt
   live-out i h = List·getD-eq-default (st .live) _ h
 
-  pub entry-out : (d : ℕ) → length (st .entries) ≤ d → entryAt st d ≡ entryBeyond
+  pub entry-out : (d : ℕ) → length (st .entries) ≤ d → entryAt st d ≡ noEntry
   unfolding entryAt
   entry-out d h = List·getD-eq-default (st .entries) _ h
 

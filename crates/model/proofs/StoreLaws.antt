@@ -5,7 +5,7 @@ use mathlib.Core.Bool.{Bool, true, false, cond}
 use mathlib.Core.List.{List, [], _∷_}
 use lib.Dec.{eqb, ltb}
 use lib.ListN.{length}
-use Rattle.model.specs.declared.Station.{Station}
+use Rattle.model.specs.Types.{Station}
 use Rattle.model.specs.declared.Answer.{Answer}
 use Rattle.model.specs.Stations.{liveAt, isHeld, placeOf}
 use Rattle.model.specs.Reading.{Choice, own, absent, nofit, version}
@@ -16,6 +16,7 @@ use Rattle.model.specs.Get.{answered, get}
 use Rattle.model.specs.Commit.{commit}
 use Rattle.model.specs.Abort.{abort}
 use Rattle.model.specs.Scan.{slotsSeen, lowestBroken, scanned, scan}
+use Rattle.model.specs.Lives.{writeCount, writesOf}
 
 unfoldable pub StoresNothing : Effect → Type 0
 StoresNothing e = e .stores ≡ []
@@ -57,7 +58,7 @@ pub commit-stores-nothing : (st : Station) (t c : ℕ) → commit st t c .stores
 unfolding StoresNothing commit
 commit-stores-nothing st t c =
     refusals-store-nothing _ st _ (cond-stores-nothing (isHeld t st) _ _ (says-stores-nothing _ _)
-    (cond-stores-nothing (eqb (liveAt st (placeOf t st) .«write_count») 0) _ _ (says-stores-nothing _ _) (says-stores-nothing _ _)))
+    (cond-stores-nothing (eqb (writeCount (liveAt st (placeOf t st))) 0) _ _ (says-stores-nothing _ _) (says-stores-nothing _ _)))
 
 pub abort-stores-nothing : (st : Station) (t : ℕ) → abort st t .stores ≡ []
 unfolding StoresNothing abort

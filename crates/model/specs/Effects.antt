@@ -4,8 +4,7 @@ use mathlib.Core.Bool.{Bool, not, cond}
 use mathlib.Core.List.{List, [], _∷_}
 use lib.Dec.{eqb}
 use lib.ListN.{length}
-use Rattle.model.specs.declared.Station.{Station}
-use Rattle.model.specs.declared.Outcome.{Outcome}
+use Rattle.model.specs.Types.{Station, Outcome}
 use Rattle.model.specs.declared.Answer.{Answer}
 use Rattle.model.specs.declared.Answer.the-variants as A
 use Rattle.model.specs.Limits.{storeSize}

@@ -4,19 +4,19 @@ use Prim.Native.Nat.{ℕ, suc}
 use mathlib.Core.Bool.{Bool}
 use mathlib.Core.List.{List, [], _++_, map}
 use lib.Dec.{eqb, leb}
-use lib.ListN.{take, drop, getD, replicate}
+use lib.ListN.{length, take, drop, getD}
 use Rattle.model.specs.declared.Id.{Id}
 use Rattle.model.specs.declared.Live.{Live}
-use Rattle.model.specs.declared.Entry.{Entry}
-use Rattle.model.specs.Lists.{_and_, all, any, first, member, ascending, same}
+use Rattle.model.specs.Types.{Entry}
+use Rattle.model.specs.Lists.{_and_, any, first, member, ascending, same, padded}
 use Rattle.model.specs.Limits.{keys, writeLimit}
 use Rattle.model.specs.Ids.{sameId, noId}
 use Rattle.model.specs.Bytes.{headBytes, idIn}
-use Rattle.model.specs.Lives.{writeKey, closingClock}
+use Rattle.model.specs.Lives.{writesOf, writeKey, closingClock}
 
 -- ── its write set ──
-unfoldable pub keysOf : Entry → List ℕ
-keysOf e = take (e .count) (e .keys)
+abbrev pub keysOf : Entry → List ℕ
+keysOf e = e .keys
 
 unfoldable pub wrote : Entry → ℕ → Bool
 wrote e k = member k (keysOf e)
@@ -31,27 +31,22 @@ recordOf e k = suc (first (eqb k) (keysOf e))
 
 -- ── unused: "All fields of unused places, entries and list positions are zero." ──
 abbrev pub noEntry : Entry
-noEntry = record { id = noId; count = 0; keys = replicate writeLimit 0 }
+noEntry = record { id = noId; keys = [] }
 
 unfoldable pub isNoEntry : Entry → Bool
-isNoEntry e = sameId (e .id) noId and eqb (e .count) 0 and all (eqb 0) (e .keys)
-
--- past the last slot, where no call looks, all is zero
-abbrev pub entryBeyond : Entry
-entryBeyond = record { id = noId; count = 0; keys = [] }
+isNoEntry e = sameId (e .id) noId and eqb (length (keysOf e)) 0
 
 -- ── the rules of the commit record (slip), which an entry keeps: "count 1 to 8, ticket and clock at least 1, the first count keys strictly
--- ascending and below 64, the remaining key bytes zero" ──
+-- ascending and below 64" ──
 unfoldable pub entryRules : Entry → Bool
 entryRules e =
-    leb 1 (e .count) and leb (e .count) writeLimit
+    leb 1 (length (keysOf e)) and leb (length (keysOf e)) writeLimit
     and leb 1 (e .id .txn) and leb 1 (e .id .clock)
     and ascending 0 keys (keysOf e)
-    and all (eqb 0) (drop (e .count) (e .keys))
 
 -- ── the entry that a closing transaction becomes ──
 unfoldable pub entryFor : Live → Entry
-entryFor l = record { id = record { clock = closingClock (l .phase); txn = l .txn }; count = l .«write_count»; keys = map writeKey (l .writes) }
+entryFor l = record { id = record { clock = closingClock (l .phase); txn = l .txn }; keys = map writeKey (writesOf l) }
 
 -- ── its bytes. "Commit slip: mark 1, count 1, two zeros, ticket 4, clock 8, keys 8." ──
 -- "Mark is 0 (drawer free, the rest not read) or 1 (committed)."
@@ -62,20 +57,30 @@ abbrev pub committedMark : ℕ
 committedMark = 1
 
 unfoldable pub commitRecord : Entry → List ℕ
-commitRecord e = headBytes committedMark (e .count) (e .id) ++ e .keys
+commitRecord e = headBytes committedMark (length (keysOf e)) (e .id) ++ padded 0 writeLimit (keysOf e)
 
 unfoldable pub markIn : List ℕ → ℕ
 markIn r = getD r 0 0
 
+abbrev pub countIn : List ℕ → ℕ
+countIn r = getD r 1 0
+
+abbrev pub keyBytes : List ℕ → List ℕ
+keyBytes r = take writeLimit (drop 16 r)
+
 unfoldable pub entryIn : List ℕ → Entry
-entryIn r = record { id = idIn r; count = getD r 1 0; keys = take writeLimit (drop 16 r) }
+entryIn r = record { id = idIn r; keys = take (countIn r) (keyBytes r) }
+
+-- count and key bytes are those of a write set: "the remaining key bytes zero"
+unfoldable pub carriesKeys : List ℕ → List ℕ → Bool
+carriesKeys r ks = eqb (countIn r) (length ks) and same (keyBytes r) (padded 0 writeLimit ks)
 
 -- a commit record with mark 1 keeps the rules
 unfoldable pub commitRules : List ℕ → Bool
-commitRules r = eqb (markIn r) committedMark and eqb (getD r 2 0) 0 and eqb (getD r 3 0) 0 and entryRules (entryIn r)
+commitRules r = eqb (markIn r) committedMark and eqb (getD r 2 0) 0 and eqb (getD r 3 0) 0 and carriesKeys r (keysOf (entryIn r)) and entryRules (entryIn r)
 
 -- a commit record carries an entry: "id, keys, count, mark and zeros"
 unfoldable pub carriesEntry : List ℕ → Entry → Bool
 carriesEntry r e =
     eqb (markIn r) committedMark and eqb (getD r 2 0) 0 and eqb (getD r 3 0) 0
-    and sameId (entryIn r .id) (e .id) and eqb (entryIn r .count) (e .count) and same (entryIn r .keys) (e .keys)
+    and sameId (idIn r) (e .id) and carriesKeys r (keysOf e)

@@ -1,5 +1,8 @@
+pub mod Types
 pub mod Lists
 pub mod Limits
+pub mod KeySets
+pub mod Listed
 pub mod Ids
 pub mod Bytes
 pub mod Lives

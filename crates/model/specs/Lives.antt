@@ -38,6 +38,10 @@ writesOf l = take (l .«write_count») (l .writes)
 unfoldable pub readsOf : Live → List Read
 readsOf l = take (l .«read_count») (l .reads)
 
+-- how many keys it writes
+abbrev pub writeCount : Live → ℕ
+writeCount l = length (writesOf l)
+
 -- their keys
 abbrev pub writeKey : Write → ℕ
 writeKey w = w .key

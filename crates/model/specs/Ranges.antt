@@ -1,6 +1,7 @@
 -- Values within their types: numbers in their ranges, arrays of their lengths. Every station that a function is handed is (image's proofs/Handed).
 use Prim.Native.Nat.{ℕ, _<_}
 use mathlib.Core.Path.{_≡_}
+use mathlib.Core.Bool.{true}
 use mathlib.Core.List.{List, [], _∷_}
 use lib.ListN.{length}
 use Rattle.model.specs.declared.Id.{Id}
@@ -9,8 +10,10 @@ use Rattle.model.specs.declared.Read.{Read}
 use Rattle.model.specs.declared.Live.{Live}
 use Rattle.model.specs.declared.Entry.{Entry}
 use Rattle.model.specs.declared.Station.{Station}
+use Rattle.model.specs.Types as L
 use Rattle.model.specs.declared.Phase.{Phase}
-use Rattle.model.specs.Limits.{livePlaces, slots, writeLimit, readLimit, txnRange, numberRange, byteRange}
+use Rattle.model.specs.Lists.{ascending}
+use Rattle.model.specs.Limits.{keys, livePlaces, slots, writeLimit, readLimit, txnRange, numberRange, byteRange}
 use Rattle.model.specs.Lives.{closingSlot, closingClock, recordsStored}
 
 module _ {A : Type 0} where
@@ -51,12 +54,21 @@ pub record LiveFits (l : Live) : Type 0 where
 
 pub record EntryFits (e : Entry) : Type 0 where
   pub id : IdFits (e .id)
-  pub count8 : IsByte (e .count)
-  pub key-places : length (e .keys) ≡ writeLimit
-  pub keys : Every IsByte (e .keys)
+  pub keys64 : e .keys < numberRange
 
 pub record StationFits (st : Station) : Type 0 where
   pub live-places : length (st .live) ≡ livePlaces
   pub live : Every LiveFits (st .live)
   pub entry-places : length (st .entries) ≡ slots
   pub entries : Every EntryFits (st .entries)
+
+-- ── and the definitions' stations that are such a station's: write sets that are numbers of 64 bits ──
+pub record ListFits (e : L.Entry) : Type 0 where
+  pub id : IdFits (e .id)
+  pub ascends : ascending 0 keys (e .keys) ≡ true
+
+pub record ListsFit (st : L.Station) : Type 0 where
+  pub live-places : length (st .live) ≡ livePlaces
+  pub live : Every LiveFits (st .live)
+  pub entry-places : length (st .entries) ≡ slots
+  pub entries : Every ListFits (st .entries)

@@ -7,7 +7,7 @@ use mathlib.Core.Option.{Option, some, none, Option·elim, Option·getD}
 use lib.ListN.{getD}
 use Rattle.model.specs.declared.Id.{Id}
 use Rattle.model.specs.declared.Read.{Read}
-use Rattle.model.specs.declared.Entry.{Entry}
+use Rattle.model.specs.Types.{Entry}
 use Rattle.model.specs.Lists.{_and_, any, filter, least}
 use Rattle.model.specs.Ids.{older, greatest}
 use Rattle.model.specs.Lives.{readKey}

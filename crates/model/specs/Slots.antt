@@ -5,7 +5,7 @@ use mathlib.Core.List.{List, [], _∷_}
 use lib.Dec.{eqb}
 use lib.ListN.{take, drop}
 use Rattle.model.specs.declared.Id.{Id}
-use Rattle.model.specs.declared.Entry.{Entry}
+use Rattle.model.specs.Types.{Entry}
 use Rattle.model.specs.Lists.{_and_}
 use Rattle.model.specs.Limits.{slotSize}
 use Rattle.model.specs.Entries.{keysOf, markIn, entryIn, freeMark, commitRules}

@@ -7,14 +7,13 @@ use lib.ListN.{drop}
 use Rattle.model.specs.declared.Write.{Write}
 use Rattle.model.specs.declared.Read.{Read}
 use Rattle.model.specs.declared.Live.{Live}
-use Rattle.model.specs.declared.Entry.{Entry}
-use Rattle.model.specs.declared.Station.{Station}
+use Rattle.model.specs.Types.{Entry, Station}
 use Rattle.model.specs.declared.Phase.{Phase}
 use Rattle.model.specs.declared.Phase.the-variants.{Unused, Open, Closing}
 use Rattle.model.specs.Lists.{_and_, _or_, all, ascending, distinct}
 use Rattle.model.specs.Limits.{keys, slots, writeLimit, readLimit}
 use Rattle.model.specs.Ids.{sameId, noId}
-use Rattle.model.specs.Lives.{writesOf, readsOf, writeKey, readKey, closingSlot, closingClock, recordsStored}
+use Rattle.model.specs.Lives.{writesOf, readsOf, writeCount, writeKey, readKey, closingSlot, closingClock, recordsStored}
 use Rattle.model.specs.Entries.{wroteAs, entryRules, isNoEntry}
 use Rattle.model.specs.Stations.{liveTxns, heldTxns, holds, closingSlots}
 
@@ -49,7 +48,7 @@ inUse es l = leb 1 (l .txn) and setsRight l and all (names es) (readsOf l) and z
 -- (that no other closing transaction has it is said of the whole station)
 unfoldable pub closingRight : Station → Live → Bool
 closingRight st l =
-    leb 1 (l .«write_count») and leb 1 (closingClock (l .phase)) and leb (recordsStored (l .phase)) (l .«write_count» + 1)
+    leb 1 (writeCount l) and leb 1 (closingClock (l .phase)) and leb (recordsStored (l .phase)) (writeCount l + 1)
     and ltb (closingSlot (l .phase)) slots and not (holds st (closingSlot (l .phase)))
 
 unfoldable pub placeRight : Station → Phase → Live → Bool

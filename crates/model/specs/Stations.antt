@@ -5,12 +5,11 @@ use mathlib.Core.List.{List, map}
 use lib.Dec.{eqb}
 use lib.ListN.{getD, replicate, set}
 use Rattle.model.specs.declared.Live.{Live}
-use Rattle.model.specs.declared.Entry.{Entry}
-use Rattle.model.specs.declared.Station.{Station}
+use Rattle.model.specs.Types.{Entry, Station}
 use Rattle.model.specs.Lists.{_and_, first, member}
 use Rattle.model.specs.Limits.{livePlaces, slots}
 use Rattle.model.specs.Lives.{noLive, liveBeyond, slotMark}
-use Rattle.model.specs.Entries.{noEntry, entryBeyond}
+use Rattle.model.specs.Entries.{noEntry}
 
 -- ── stations, built here alone ──
 -- no live transaction, and these entries
@@ -33,7 +32,7 @@ unfoldable pub liveAt : Station → ℕ → Live
 liveAt st i = getD (st .live) i liveBeyond
 
 unfoldable pub entryAt : Station → ℕ → Entry
-entryAt st d = getD (st .entries) d entryBeyond
+entryAt st d = getD (st .entries) d noEntry
 
 -- ── transactions by number; 0 stands for an unused place or entry ──
 unfoldable pub liveTxns : Station → List ℕ

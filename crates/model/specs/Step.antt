@@ -6,11 +6,11 @@ use lib.Dec.{eqb, ltb}
 use lib.ListN.{getD}
 use Rattle.model.specs.declared.Write.{Write}
 use Rattle.model.specs.declared.Live.{Live}
-use Rattle.model.specs.declared.Station.{Station}
+use Rattle.model.specs.Types.{Station}
 use Rattle.model.specs.declared.Phase.{Phase}
 use Rattle.model.specs.declared.Phase.the-variants.{Unused, Open, Closing}
 use Rattle.model.specs.declared.Answer.the-variants as A
-use Rattle.model.specs.Lives.{noWrite, noLive, isClosing, closingSlot, recordsStored, withPhase}
+use Rattle.model.specs.Lives.{noWrite, noLive, writeCount, isClosing, closingSlot, recordsStored, withPhase}
 use Rattle.model.specs.Entries.{entryFor, commitRecord}
 use Rattle.model.specs.Stations.{liveAt, setLive, setEntry, isLive, placeOf}
 use Rattle.model.specs.Records.{versionRecord}
@@ -29,9 +29,9 @@ stepped st i l p =
     let w : Write = getD (l .writes) j noWrite in
     let on : Station = setLive st i (withPhase (oneMore p) l) in
     -- "The first n steps store version slips 1 to n."
-    cond (ltb j (l .«write_count»)) (saysStoring (A.Stored (w .key)) on d (j + 1) (versionRecord (w .key) (entryFor l .id) (w .value)))
+    cond (ltb j (writeCount l)) (saysStoring (A.Stored (w .key)) on d (j + 1) (versionRecord (w .key) (entryFor l .id) (w .value)))
     -- "Step n + 1 stores the commit slip."
-    (cond (eqb j (l .«write_count»)) (saysStoring (A.Slipped d) on d 0 (commitRecord (entryFor l)))
+    (cond (eqb j (writeCount l)) (saysStoring (A.Slipped d) on d 0 (commitRecord (entryFor l)))
     -- "Step n + 2 stores nothing: it makes the entry, ends the ticket and acknowledges (§3.3)."
     (says (A.Done (entryFor l .id)) (setEntry (setLive st i noLive) d (entryFor l))))
 

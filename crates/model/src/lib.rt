@@ -5,8 +5,9 @@ ghost use Prim.Native.Nat.{_≤_};
 ghost use lib.ListN.{length};
 ghost use Rattle.model.specs.Limits.{writeLimit, readLimit};
 ghost use Rattle.model.specs.Ids.{sameId};
-ghost use Rattle.model.specs.Lives.{blank, readsOf};
-ghost use Rattle.model.specs.Entries.{keysOf, wrote, noEntry};
+ghost use Rattle.model.specs.Listed.{listedEntry, listed};
+ghost use Rattle.model.specs.Lives.{blank, readsOf, writeCount};
+ghost use Rattle.model.specs.Entries.{noEntry};
 ghost use Rattle.model.specs.Stations.{emptyStation};
 
 // 01's id: the pair (clock, ticket) of a committed transaction.
@@ -44,11 +45,10 @@ pub struct Live {
     pub reads: [Read; Station::READS],
 }
 
-// A committed transaction of the commit set (01's entry, a held drawer): its id and write set.
+// A committed transaction of the commit set (01's entry, a held drawer): its id and write set, in which bit k stands for key k (02 §5).
 pub struct Entry {
     pub id: Id,
-    pub count: u8,
-    pub keys: [u8; Station::WRITES],
+    pub keys: u64,
 }
 
 // 01's station, the paper's node: all that is lost when power goes.
@@ -112,6 +112,9 @@ impl Station {
 
     pub const LAST_KEY: u8 = Station::KEYS_U8 - 1;
 
+    // After it there is no clock.
+    pub const LAST_CLOCK: u64 = 18446744073709551615;
+
     // The bytes of a record; of a slot, which has a commit record and one for each key of a write set; of a store.
     pub const RECORD: usize = 24;
 
@@ -121,7 +124,7 @@ impl Station {
 
     // The station made from nothing. Measured: made of blank and no_entry it is not inlined, and a scan costs a copy more.
     pub fn empty() -> Station
-        ensures { λ r. ⌜ r ≡ emptyStation ⌝ }
+        ensures { λ r. ⌜ listed r ≡ emptyStation ⌝ }
     {
         let id = Id { clock: 0, txn: 0 };
         let write = Write { key: 0, value: 0 };
@@ -134,11 +137,7 @@ impl Station {
             read_count: 0,
             reads: [read; Station::READS],
         };
-        let entry = Entry {
-            id: id,
-            count: 0,
-            keys: [0; Station::WRITES],
-        };
+        let entry = Entry { id: id, keys: 0 };
         Station {
             live: [live; Station::LIVE],
             entries: [entry; Station::SLOTS],
@@ -166,14 +165,10 @@ pub fn blank(txn: u32, phase: Phase) -> Live
 
 // The unused entry.
 pub fn no_entry() -> Entry
-    ensures { λ r. ⌜ r ≡ noEntry ⌝ }
+    ensures { λ r. ⌜ listedEntry r ≡ noEntry ⌝ }
 {
     let id = Id { clock: 0, txn: 0 };
-    Entry {
-        id,
-        count: 0,
-        keys: [0; Station::WRITES],
-    }
+    Entry { id, keys: 0 }
 }
 
 pub fn wide(x: u8) -> usize
@@ -192,16 +187,16 @@ pub fn same_id(a: Id, b: Id) -> bool
     a.txn == b.txn
 }
 
-// How many keys the entry wrote.
-pub fn key_count(e: Entry) -> usize
+// How many keys the transaction writes.
+pub fn write_count(l: Live) -> u8
     ensures { λ r. ⌜ r ≤ writeLimit ⌝ }
-    ensures { λ r. ⌜ r ≡ length (keysOf e) ⌝ }
+    ensures { λ r. ⌜ r ≡ writeCount l ⌝ }
 {
-    let n = e.count;
+    let n = l.write_count;
     if n < Station::WRITES_U8 {
-        wide(n)
+        n
     } else {
-        Station::WRITES
+        Station::WRITES_U8
     }
 }
 
@@ -216,20 +211,4 @@ pub fn read_count(l: Live) -> usize
     } else {
         Station::READS
     }
-}
-
-// Whether the entry wrote the key.
-pub fn wrote_key(e: Entry, key: u8) -> bool
-    ensures { λ r. ⌜ r ≡ wrote e key ⌝ }
-{
-    let n = key_count(e);
-    let mut j = 0;
-    while j < n {
-        let k = e.keys[j];
-        if k == key {
-            return true;
-        }
-        j += 1;
-    }
-    false
 }

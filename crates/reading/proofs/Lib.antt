@@ -1,10 +1,12 @@
 pub mod Order
 pub mod Loops
 pub mod ColumnLoop
+pub mod KeyLoop
 pub mod Marks
 pub mod Rows
 pub mod Bounds
 pub mod Seen
+pub mod CommonKeys
 pub mod Search
 pub mod Facts
 pub mod Superseding

@@ -1,14 +1,15 @@
 -- Laws of loops over a list: an array that is filled from its front, and a search.
-use Prim.Native.Nat.{ℕ, _+_, _<_, _≤_}
-use mathlib.Core.Path.{_≡_, sym, ap, _∙_}
+use Prim.Native.Nat.{ℕ, zero, suc, _+_, _<_, _≤_}
+use mathlib.Core.Path.{_≡_, refl, sym, ap, _∙_}
 use mathlib.Core.Bool.{Bool, true, false, true≢false}
-use mathlib.Core.List.{List}
-use lib.ListN.{length, getD, set, length-set, List·getD-eq-default}
-use native.Mathlib.Nat.{not-suc-le-zero}
+use mathlib.Core.List.{List, [], _∷_}
+use lib.ListN.{length, take, getD, set, length-set, List·getD-eq-default}
+use native.Mathlib.Nat.{not-suc-le-zero, le-of-suc-le-suc}
 use native.Mathlib.Decide.{decLt}
+use native.Mathlib.Numerals.{add-one}
 use native.Mathlib.Omega.{arith}
-use Rattle.model.specs.Lists.{any}
-use Rattle.model.proofs.ListLaws.{at-set, any-at, any-none-of}
+use Rattle.model.specs.Lists.{_or_, any}
+use Rattle.model.proofs.ListLaws.{at-set, any-yes, any-no, any-at, any-none-of}
 
 -- n elements, of which the first i are f's
 abbrev pub Filled : {A : Type 0} → (ℕ → A) → A → ℕ → ℕ → List A → Type 0
@@ -40,3 +41,20 @@ module _ {A : Type 0} where
       go : Dec (j < length l) → any p l ≡ true
       go (yes o) = any-at p l d j o h
       go (no o) = absurd (true≢false (sym h ∙ (ap p (List·getD-eq-default l d {n = j} (omega arith)) ∙ n)))
+
+  -- one of the first i + 1 passes: one of the first i, or the next
+  pub any-take-more : (p : A → Bool) (l : List A) (i : ℕ) (z : A) → i < length l → any p (take (i + 1) l) ≡ (any p (take i l) or p (getD l i z))
+  any-take-more p l i z o = rw (add-one i) (go l i o)
+    where
+      go : (l : List A) (i : ℕ) → i < length l → any p (take (suc i) l) ≡ (any p (take i l) or p (getD l i z))
+      go [] i u = absurd (not-suc-le-zero u)
+      go (x ∷ xs) zero u = one (p x) refl
+        where
+          one : (b : Bool) → p x ≡ b → any p (x ∷ []) ≡ (any p [] or p x)
+          one true e = unfold any in unfold _or_ in (any-yes p x [] e ∙ sym e)
+          one false e = unfold any in unfold _or_ in (any-no p x [] e ∙ sym e)
+      go (x ∷ xs) (suc i) u = both (p x) refl (go xs i (le-of-suc-le-suc u))
+        where
+          both : (b : Bool) → p x ≡ b → any p (take (suc i) xs) ≡ (any p (take i xs) or p (getD xs i z)) → any p (x ∷ take (suc i) xs) ≡ (any p (x ∷ take i xs) or p (getD xs i z))
+          both true e ih = unfold _or_ in (any-yes p x (take (suc i) xs) e ∙ sym (ap (λ (b : Bool). b or p (getD xs i z)) (any-yes p x (take i xs) e)))
+          both false e ih = any-no p x (take (suc i) xs) e ∙ (ih ∙ sym (ap (λ (b : Bool). b or p (getD xs i z)) (any-no p x (take i xs) e)))

@@ -1,4 +1,5 @@
 pub mod ListSteps
 pub mod WriteLoop
 pub mod ByteLaws
+pub mod FieldLaws
 pub mod SlotSteps

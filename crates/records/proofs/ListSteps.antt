@@ -10,7 +10,7 @@ use lib.Seq.{getD-take}
 use native.Mathlib.Omega.{arith}
 use native.Mathlib.Numerals.{add-one}
 use borrow.Author.Tests.{lt-ltb, le-ltb, le-leb, lt-leb, eq-eqb, ne-eqb}
-use Rattle.model.specs.Lists.{_and_, all, ascending}
+use Rattle.model.specs.Lists.{_and_, _or_, all, ascending}
 use Rattle.model.proofs.Tests.{and-intro, and-none-left, and-none-right}
 use Rattle.model.proofs.RestLaws.{rest-next, all-more, all-stop, all-end}
 

@@ -1,27 +1,31 @@
 -- What is read of a slot's bytes, step by step.
 use Prim.Native.Nat.{ℕ, _+_, _*_, _-_, _<_, _≤_}
-use mathlib.Core.Path.{_≡_, refl, sym, ap, ap₂, subst, _∙_}
+use mathlib.Core.Path.{_≡_, refl, sym, ap, ap₂, _∙_}
 use mathlib.Core.Logic.{_≢_}
 use mathlib.Core.Bool.{Bool, true, false}
 use mathlib.Core.List.{List}
 use lib.Dec.{eqb, lit<}
 use lib.ListN.{length, take, drop, getD}
-use lib.Seq.{getD-take}
+use lib.Seq.{getD-take, length-take-le}
 use native.Mathlib.Omega.{arith}
 use borrow.Rule.Slice.PartMut.{mid-len}
 use native.Mathlib.Numerals.{add-one}
 use borrow.Author.Tests.{eq-eqb, ne-eqb}
 use Rattle.model.specs.declared.Id.{Id}
-use Rattle.model.specs.declared.Entry.{Entry}
+use Rattle.model.specs.Types.{Entry}
 use Rattle.model.specs.Lists.{_and_}
-use Rattle.model.specs.Limits.{recordSize}
-use Rattle.model.specs.Entries.{markIn, entryIn, freeMark, committedMark, entryRules, commitRules, noEntry, keysOf}
+use Rattle.model.specs.Limits.{recordSize, slotSize}
+use Rattle.model.specs.KeySets.{keySet}
+use Rattle.model.specs.Entries.{markIn, entryIn, freeMark, committedMark, carriesKeys, entryRules, commitRules, keysOf}
 use Rattle.model.specs.Records.{carriesVersion, recordPlace, recordAt}
-use Rattle.model.specs.Slots.{versionsCarry, judged, seen}
-use Rattle.model.proofs.Tests.{and-intro, and-none-left, and-none-right}
-use Rattle.records.specs.declared.Mark.the-variants.{Free, Committed, Damaged}
-use Rattle.records.specs.SlotView.{asSlot, slotWith}
+use Rattle.model.specs.Slots.{committed, versionsCarry, judged, seen}
+use Rattle.model.proofs.Tests.{and-intro, and-none-left, and-none-right, and-assoc}
+use Rattle.records.specs.declared.Fields.{Fields}
+use Rattle.records.specs.declared.Slot.the-variants.{Free, Committed, Damaged}
+use Rattle.records.specs.Fields.{fieldsIn, firstKeys, fieldRules}
+use Rattle.records.specs.SlotView.{seenAs}
 use Rattle.records.proofs.ListSteps.{taken-next, taken-end}
+use Rattle.records.proofs.FieldLaws.{entry-fields, rules-fields}
 
 -- ── the version records ──
 -- record n, as a part of the slot's bytes
@@ -62,39 +66,52 @@ module _ (w : List ℕ) where
   abbrev kept : Bool
   kept = commitRules (recordAt w 0 0) and versionsCarry (recordAt w 0) (entryIn (recordAt w 0 0) .id) 1 (keysOf (entryIn (recordAt w 0 0)))
 
-  slot-is : (a b : Bool) → eqb (markIn (recordAt w 0 0)) freeMark ≡ a → kept ≡ b → asSlot (seen w 0) ≡ asSlot (judged a b (entryIn (recordAt w 0 0)))
+  slot-is : (a b : Bool) → eqb (markIn (recordAt w 0 0)) freeMark ≡ a → kept ≡ b → seen w 0 ≡ judged a b (entryIn (recordAt w 0 0))
   unfolding seen
-  slot-is a b p q = ap₂ (λ (x y : Bool). asSlot (judged x y (entryIn (recordAt w 0 0)))) p q
+  slot-is a b p q = ap₂ (λ (x y : Bool). judged x y (entryIn (recordAt w 0 0))) p q
 
-  pub slot-free : getD w 0 0 ≡ freeMark → asSlot (seen w 0) ≡ slotWith Free noEntry
-  unfolding asSlot judged
-  slot-free h = slot-is true kept (eq-eqb _ freeMark (first-byte ∙ h)) refl
+  pub slot-free : getD w 0 0 ≡ freeMark → seenAs Free ≡ seen w 0
+  unfolding seenAs judged
+  slot-free h = sym (slot-is true kept (eq-eqb _ freeMark (first-byte ∙ h)) refl)
 
-  module _ (m : getD w 0 0 ≢ freeMark) where
+  module _ (l : length w ≡ slotSize) (m : getD w 0 0 ≢ freeMark) where
     mark-set : eqb (markIn (recordAt w 0 0)) freeMark ≡ false
     mark-set = ne-eqb (markIn (recordAt w 0 0)) freeMark (λ e. m (sym first-byte ∙ e))
 
-    slot-damaged : kept ≡ false → asSlot (seen w 0) ≡ slotWith Damaged noEntry
-    unfolding asSlot judged
-    slot-damaged h = slot-is false false mark-set h
+    slot-damaged : kept ≡ false → seenAs Damaged ≡ seen w 0
+    unfolding seenAs judged
+    slot-damaged h = sym (slot-is false false mark-set h)
 
-    -- by its mark and zeros, by its entry's rules, and by its version records
-    pub slot-no-commit : head (take recordSize w) ≡ false → asSlot (seen w 0) ≡ slotWith Damaged noEntry
-    unfolding recordAt commitRules
-    slot-no-commit h = slot-damaged (and-none-left _ _ (and-none-left _ _ h))
+    -- the rules by the fields
+    rules-are : commitRules (take recordSize w) ≡ (head (take recordSize w) and fieldRules (fieldsIn (take recordSize w)))
+    unfolding commitRules
+    rules-are =
+        sym (and-assoc (head (take recordSize w)) (carriesKeys (take recordSize w) (keysOf (entryIn (take recordSize w)))) (entryRules (entryIn (take recordSize w))))
+        ∙ ap (λ (b : Bool). head (take recordSize w) and b) (rules-fields (take recordSize w) (length-take-le recordSize w (omega arith)))
 
-    module _ (e : Entry) (q : e ≡ entryIn (take recordSize w)) where
-      pub slot-no-entry : entryRules e ≡ false → asSlot (seen w 0) ≡ slotWith Damaged noEntry
-      unfolding recordAt commitRules
-      slot-no-entry h = slot-damaged (and-none-left _ _ (and-none-right _ _ (subst (λ (x : Entry). entryRules x ≡ false) q h)))
+    -- by its mark and zeros, by its fields' rules, and by its version records
+    pub slot-no-commit : head (take recordSize w) ≡ false → seenAs Damaged ≡ seen w 0
+    unfolding recordAt
+    slot-no-commit h = slot-damaged (and-none-left _ _ (rules-are ∙ and-none-left _ _ h))
 
-      pub slot-no-versions : versionsCarry (recordAt w 0) (e .id) 1 (keysOf e) ≡ false → asSlot (seen w 0) ≡ slotWith Damaged noEntry
+    module _ (f : Fields) (q : f ≡ fieldsIn (take recordSize w)) where
+      entry-is : entryIn (take recordSize w) ≡ record { id = f .id; keys = firstKeys f }
+      entry-is = entry-fields (take recordSize w) ∙ ap (λ (x : Fields). record { id = x .id; keys = firstKeys x }) (sym q)
+
+      versions-are : versionsCarry (recordAt w 0) (entryIn (take recordSize w) .id) 1 (keysOf (entryIn (take recordSize w))) ≡ versionsCarry (recordAt w 0) (f .id) 1 (firstKeys f)
+      versions-are = ap (λ (x : Entry). versionsCarry (recordAt w 0) (x .id) 1 (keysOf x)) entry-is
+
+      pub slot-no-rules : fieldRules f ≡ false → seenAs Damaged ≡ seen w 0
       unfolding recordAt
-      slot-no-versions h = slot-damaged (and-none-right _ _ (subst (λ (x : Entry). versionsCarry (recordAt w 0) (x .id) 1 (keysOf x) ≡ false) q h))
+      slot-no-rules h = slot-damaged (and-none-left _ _ (rules-are ∙ and-none-right _ _ (ap fieldRules (sym q) ∙ h)))
 
-      pub slot-committed : head (take recordSize w) ≡ true → entryRules e ≡ true → versionsCarry (recordAt w 0) (e .id) 1 (keysOf e) ≡ true → asSlot (seen w 0) ≡ slotWith Committed e
-      unfolding asSlot judged recordAt commitRules
-      slot-committed h k v =
-          slot-is false true mark-set
-          (and-intro _ _ (and-intro _ _ h (subst (λ (x : Entry). entryRules x ≡ true) q k)) (subst (λ (x : Entry). versionsCarry (recordAt w 0) (x .id) 1 (keysOf x) ≡ true) q v))
-          ∙ ap (slotWith Committed) (sym q)
+      pub slot-no-versions : versionsCarry (recordAt w 0) (f .id) 1 (firstKeys f) ≡ false → seenAs Damaged ≡ seen w 0
+      unfolding recordAt
+      slot-no-versions h = slot-damaged (and-none-right _ _ (versions-are ∙ h))
+
+      pub slot-committed : head (take recordSize w) ≡ true → fieldRules f ≡ true → versionsCarry (recordAt w 0) (f .id) 1 (firstKeys f) ≡ true
+          → (set : ℕ) → keySet set ≡ take (f .count) (f .keys) → seenAs (Committed (record { id = f .id; keys = set })) ≡ seen w 0
+      unfolding seenAs judged recordAt firstKeys
+      slot-committed h k v set e =
+          ap committed (ap (λ (ks : List ℕ). record { id = f .id; keys = ks }) e ∙ sym entry-is)
+          ∙ sym (slot-is false true mark-set (and-intro _ _ (rules-are ∙ and-intro _ _ h (ap fieldRules (sym q) ∙ k)) (versions-are ∙ v)))

@@ -1,9 +1,13 @@
 // The bytes of a record and of a slot, read and written. Their meaning is defined in model's specs/Bytes, Entries, Records and Slots.
+use keysets::key_bytes;
+use keysets::key_count;
+use keysets::with_key;
 use model::Entry;
 use model::Id;
 use model::Station;
 use model::same_id;
 ghost use mathlib.Core.Path.{_≡_};
+ghost use mathlib.Core.Bool.{true};
 ghost use Prim.Native.Nat.{_≤_, _<_, _^_};
 ghost use mathlib.Core.List.{_++_};
 ghost use lib.Dec.{eqb};
@@ -11,26 +15,31 @@ ghost use lib.ListN.{length, take, drop, getD};
 ghost use Rattle.model.specs.Lists.{_and_, all, ascending, same};
 ghost use Rattle.model.specs.Limits.{keys, writeLimit, recordSize, slotSize, byteRange};
 ghost use Rattle.model.specs.Bytes.{bytes, number, idIn, headBytes};
-ghost use Rattle.model.specs.Entries.{markIn, entryIn, committedMark, commitRecord, entryRules, carriesEntry, noEntry, keysOf};
+ghost use Rattle.model.specs.KeySets.{keySet};
+ghost use Rattle.model.specs.Listed.{listedEntry};
+ghost use Rattle.model.specs.Entries.{markIn, committedMark, commitRecord, carriesEntry};
 ghost use Rattle.model.specs.Records.{valueIn, versionRecord, zeroRecord, carriesVersion, recordAt};
 ghost use Rattle.model.specs.Slots.{versionsCarry, seen};
-ghost use Rattle.records.specs.SlotView.{slotWith, asSlot};
+ghost use Rattle.records.specs.Fields.{fieldsIn, firstKeys, fieldRules};
+ghost use Rattle.records.specs.SlotView.{seenAs};
 
 // A commit record's first byte, 01's mark.
 const FREE_MARK: u8 = 0;
 
 const COMMITTED_MARK: u8 = 1;
 
-pub enum Mark {
+// What a slot, 01's drawer, is read as.
+pub enum Slot {
     Free,
-    Committed,
+    Committed(Entry),
     Damaged,
 }
 
-// What a slot, 01's drawer, is read as; the entry is all zero unless the slot is committed.
-pub struct Slot {
-    pub mark: Mark,
-    pub entry: Entry,
+// What a commit record's bytes say of a write set: its count, and its eight key bytes.
+struct Fields {
+    id: Id,
+    count: u8,
+    keys: [u8; Station::WRITES],
 }
 
 // The number that bytes make, least byte first: from the last byte down, so that no power of 256 is kept.
@@ -97,7 +106,8 @@ fn is_commit(r: &[u8]) -> bool
 // A commit record carries an entry.
 pub fn carries_entry(r: &[u8], e: Entry) -> bool
     requires { ⌜ length (now r) ≡ recordSize ⌝ }
-    ensures { λ b. ⌜ b ≡ carriesEntry (now (r .entry)) e ⌝ }
+    requires { ⌜ length (keySet (e .keys)) ≤ writeLimit ⌝ }
+    ensures { λ b. ⌜ b ≡ carriesEntry (now (r .entry)) (listedEntry e) ⌝ }
 {
     if !is_commit(r) {
         return false;
@@ -106,10 +116,10 @@ pub fn carries_entry(r: &[u8], e: Entry) -> bool
     if !same_id(id_in(r), id) {
         return false;
     }
-    if r[1] != e.count {
+    if r[1] != key_count(e.keys) {
         return false;
     }
-    let keys = e.keys;
+    let keys = key_bytes(e.keys);
     same_keys(&r[16..24], keys)
 }
 
@@ -133,13 +143,13 @@ pub fn carries_version(r: &[u8], key: u8, id: Id) -> bool
     same_id(id_in(r), id)
 }
 
-// The entry of a commit record.
-fn entry_in(r: &[u8]) -> Entry
+// The fields of a commit record.
+fn fields_in(r: &[u8]) -> Fields
     requires { ⌜ length (now r) ≡ recordSize ⌝ }
-    ensures { λ e. ⌜ e ≡ entryIn (now (r .entry)) ⌝ }
+    ensures { λ f. ⌜ f ≡ fieldsIn (now (r .entry)) ⌝ }
 {
     let id = id_in(r);
-    Entry {
+    Fields {
         id,
         count: r[1],
         keys: [r[16], r[17], r[18], r[19], r[20], r[21], r[22], r[23]],
@@ -182,40 +192,40 @@ fn rest_zero(keys: [u8; Station::WRITES], count: usize) -> bool
     true
 }
 
-// The rules of a committed entry.
-fn keeps_rules(e: Entry) -> bool
-    ensures { λ r. ⌜ r ≡ entryRules e ⌝ }
+// The rules of a commit record.
+fn keeps_rules(f: Fields) -> bool
+    ensures { λ r. ⌜ r ≡ fieldRules f ⌝ }
 {
-    let count = e.count as usize;
+    let count = f.count as usize;
     if count == 0 {
         return false;
     }
     if count > Station::WRITES {
         return false;
     }
-    let id = e.id;
+    let id = f.id;
     if id.txn == 0 {
         return false;
     }
     if id.clock == 0 {
         return false;
     }
-    let keys = e.keys;
+    let keys = f.keys;
     if !keys_ascend(keys, count) {
         return false;
     }
     rest_zero(keys, count)
 }
 
-// A slot's version records carry an entry's keys and its id; records above its count are leftovers and are not read.
-fn versions_carry(w: &[u8], e: Entry) -> bool
+// A slot's version records carry the commit record's keys and its id; records above its count are leftovers and are not read.
+fn versions_carry(w: &[u8], f: Fields) -> bool
     requires { ⌜ length (now w) ≡ slotSize ⌝ }
-    requires { ⌜ e .count ≤ writeLimit ⌝ }
-    ensures { λ r. ⌜ r ≡ versionsCarry (recordAt (now (w .entry)) 0) (e .id) 1 (keysOf e) ⌝ }
+    requires { ⌜ f .count ≤ writeLimit ⌝ }
+    ensures { λ r. ⌜ r ≡ versionsCarry (recordAt (now (w .entry)) 0) (f .id) 1 (firstKeys f) ⌝ }
 {
-    let keys = e.keys;
-    let count = e.count as usize;
-    let id = e.id;
+    let keys = f.keys;
+    let count = f.count as usize;
+    let id = f.id;
     let mut n = 0;
     while n < count {
         let at = Station::RECORD * (n + 1);
@@ -227,40 +237,43 @@ fn versions_carry(w: &[u8], e: Entry) -> bool
     true
 }
 
-fn without_entry(mark: Mark) -> Slot
-    ensures { λ r. ⌜ r ≡ slotWith mark noEntry ⌝ }
+// The first `count` keys as one number.
+fn set_of(ks: [u8; Station::WRITES], count: usize) -> u64
+    requires { ⌜ count ≤ writeLimit ⌝ }
+    requires { ⌜ ascending 0 keys (take count ks) ≡ true ⌝ }
+    ensures { λ r. ⌜ keySet r ≡ take count ks ⌝ }
 {
-    let id = Id { clock: 0, txn: 0 };
-    let entry = Entry {
-        id,
-        count: 0,
-        keys: [0; Station::WRITES],
-    };
-    Slot { mark, entry }
+    let mut set = 0u64;
+    let mut i = 0;
+    while i < count {
+        set = with_key(set, ks[i]);
+        i += 1;
+    }
+    set
 }
 
 // What a slot's 216 bytes are read as; a free slot's are not read on.
 pub fn read_slot(w: &[u8]) -> Slot
     requires { ⌜ length (now w) ≡ slotSize ⌝ }
-    ensures { λ r. ⌜ r ≡ asSlot (seen (now (w .entry)) 0) ⌝ }
+    ensures { λ r. ⌜ seenAs r ≡ seen (now (w .entry)) 0 ⌝ }
 {
     if w[0] == FREE_MARK {
-        return without_entry(Mark::Free);
+        return Slot::Free;
     }
     if !is_commit(&w[0..Station::RECORD]) {
-        return without_entry(Mark::Damaged);
+        return Slot::Damaged;
     }
-    let e = entry_in(&w[0..Station::RECORD]);
-    if !keeps_rules(e) {
-        return without_entry(Mark::Damaged);
+    let f = fields_in(&w[0..Station::RECORD]);
+    if !keeps_rules(f) {
+        return Slot::Damaged;
     }
-    if !versions_carry(w, e) {
-        return without_entry(Mark::Damaged);
+    if !versions_carry(w, f) {
+        return Slot::Damaged;
     }
-    Slot {
-        mark: Mark::Committed,
-        entry: e,
-    }
+    let id = f.id;
+    let keys = f.keys;
+    let set = set_of(keys, f.count as usize);
+    Slot::Committed(Entry { id, keys: set })
 }
 
 // A number's bytes, least byte first, over the part lent.
@@ -289,7 +302,7 @@ fn write_head(part: &mut [u8], first: u8, second: u8, id: Id)
     write_number(&mut part[8..16], id.clock);
 }
 
-pub fn write_keys(part: &mut [u8], keys: [u8; Station::WRITES])
+fn write_keys(part: &mut [u8], keys: [u8; Station::WRITES])
     requires { ⌜ length (now part) ≡ writeLimit ⌝ }
     ensures { λ _. ⌜ now (part .exit) ≡ keys ⌝ }
 {
@@ -312,11 +325,12 @@ pub fn write_version(part: &mut [u8], key: u8, id: Id, value: u64)
 // A commit record over the part lent.
 pub fn write_commit(part: &mut [u8], e: Entry)
     requires { ⌜ length (now part) ≡ recordSize ⌝ }
-    ensures { λ _. ⌜ now (part .exit) ≡ commitRecord e ⌝ }
+    requires { ⌜ length (keySet (e .keys)) ≤ writeLimit ⌝ }
+    ensures { λ _. ⌜ now (part .exit) ≡ commitRecord (listedEntry e) ⌝ }
 {
     let id = e.id;
-    let keys = e.keys;
-    write_head(part, COMMITTED_MARK, e.count, id);
+    let keys = key_bytes(e.keys);
+    write_head(part, COMMITTED_MARK, key_count(e.keys), id);
     write_keys(&mut part[16..24], keys);
 }
 

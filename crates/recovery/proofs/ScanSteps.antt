@@ -1,34 +1,35 @@
 -- A scan, slot by slot: what holds of the slots passed, one slot more, and what is answered.
-use Prim.Native.Nat.{ℕ, _+_, _*_, _-_, _<_, _≤_}
+use Prim.Native.Nat.{ℕ, suc, _+_, _*_, _-_, _<_, _≤_}
 use mathlib.Core.Path.{_≡_, refl, sym, ap, ap₂, subst, _∙_}
 use mathlib.Core.Logic.{_≢_}
 use mathlib.Core.Bool.{Bool, true, false}
-use mathlib.Core.List.{List, [], _∷_, _++_, map}
-use lib.ListN.{length, take, drop, getD, replicate, set, length-set}
-use lib.Seq.{take-all, take-suc, take-suc-set}
+use mathlib.Core.List.{List, [], _∷_, _++_, map, append-assoc, append-nil}
+use lib.ListN.{length, take, drop, getD, replicate, set, length-set, length-map}
+use lib.Seq.{take-all, take-suc, take-at, length-take-le}
 use native.Mathlib.Nat.{not-suc-le-zero}
 use native.Mathlib.Decide.{ℕ-discrete}
 use native.Mathlib.Omega.{arith}
 use native.Mathlib.Numerals.{add-one}
 use borrow.Rule.Slice.PartMut.{mid-len}
 use borrow.Author.Tests.{eq-eqb, ne-eqb}
-use Rattle.model.specs.declared.Entry.{Entry}
-use Rattle.model.specs.declared.Station.{Station}
+use Rattle.model.specs.declared as machine
+use Rattle.model.specs.Types.{Entry, Station}
 use Rattle.model.specs.declared.Answer.{Answer}
 use Rattle.model.specs.declared.Answer.the-variants as A
 use Rattle.model.specs.Lists.{any, count, member}
 use Rattle.model.specs.Limits.{slots, slotSize, storeSize}
+use Rattle.model.specs.Listed.{listedEntry, listedEntries, listed, listedOutcome}
+use Rattle.model.specs.Entries.{noEntry}
 use Rattle.model.specs.Stations.{emptyStation, idleStation}
 use Rattle.model.specs.Slots.{Seen, free, committed, damaged, seen}
 use Rattle.model.specs.Effects.{outcomeOf, says}
 use Rattle.model.specs.Scan.{slotsSeen, entrySeen, isCommitted, breaks, scan}
 use Rattle.model.proofs.ListLaws.{count-yes, count-no, member-yes, member-no}
+use Rattle.model.proofs.ListedLaws.{listed-set}
 use Rattle.model.proofs.SlotLaws.{slot-part}
 use Rattle.model.proofs.ScanLaws.{seen-length, seen-at, txnSeen, none-keeps, scan-finds, scan-refused}
 use Rattle.records.specs.declared.Slot.{Slot}
-use Rattle.records.specs.declared.Mark.{Mark}
-use Rattle.records.specs.declared.Mark.the-variants.{Free, Committed, Damaged}
-use Rattle.records.specs.SlotView.{asSlot}
+use Rattle.records.specs.SlotView.{seenAs}
 use Rattle.records.proofs.ListSteps.{taken-next, taken-end}
 
 -- ── a column of numbers searched ──
@@ -43,7 +44,7 @@ module _ (ts : List ℕ) (n i t : ℕ) where
   unfolding member any
   column-end h = ap (member t) (taken-end ts n i h)
 
--- ── a slot's bytes, and its mark ──
+-- ── a slot's bytes ──
 pub part-slot : (s : List ℕ) (d : ℕ) → seen (take (slotSize * d + slotSize - slotSize * d) (drop (slotSize * d) s)) 0 ≡ seen s d
 part-slot s d =
     let e : slotSize * d + slotSize - slotSize * d ≡ slotSize = omega arith in
@@ -52,29 +53,8 @@ part-slot s d =
 pub part-length : (s : List ℕ) (d : ℕ) → length s ≡ storeSize → d < slots → length (take (slotSize * d + slotSize - slotSize * d) (drop (slotSize * d) s)) ≡ slotSize
 part-length s d l o = mid-len (slotSize * d) (slotSize * d + slotSize) s (omega arith) ∙ omega arith
 
-mark-free : (x : Seen) → asSlot x .mark ≡ Free → x ≡ free
-unfolding asSlot
-mark-free free h = refl
-mark-free (committed e) h = absurd (let z : _≡_ {A = ℕ} 0 1 = cc in omega arith)
-mark-free damaged h = absurd (let z : _≡_ {A = ℕ} 0 1 = cc in omega arith)
-
-mark-damaged : (x : Seen) → asSlot x .mark ≡ Damaged → x ≡ damaged
-unfolding asSlot
-mark-damaged free h = absurd (let z : _≡_ {A = ℕ} 0 1 = cc in omega arith)
-mark-damaged (committed e) h = absurd (let z : _≡_ {A = ℕ} 0 1 = cc in omega arith)
-mark-damaged damaged h = refl
-
-mark-committed : (x : Seen) → asSlot x .mark ≡ Committed → x ≡ committed (entrySeen x)
-unfolding asSlot entrySeen
-mark-committed free h = absurd (let z : _≡_ {A = ℕ} 0 1 = cc in omega arith)
-mark-committed (committed e) h = refl
-mark-committed damaged h = absurd (let z : _≡_ {A = ℕ} 0 1 = cc in omega arith)
-
-entry-of : (x : Seen) → asSlot x .entry ≡ entrySeen x
-unfolding asSlot entrySeen
-entry-of free = refl
-entry-of (committed e) = refl
-entry-of damaged = refl
+pub slot-seen : (s : List ℕ) (d : ℕ) (r x : Slot) → seenAs r ≡ seen (take (slotSize * d + slotSize - slotSize * d) (drop (slotSize * d) s)) 0 → r ≡ x → seen s d ≡ seenAs x
+slot-seen s d r x q h = sym (part-slot s d) ∙ sym q ∙ ap seenAs h
 
 -- ── one slot more ──
 count-more : (xs : List Seen) (x : Seen) → count isCommitted (xs ++ (x ∷ [])) ≡ count isCommitted xs + count isCommitted (x ∷ [])
@@ -95,103 +75,133 @@ slots-more s d o =
     let h : d < length (slotsSeen s) = omega (arith, seen-length s) in
     rw (add-one d, take-suc (slotsSeen s) d free h, seen-at s d free o)
 
--- a column: what f reads of the slots passed
-column-more : {A : Type 0} (f : Seen → A) (s : List ℕ) (d : ℕ) (l : List A) → d < slots → length l ≡ slots → take d l ≡ map f (take d (slotsSeen s))
-    → take (d + 1) (set l d (f (seen s d))) ≡ map f (take (d + 1) (slotsSeen s))
-column-more f s d l o z h =
-    let k : d < length l = omega arith in
-    ap (λ (n : ℕ). take n (set l d (f (seen s d)))) (add-one d)
-    ∙ take-suc-set l d (f (seen s d)) k
-    ∙ ap (λ m. m ++ (f (seen s d) ∷ [])) h
-    ∙ sym (map-more f (take d (slotsSeen s)) (seen s d))
-    ∙ ap (map f) (sym (slots-more s d o))
+-- ── a column: what f reads of the slots passed, and the unused value in the others ──
+set-after : {A : Type 0} (xs ys : List A) (z y : A) → set (xs ++ (z ∷ ys)) (length xs) y ≡ xs ++ (y ∷ ys)
+set-after [] ys z y = refl
+set-after (x ∷ xs) ys z y = ap (λ l. x ∷ l) (set-after xs ys z y)
+
+module _ {A : Type 0} (f : Seen → A) (z : A) (s : List ℕ) where
+  unfoldable pub column : ℕ → List A
+  column d = map f (take d (slotsSeen s)) ++ replicate (slots - d) z
+
+  column-length : (d : ℕ) → d ≤ slots → length (map f (take d (slotsSeen s))) ≡ d
+  column-length d o = length-map (take d (slotsSeen s)) f ∙ length-take-le d (slotsSeen s) (omega (arith, o, seen-length s))
+
+  column-take : (d : ℕ) → d ≤ slots → take d (column d) ≡ map f (take d (slotsSeen s))
+  unfolding column
+  column-take d o = take-at (map f (take d (slotsSeen s))) (replicate (slots - d) z) d (column-length d o)
+
+  column-all : (d : ℕ) → slots ≤ d → column d ≡ map f (slotsSeen s)
+  unfolding column
+  column-all d o =
+      let e : slots - d ≡ 0 = omega arith in
+      ap₂ (λ (xs : List Seen) (n : ℕ). map f xs ++ replicate n z) (take-all d (slotsSeen s) (omega (arith, seen-length s))) e ∙ append-nil (map f (slotsSeen s))
+
+  module _ (d : ℕ) (o : d < slots) where
+    abbrev rest : List A
+    rest = replicate (slots - (d + 1)) z
+
+    column-here : column d ≡ map f (take d (slotsSeen s)) ++ (z ∷ rest)
+    unfolding column
+    column-here = let e : slots - d ≡ suc (slots - (d + 1)) = omega arith in ap (λ (n : ℕ). map f (take d (slotsSeen s)) ++ replicate n z) e
+
+    column-next : map f (take d (slotsSeen s)) ++ (f (seen s d) ∷ rest) ≡ column (d + 1)
+    unfolding column
+    column-next =
+        sym (append-assoc (map f (take d (slotsSeen s))) (f (seen s d) ∷ []) rest)
+        ∙ ap (λ (l : List A). l ++ rest) (sym (map-more f (take d (slotsSeen s)) (seen s d)) ∙ ap (map f) (sym (slots-more s d o)))
+
+    -- the slot at hand is stored, or is left unused
+    column-set : set (column d) d (f (seen s d)) ≡ column (d + 1)
+    column-set =
+        ap₂ (λ (l : List A) (n : ℕ). set l n (f (seen s d))) column-here (sym (column-length d (omega arith)))
+        ∙ set-after (map f (take d (slotsSeen s))) rest z (f (seen s d))
+        ∙ column-next
+
+    column-left : f (seen s d) ≡ z → column d ≡ column (d + 1)
+    column-left h = column-here ∙ ap (λ (y : A). map f (take d (slotsSeen s)) ++ (y ∷ rest)) (sym h) ∙ column-next
 
 -- ── what holds of the first d slots: the entries, the column of numbers, the figure; and none breaks the rules ──
-pub record Passed (s : List ℕ) (es : List Entry) (ts : List ℕ) (n d : ℕ) : Type 0 where
+pub record Passed (s : List ℕ) (es : List machine.Entry.Entry) (ts : List ℕ) (n d : ℕ) : Type 0 where
   pub below : d ≤ slots
   pub few : n ≤ d
-  pub entry-places : length es ≡ slots
   pub txn-places : length ts ≡ slots
   pub figure : n ≡ count isCommitted (take d (slotsSeen s))
-  pub entries : take d es ≡ map entrySeen (take d (slotsSeen s))
-  pub txns : take d ts ≡ map txnSeen (take d (slotsSeen s))
+  pub entries : listedEntries es ≡ column entrySeen noEntry s d
+  pub txns : ts ≡ column txnSeen 0 s d
   pub unbroken : (j : ℕ) → j < d → breaks (take j (slotsSeen s)) (seen s j) ≡ false
 
 -- no slot passed yet
-pub passed-none : (s : List ℕ) (st : Station) → st ≡ emptyStation → Passed s (st .entries) (replicate slots 0) 0 0
-unfolding count emptyStation
+pub passed-none : (s : List ℕ) (st : machine.Station.Station) → listed st ≡ emptyStation → Passed s (st .entries) (replicate slots 0) 0 0
+unfolding count emptyStation column
 passed-none s st q = record {
   below = omega arith;
   few = omega arith;
-  entry-places = ap (λ (x : Station). length (x .entries)) q;
   txn-places = refl;
   figure = refl;
-  entries = refl;
+  entries = ap (λ (x : Station). x .entries) q;
   txns = refl;
   unbroken = λ j o. absurd (not-suc-le-zero o);
 }
 
-module _ (s : List ℕ) (es : List Entry) (ts : List ℕ) (n d : ℕ) (p : Passed s es ts n d) (o : d < slots) (r : Slot) (q : r ≡ asSlot (seen s d)) where
+module _ (s : List ℕ) (es : List machine.Entry.Entry) (ts : List ℕ) (n d : ℕ) (p : Passed s es ts n d) (o : d < slots) where
   -- a slot that keeps the rules and counts for m
-  more : (m : ℕ) → m ≤ 1 → breaks (take d (slotsSeen s)) (seen s d) ≡ false → count isCommitted (seen s d ∷ []) ≡ m → Passed s (set es d (r .entry)) (set ts d (r .entry .id .txn)) (n + m) (d + 1)
-  more m om h g = subst (λ (e : Entry). Passed s (set es d e) (set ts d (e .id .txn)) (n + m) (d + 1)) (sym (ap (λ (x : Slot). x .entry) q ∙ entry-of (seen s d))) (record {
+  more : (es′ : List machine.Entry.Entry) (ts′ : List ℕ) (m : ℕ) → m ≤ 1 → breaks (take d (slotsSeen s)) (seen s d) ≡ false → count isCommitted (seen s d ∷ []) ≡ m → length ts′ ≡ slots
+      → listedEntries es′ ≡ column entrySeen noEntry s (d + 1) → ts′ ≡ column txnSeen 0 s (d + 1) → Passed s es′ ts′ (n + m) (d + 1)
+  more es′ ts′ m om h g l a b = record {
     below = omega arith;
     few = omega arith;
-    entry-places = length-set es d (entrySeen (seen s d)) ∙ p .entry-places;
-    txn-places = length-set ts d (txnSeen (seen s d)) ∙ p .txn-places;
+    txn-places = l;
     figure = omega (arith, ap (count isCommitted) (slots-more s d o), count-more (take d (slotsSeen s)) (seen s d));
-    entries = column-more entrySeen s d es o (p .entry-places) (p .entries);
-    txns = column-more txnSeen s d ts o (p .txn-places) (p .txns);
+    entries = a;
+    txns = b;
     unbroken = λ j oj. upto j oj (ℕ-discrete j d);
-  })
+  }
     where
       upto : (j : ℕ) → j < d + 1 → Dec (j ≡ d) → breaks (take j (slotsSeen s)) (seen s j) ≡ false
       upto j oj (yes e) = subst (λ (k : ℕ). breaks (take k (slotsSeen s)) (seen s k) ≡ false) (sym e) h
       upto j oj (no f) = p .unbroken j (omega arith)
 
-  mark-seen : (m : Mark) → r .mark ≡ m → asSlot (seen s d) .mark ≡ m
-  mark-seen m h = sym (ap (λ (x : Slot). x .mark) q) ∙ h
+  -- a free slot
+  pub passed-free : seen s d ≡ free → Passed s es ts n (d + 1)
+  unfolding breaks count isCommitted entrySeen
+  passed-free x =
+      subst (λ (k : ℕ). Passed s es ts k (d + 1)) (omega arith)
+      (more es ts 0 (omega arith) (ap (breaks (take d (slotsSeen s))) x) (ap (λ y. count isCommitted (y ∷ [])) x) (p .txn-places)
+      (p .entries ∙ column-left entrySeen noEntry s d o (ap entrySeen x))
+      (p .txns ∙ column-left txnSeen 0 s d o (ap txnSeen x)))
 
-  repeated : member (r .entry .id .txn) (take d ts) ≡ breaks (take d (slotsSeen s)) (committed (entrySeen (seen s d)))
-  unfolding breaks
-  repeated = ap₂ (λ (e : Entry) (l : List ℕ). member (e .id .txn) l) (ap (λ (x : Slot). x .entry) q ∙ entry-of (seen s d)) (p .txns)
-
-  -- a free slot; a committed one whose number no lower slot has
-  pub passed-free : r .mark ≡ Free → Passed s (set es d (r .entry)) (set ts d (r .entry .id .txn)) n (d + 1)
-  unfolding breaks count isCommitted
-  passed-free h =
-      let x : seen s d ≡ free = mark-free (seen s d) (mark-seen Free h) in
-      subst (λ (k : ℕ). Passed s (set es d (r .entry)) (set ts d (r .entry .id .txn)) k (d + 1)) (omega arith)
-      (more 0 (omega arith) (ap (breaks (take d (slotsSeen s))) x) (ap (λ y. count isCommitted (y ∷ [])) x))
-
-  pub passed-committed : r .mark ≡ Committed → member (r .entry .id .txn) (take d ts) ≡ false → Passed s (set es d (r .entry)) (set ts d (r .entry .id .txn)) (n + 1) (d + 1)
-  unfolding count isCommitted
-  passed-committed h g =
-      let x : seen s d ≡ committed (entrySeen (seen s d)) = mark-committed (seen s d) (mark-seen Committed h) in
-      more 1 (omega arith) (ap (breaks (take d (slotsSeen s))) x ∙ sym repeated ∙ g) (ap (λ y. count isCommitted (y ∷ [])) x)
-
-  -- ── what is answered ──
-  module _ (l : length s ≡ storeSize) where
-    pub refused-damaged : r .mark ≡ Damaged → scan s ≡ says (A.Refused 18 d) emptyStation
+  -- a committed one, whose number no lower slot has
+  module _ (e : machine.Entry.Entry) (x : seen s d ≡ committed (listedEntry e)) where
+    repeated : breaks (take d (slotsSeen s)) (seen s d) ≡ member (e .id .txn) (take d ts)
     unfolding breaks
-    refused-damaged h = scan-refused s l d o (ap (breaks (take d (slotsSeen s))) (mark-damaged (seen s d) (mark-seen Damaged h))) (p .unbroken)
+    repeated = ap (breaks (take d (slotsSeen s))) x ∙ ap (member (e .id .txn)) (sym (ap (take d) (p .txns) ∙ column-take txnSeen 0 s d (p .below)))
 
-    pub refused-repeated : r .mark ≡ Committed → member (r .entry .id .txn) (take d ts) ≡ true → scan s ≡ says (A.Refused 18 d) emptyStation
-    refused-repeated h g =
-        let x : seen s d ≡ committed (entrySeen (seen s d)) = mark-committed (seen s d) (mark-seen Committed h) in
-        scan-refused s l d o (ap (breaks (take d (slotsSeen s))) x ∙ sym repeated ∙ g) (p .unbroken)
+    pub passed-committed : member (e .id .txn) (take d ts) ≡ false → Passed s (set es d e) (set ts d (e .id .txn)) (n + 1) (d + 1)
+    unfolding count isCommitted entrySeen
+    passed-committed g =
+        more (set es d e) (set ts d (e .id .txn)) 1 (omega arith) (repeated ∙ g) (ap (λ y. count isCommitted (y ∷ [])) x) (length-set ts d (e .id .txn) ∙ p .txn-places)
+        (listed-set es d e ∙ ap₂ (λ (l : List Entry) (y : Entry). set l d y) (p .entries) (sym (ap entrySeen x)) ∙ column-set entrySeen noEntry s d o)
+        (ap₂ (λ (l : List ℕ) (y : ℕ). set l d y) (p .txns) (sym (ap txnSeen x)) ∙ column-set txnSeen 0 s d o)
+
+    pub refused-repeated : length s ≡ storeSize → member (e .id .txn) (take d ts) ≡ true → scan s ≡ says (A.Refused 18 d) emptyStation
+    refused-repeated l g = scan-refused s l d o (repeated ∙ g) (p .unbroken)
+
+  pub refused-damaged : length s ≡ storeSize → seen s d ≡ damaged → scan s ≡ says (A.Refused 18 d) emptyStation
+  unfolding breaks
+  refused-damaged l x = scan-refused s l d o (ap (breaks (take d (slotsSeen s))) x) (p .unbroken)
 
 -- all slots passed
-pub found-all : (s : List ℕ) (es : List Entry) (ts : List ℕ) (n d : ℕ) → Passed s es ts n d → slots ≤ d → length s ≡ storeSize → scan s ≡ says (A.Found n) (record { live = emptyStation .live; entries = es })
+pub found-all : (s : List ℕ) (es : List machine.Entry.Entry) (ts : List ℕ) (n d : ℕ) → Passed s es ts n d → slots ≤ d → length s ≡ storeSize
+    → scan s ≡ says (A.Found n) (record { live = emptyStation .live; entries = listedEntries es })
 unfolding emptyStation
 found-all s es ts n d p o l =
     scan-finds s l (none-keeps s (λ j oj. p .unbroken j (omega arith)))
-    ∙ ap₂ (λ (k : ℕ) (e : List Entry). says (A.Found k) (idleStation e)) (sym (p .figure ∙ ap (count isCommitted) every)) (sym (sym (take-all d es (omega (arith, p .entry-places))) ∙ p .entries ∙ ap (map entrySeen) every))
-  where
-    every : take d (slotsSeen s) ≡ slotsSeen s
-    every = take-all d (slotsSeen s) (omega (arith, seen-length s))
+    ∙ ap₂ (λ (k : ℕ) (e : List Entry). says (A.Found k) (idleStation e))
+    (sym (p .figure ∙ ap (count isCommitted) (take-all d (slotsSeen s) (omega (arith, seen-length s)))))
+    (sym (p .entries ∙ column-all entrySeen noEntry s d o))
 
 -- an answer and a station, as the scan's outcome
-pub handed-back : (s : List ℕ) (a : Answer) (st t : Station) → st ≡ t → scan s ≡ says a t → record { answer = a; station = st } ≡ outcomeOf (scan s)
+pub handed-back : (s : List ℕ) (a : Answer) (st : machine.Station.Station) (t : Station) → listed st ≡ t → scan s ≡ says a t → listedOutcome (record { answer = a; station = st }) ≡ outcomeOf (scan s)
 unfolding outcomeOf says
 handed-back s a st t q h = ap (λ (x : Station). record { answer = a; station = x }) q ∙ sym (ap outcomeOf h)

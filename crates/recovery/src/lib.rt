@@ -2,12 +2,13 @@
 use model::Answer;
 use model::Outcome;
 use model::Station;
-use records::Mark;
+use records::Slot;
 ghost use mathlib.Core.Path.{_≡_};
 ghost use Prim.Native.Nat.{_≤_};
 ghost use lib.ListN.{length, take};
 ghost use Rattle.model.specs.Limits.{slots};
 ghost use Rattle.model.specs.Lists.{member};
+ghost use Rattle.model.specs.Listed.{listedOutcome};
 ghost use Rattle.model.specs.Effects.{outcomeOf};
 ghost use Rattle.model.specs.Scan.{scan};
 
@@ -29,7 +30,7 @@ fn has_txn(txns: &[u32; Station::SLOTS], below: usize, txn: u32) -> bool
 
 // From the lowest slot up: the first that breaks the rules is refused. The numbers found stand in a column of their own.
 pub fn scan(store: &[u8]) -> Outcome
-    ensures { λ r. ⌜ r ≡ outcomeOf (scan (now (store .entry))) ⌝ }
+    ensures { λ r. ⌜ listedOutcome r ≡ outcomeOf (scan (now (store .entry))) ⌝ }
 {
     let empty = Station::empty();
     if store.len() != Station::STORE {
@@ -46,30 +47,27 @@ pub fn scan(store: &[u8]) -> Outcome
     while d < Station::SLOTS {
         let at = Station::SLOT * d;
         let slot = records::read_slot(&store[at..at + Station::SLOT]);
-        let mark = slot.mark;
-        let entry = slot.entry;
-        let id = entry.id;
-        let txn = id.txn;
-        match mark {
-            Mark::Free => {}
-            Mark::Damaged => {
+        match slot {
+            Slot::Free => {}
+            Slot::Damaged => {
                 return Outcome {
                     answer: Answer::Refused(18, d as u8),
                     station: empty,
                 };
             }
-            Mark::Committed => {
-                if has_txn(&txns, d, txn) {
+            Slot::Committed(entry) => {
+                let id = entry.id;
+                if has_txn(&txns, d, id.txn) {
                     return Outcome {
                         answer: Answer::Refused(18, d as u8),
                         station: empty,
                     };
                 }
+                entries[d] = entry;
+                txns[d] = id.txn;
                 found += 1;
             }
         }
-        entries[d] = entry;
-        txns[d] = txn;
         d += 1;
     }
     Outcome {

@@ -2,26 +2,35 @@
 use Prim.Native.Nat.{ℕ, zero, suc, _+_, _<_, _≤_}
 use mathlib.Core.Path.{_≡_, refl, sym, ap, ap₂, subst, _∙_}
 use mathlib.Core.Logic.{_≢_}
-use mathlib.Core.Bool.{Bool, true, false}
+use mathlib.Core.Bool.{Bool, true, false, true≢false, not}
 use mathlib.Core.List.{List, [], _∷_, _++_, map}
 use lib.Dec.{eqb, ltb, leb}
-use lib.ListN.{length, take, drop, getD, length-append, length-map, List·getD-map}
-use lib.Seq.{take-all}
-use native.Mathlib.Nat.{zero-lt-suc}
+use lib.ListN.{length, take, drop, getD, set, length-drop, length-map, take-append-drop, List·getD-map}
+use lib.Seq.{take-all, drop-set-add}
+use native.Mathlib.Nat.{zero-lt-suc, suc-ne-zero}
 use native.Mathlib.Omega.{arith}
 use borrow.Author.Tests.{lt-ltb, le-ltb, le-leb, lt-leb, eq-eqb, ne-eqb}
+use Rattle.model.specs.declared as machine
+use Rattle.model.specs.declared.Read.{Read}
 use Rattle.model.specs.declared.Live.{Live}
-use Rattle.model.specs.declared.Entry.{Entry}
-use Rattle.model.specs.Lists.{_and_, _or_, all, count, ascending}
+use Rattle.model.specs.declared.Phase.{Phase}
+use Rattle.model.specs.declared.Phase.the-variants.{Unused, Open, Closing}
+use Rattle.model.specs.Types.{Entry}
+use Rattle.model.specs.KeySets.{keySet}
+use Rattle.model.specs.Listed.{listedEntry, listedEntries}
+use Rattle.model.proofs.KeySetLaws.{set-ascends}
+use Rattle.model.proofs.ListedLaws.{zeroEntry, listed-any}
+use Rattle.model.specs.Lists.{_and_, _or_, all, ascending}
 use Rattle.model.specs.Limits.{keys}
 use Rattle.model.specs.Ids.{sameId}
 use Rattle.model.specs.Lives.{noRead, readsOf, writeKey, readKey, slotMark, liveBeyond}
-use Rattle.model.specs.Entries.{entryBeyond}
+use Rattle.model.specs.Entries.{noEntry}
 use Rattle.model.proofs.Tests.{and-assoc}
 use Rattle.model.proofs.InsideLaws.{read-nth, right-none, right-some}
-use Rattle.model.specs.Sound.{isNoWrite, isNoRead, entryRight}
-use Rattle.soundness.specs.Parts.{fits, setRight, keysRight, writesRight, readsRight, liveColumn, heldColumn, txnColumn, markColumn, slotIn}
-use Rattle.soundness.specs.Parts.{shape, isNamed, namedBy, placeFits, slotFree}
+use Rattle.model.specs.Sound.{isNoWrite, isNoRead, isNoLive, entryRight}
+use Rattle.soundness.specs.Parts.{fits, setRight, writesRight, readsRight, liveColumn, heldColumn, txnColumn, markColumn, slotIn}
+use Rattle.soundness.specs.Parts.{isUnused, shapeRight, shape, isNamed, namedBy, placeFits, slotFree}
+use Rattle.soundness.proofs.Loops.{column-more, column-end}
 use Rattle.model.proofs.RestLaws.{all-more, all-stop, all-end, all-split}
 
 -- ── sets within their limits ──
@@ -59,7 +68,7 @@ module _ (ts : List ℕ) (m : ℕ) where
 -- ── named reads: the rest of a place's reads from place j on, and the places after it ──
 module _ (es : List Entry) (ts : List ℕ) (l : Live) (j : ℕ) (rest whole : Bool) (v : whole ≡ (all (namedBy es ts) (drop j (readsOf l)) and rest)) where
   module _ (d : ℕ) (e : d ≡ slotIn ts (getD (l .reads) j noRead .id .txn)) (o : j < length (readsOf l)) where
-    named-is : d ≤ 63 → namedBy es ts (getD (readsOf l) j noRead) ≡ isNamed (getD es d entryBeyond) (getD (l .reads) j noRead)
+    named-is : d ≤ 63 → namedBy es ts (getD (readsOf l) j noRead) ≡ isNamed (getD es d noEntry) (getD (l .reads) j noRead)
     unfolding namedBy _and_
     named-is h = rw (read-nth l j noRead o, ← e, lt-ltb d 64 (omega arith))
 
@@ -69,17 +78,21 @@ module _ (es : List Entry) (ts : List ℕ) (l : Live) (j : ℕ) (rest whole : Bo
         let q : namedBy es ts (getD (readsOf l) j noRead) ≡ false = rw (read-nth l j noRead o, ← e, le-ltb d 64 (omega arith)) in
         v ∙ rw (all-stop (namedBy es ts) (readsOf l) j noRead o q)
 
-    pub named-stop : d ≤ 63 → isNamed (getD es d entryBeyond) (getD (l .reads) j noRead) ≡ false → whole ≡ false
+    pub named-stop : d ≤ 63 → isNamed (getD es d noEntry) (getD (l .reads) j noRead) ≡ false → whole ≡ false
     unfolding _and_
     named-stop h n = v ∙ rw (all-stop (namedBy es ts) (readsOf l) j noRead o (named-is h ∙ n))
 
-    pub named-more : d ≤ 63 → isNamed (getD es d entryBeyond) (getD (l .reads) j noRead) ≡ true
+    pub named-more : d ≤ 63 → isNamed (getD es d noEntry) (getD (l .reads) j noRead) ≡ true
         → whole ≡ (all (namedBy es ts) (drop (j + 1) (readsOf l)) and rest)
     named-more h n = v ∙ rw (all-more (namedBy es ts) (readsOf l) j noRead o (named-is h ∙ n))
 
   pub named-end : length (readsOf l) ≤ j → whole ≡ rest
   unfolding _and_
   named-end h = v ∙ rw (all-end (namedBy es ts) (readsOf l) j h)
+
+-- the entry at a slot, as the machine has it
+pub named-listed : (es : List machine.Entry.Entry) (d : ℕ) (r : Read) → isNamed (getD (listedEntries es) d noEntry) r ≡ isNamed (listedEntry (getD es d zeroEntry)) r
+named-listed es d r = ap (λ (e : Entry). isNamed e r) (listed-any es d)
 
 -- a place that is wrong by itself; a place that is right, by its reads
 module _ (es : List Entry) (ts : List ℕ) (l : Live) where
@@ -94,6 +107,13 @@ module _ (es : List Entry) (ts : List ℕ) (l : Live) where
   pub place-unread : shape l ≡ true → length (readsOf l) ≤ 0 → placeFits es ts l ≡ true
   place-unread e h = place-reads e ∙ all-end (namedBy es ts) (readsOf l) 0 h
 
+-- by the phase
+pub unused-shape : (p : Phase) (l : Live) → isUnused p ≡ true → shapeRight p l ≡ isNoLive l
+unfolding isUnused shapeRight
+unused-shape Unused l h = refl
+unused-shape Open l h = absurd (true≢false (sym h))
+unused-shape (Closing d c n) l h = absurd (true≢false (sym h))
+
 -- ── columns ──
 pub mark-at : (ls : List Live) (i : ℕ) → getD (markColumn ls) i 0 ≡ slotMark (getD ls i liveBeyond .phase)
 unfolding slotMark
@@ -102,21 +122,38 @@ mark-at ls i = List·getD-map (λ (l : Live). slotMark (l .phase)) ls i liveBeyo
 pub live-at : (ls : List Live) (i : ℕ) → getD (liveColumn ls) i 0 ≡ getD ls i liveBeyond .txn
 live-at ls i = List·getD-map (λ (l : Live). l .txn) ls i liveBeyond
 
-pub held-txn-at : (es : List Entry) (d : ℕ) → getD (heldColumn es) d 0 ≡ getD es d entryBeyond .id .txn
-held-txn-at es d = List·getD-map (λ (e : Entry). e .id .txn) es d entryBeyond
+pub held-txn-at : (es : List Entry) (d : ℕ) → getD (heldColumn es) d 0 ≡ getD es d noEntry .id .txn
+held-txn-at es d = List·getD-map (λ (e : Entry). e .id .txn) es d noEntry
 
-pub marks-count : (ls : List Live) → length ls ≡ 8 → 8 ≡ length (markColumn ls)
-marks-count ls h = sym (length-map ls (λ (l : Live). slotMark (l .phase)) ∙ h)
+pub held-listed : (es : List machine.Entry.Entry) (d : ℕ) → getD (heldColumn (listedEntries es)) d 0 ≡ getD es d zeroEntry .id .txn
+held-listed es d = held-txn-at (listedEntries es) d ∙ ap (λ (e : Entry). e .id .txn) (listed-any es d)
 
-pub txns-count : (ls : List Live) (es : List Entry) → length ls ≡ 8 → length es ≡ 64 → 72 ≡ length (txnColumn ls es)
-txns-count ls es h k = omega (arith, length-append (liveColumn ls) (heldColumn es), length-map ls (λ (l : Live). l .txn), length-map es (λ (e : Entry). e .id .txn))
+-- the column of transactions as it is filled: from place 8 on with those of the entries, below it with those of the live places
+pub held-more : (xs : List ℕ) (es : List machine.Entry.Entry) (d : ℕ) → length xs ≡ 72 → length (listedEntries es) ≡ 64 → d < 64
+    → take d (drop 8 xs) ≡ take d (heldColumn (listedEntries es)) → take (d + 1) (drop 8 (set xs (8 + d) (getD es d zeroEntry .id .txn))) ≡ take (d + 1) (heldColumn (listedEntries es))
+held-more xs es d hx he o e =
+    ap (take (d + 1)) (drop-set-add 8 xs d (getD es d zeroEntry .id .txn))
+    ∙ column-more [] (drop 8 xs) (heldColumn (listedEntries es)) d d (getD es d zeroEntry .id .txn) (omega (arith, length-drop 8 xs)) (omega (arith, length-map (listedEntries es) (λ (x : Entry). x .id .txn))) (sym (held-listed es d)) e
 
--- the two parts of the column of transactions
-pub txn-column-end : (xs ys : List ℕ) (ls : List Live) (es : List Entry) (i d : ℕ) → length xs ≡ 72 → length ls ≡ 8 → length es ≡ 64 → 8 ≤ i → 64 ≤ d → take i ys ≡ take i (liveColumn ls) → i ≡ 8
-    → take (8 + d) xs ≡ take 8 ys ++ take d (heldColumn es) → xs ≡ txnColumn ls es
-txn-column-end xs ys ls es i d hx hl he hi hd el ei e =
-    sym (take-all (8 + d) xs (omega arith)) ∙ e
-    ∙ ap₂ (λ (a b : List ℕ). a ++ b) (subst (λ (k : ℕ). take k ys ≡ take k (liveColumn ls)) ei el ∙ take-all 8 (liveColumn ls) (omega (arith, length-map ls (λ (l : Live). l .txn)))) (take-all d (heldColumn es) (omega (arith, length-map es (λ (x : Entry). x .id .txn))))
+pub held-end : (xs : List ℕ) (es : List Entry) (d : ℕ) → length xs ≡ 72 → length es ≡ 64 → 64 ≤ d → take d (drop 8 xs) ≡ take d (heldColumn es) → drop 8 xs ≡ heldColumn es
+held-end xs es d hx he o e = column-end (drop 8 xs) (heldColumn es) 64 d (omega (arith, length-drop 8 xs)) (omega (arith, length-map es (λ (x : Entry). x .id .txn))) o e
+
+pub live-more : (xs : List ℕ) (ls : List Live) (k : ℕ) → length xs ≡ 72 → length ls ≡ 8 → k < 8
+    → take k xs ≡ take k (liveColumn ls) → take (k + 1) (set xs k (getD ls k liveBeyond .txn)) ≡ take (k + 1) (liveColumn ls)
+live-more xs ls k hx hl o e = column-more [] xs (liveColumn ls) k k (getD ls k liveBeyond .txn) (omega arith) (omega (arith, length-map ls (λ (l : Live). l .txn))) (sym (live-at ls k)) e
+
+pub txns-end : (xs : List ℕ) (ls : List Live) (es : List Entry) (k : ℕ) → length ls ≡ 8 → k ≡ 8 → take k xs ≡ take k (liveColumn ls) → drop 8 xs ≡ heldColumn es → xs ≡ txnColumn ls es
+txns-end xs ls es k hl ek el ee =
+    sym (take-append-drop 8 xs)
+    ∙ ap₂ (λ (a b : List ℕ). a ++ b) (subst (λ (m : ℕ). take m xs ≡ take m (liveColumn ls)) ek el ∙ take-all 8 (liveColumn ls) (omega (arith, length-map ls (λ (l : Live). l .txn)))) ee
+
+-- the column of marks
+pub marks-more : (xs : List ℕ) (ls : List Live) (k m : ℕ) → length xs ≡ 8 → length ls ≡ 8 → k < 8 → m ≡ slotMark (getD ls k liveBeyond .phase)
+    → take k xs ≡ take k (markColumn ls) → take (k + 1) (set xs k m) ≡ take (k + 1) (markColumn ls)
+marks-more xs ls k m hx hl o q e = column-more [] xs (markColumn ls) k k m (omega arith) (omega (arith, length-map ls (λ (l : Live). slotMark (l .phase)))) (q ∙ sym (mark-at ls k)) e
+
+pub marks-end : (xs : List ℕ) (ls : List Live) (k : ℕ) → length xs ≡ 8 → length ls ≡ 8 → 8 ≤ k → take k xs ≡ take k (markColumn ls) → xs ≡ markColumn ls
+marks-end xs ls k hx hl o e = column-end xs (markColumn ls) 8 k hx (omega (arith, length-map ls (λ (l : Live). slotMark (l .phase)))) o e
 
 -- ── a set is right: model's two tests of it ──
 module _ {A : Type 0} (key : A → ℕ) (isZero : A → Bool) where
@@ -141,18 +178,19 @@ module _ {A : Type 0} (key : A → ℕ) (isZero : A → Bool) where
       ∙ and-assoc (fits lo (key x)) (ascending (suc (key x)) keys (map key (take n xs))) (all isZero (drop n xs))
       ∙ ap (λ (b : Bool). b and all isZero (drop n xs)) (sym (ascending-cons-is lo keys (key x) (map key (take n xs))))
 
--- ── entries ──
-map-same : (ks : List ℕ) → map (λ (k : ℕ). k) ks ≡ ks
-map-same [] = refl
-map-same (k ∷ ks) = ap (λ (r : List ℕ). k ∷ r) (map-same ks)
-
-module _ (e : Entry) where
-  pub entry-none : e .count ≡ 0 → entryRight e ≡ (eqb (e .id .clock) 0 and eqb (e .id .txn) 0 and all (eqb 0) (e .keys))
+-- ── entries: the machine's, by how many keys it has ──
+module _ (e : machine.Entry.Entry) (n : ℕ) (q : n ≡ length (keySet (e .keys))) where
+  pub entry-none : n ≡ 0 → entryRight (listedEntry e) ≡ (eqb (e .id .clock) 0 and eqb (e .id .txn) 0)
   unfolding sameId
-  entry-none h = right-none e h
+  entry-none h = right-none (listedEntry e) (omega (arith, q, h))
 
-  pub entry-some : e .count ≢ 0 → entryRight e ≡ (leb (e .count) 8 and leb 1 (e .id .txn) and leb 1 (e .id .clock) and keysRight (e .count) (e .keys))
-  entry-some h =
-      right-some e h
-      ∙ ap (λ (b : Bool). leb (e .count) 8 and leb 1 (e .id .txn) and leb 1 (e .id .clock) and b)
-      (sym (set-is (λ (k : ℕ). k) (eqb 0) 0 (e .count) (e .keys) ∙ ap (λ (ks : List ℕ). ascending 0 keys ks and all (eqb 0) (drop (e .count) (e .keys))) (map-same (take (e .count) (e .keys)))))
+  pub entry-some : n ≢ 0 → entryRight (listedEntry e) ≡ (leb n 8 and leb 1 (e .id .txn) and leb 1 (e .id .clock))
+  entry-some h = rw q (right-some (listedEntry e) (λ z. h (q ∙ z)) (set-ascends (e .keys)))
+
+pub right-listed : (es : List machine.Entry.Entry) (d : ℕ) → entryRight (getD (listedEntries es) d noEntry) ≡ entryRight (listedEntry (getD es d zeroEntry))
+right-listed es d = ap entryRight (listed-any es d)
+
+-- a number that is not 0 is at least 1
+pub some-clock : (n : ℕ) → not (eqb n 0) ≡ leb 1 n
+some-clock zero = refl
+some-clock (suc n) = rw (ne-eqb (suc n) 0 (suc-ne-zero n), le-leb 1 (suc n) (omega arith))

@@ -13,16 +13,15 @@ use borrow.Author.Tests.{ltb-true, leb-true, leb-false, eqb-true, lt-ltb, le-leb
 use Rattle.model.specs.declared.Id.{Id}
 use Rattle.model.specs.declared.Read.{Read}
 use Rattle.model.specs.declared.Live.{Live}
-use Rattle.model.specs.declared.Entry.{Entry}
-use Rattle.model.specs.declared.Station.{Station}
+use Rattle.model.specs.Types.{Entry, Station}
 use Rattle.model.specs.declared.Phase.{Phase}
 use Rattle.model.specs.declared.Phase.the-variants.{Unused, Open, Closing}
 use Rattle.model.specs.Lists.{_and_, all, any, first, distinct, same}
-use Rattle.model.specs.Lives.{writesOf, readsOf, writeKey, readKey, closingSlot, closingClock, recordsStored, slotMark}
-use Rattle.model.specs.Entries.{wroteAs, entryBeyond}
+use Rattle.model.specs.Lives.{writesOf, readsOf, writeCount, writeKey, readKey, closingSlot, closingClock, recordsStored, slotMark}
+use Rattle.model.specs.Entries.{wroteAs, noEntry}
 use Rattle.model.specs.Stations.{entryAt, liveTxns, heldTxns, holds, closingSlots}
 use Rattle.model.specs.Sound.{isNoWrite, isNoRead, isNoLive, names, placeRight, entryRight, sound}
-use Rattle.model.proofs.Tests.{and-left, and-right, and-intro, bool-cases}
+use Rattle.model.proofs.Tests.{and-left, and-right, and-intro, bool-cases, same-test}
 use Rattle.model.proofs.ListLaws.{first-finds, all-head, all-tail, all-cons, all-at, all-mem, all-by, any-finds, any-at, all-map}
 use Rattle.model.proofs.DistinctLaws.{once-right}
 use Rattle.model.proofs.IdLaws.{same-id}
@@ -32,15 +31,6 @@ use Rattle.model.proofs.SoundLaws.{reads-zero, zeros-of, Shut, shut-at, shut-of
 use Rattle.soundness.specs.Parts.{writesRight, readsRight, listsRight, countsRight, shapeRight, liveColumn, heldColumn, txnColumn}
 use Rattle.soundness.specs.Parts.{markColumn, slotIn, isNamed, namedBy, placeFits, slotFree, parts}
 use Rattle.soundness.proofs.PartLaws.{free-none, free-high, free-is, held-txn-at, set-is}
-
--- ── tests ──
-pub bool-same : (a b : Bool) → (a ≡ true → b ≡ true) → (b ≡ true → a ≡ true) → a ≡ b
-bool-same a b f g = go (bool-cases a) (bool-cases b)
-  where
-    go : (a ≡ true) ⊎ (a ≡ false) → (b ≡ true) ⊎ (b ≡ false) → a ≡ b
-    go (inl p) q = p ∙ sym (f p)
-    go (inr p) (inl q) = absurd (true≢false (sym (g q) ∙ p))
-    go (inr p) (inr q) = p ∙ sym q
 
 -- ── a place of a station, by its phase ──
 module _ (es : List Entry) (l : Live) where
@@ -75,20 +65,20 @@ unused-names p l h = let e : l .«read_count» ≡ 0 = eqb-true (l .«read_count
 
 -- a closing transaction's write set, clock and records
 module _ (st : Station) (l : Live) (d c n : ℕ) (e : l .phase ≡ Closing d c n) where
-  pub counts-of : Shut st l → countsRight c n (l .«write_count») ≡ true
+  pub counts-of : Shut st l → countsRight c n (writeCount l) ≡ true
   unfolding countsRight closingClock recordsStored
   counts-of s =
       and-intro _ _
-      (and-intro _ _ (le-leb 1 (l .«write_count») (s .keyed)) (le-leb 1 c (subst (λ (p : Phase). 1 ≤ closingClock p) e (s .clocked))))
-      (le-leb n (l .«write_count» + 1) (subst (λ (p : Phase). recordsStored p ≤ l .«write_count» + 1) e (s .within)))
+      (and-intro _ _ (le-leb 1 (writeCount l) (s .keyed)) (le-leb 1 c (subst (λ (p : Phase). 1 ≤ closingClock p) e (s .clocked))))
+      (le-leb n (writeCount l + 1) (subst (λ (p : Phase). recordsStored p ≤ writeCount l + 1) e (s .within)))
 
-  pub shut-counts : countsRight c n (l .«write_count») ≡ true → (d < 64) × (holds st d ≡ false) → Shut st l
+  pub shut-counts : countsRight c n (writeCount l) ≡ true → (d < 64) × (holds st d ≡ false) → Shut st l
   unfolding countsRight closingClock recordsStored closingSlot
   shut-counts h f =
       record {
-        keyed = leb-true 1 (l .«write_count») (and-left _ _ (and-left _ _ h));
+        keyed = leb-true 1 (writeCount l) (and-left _ _ (and-left _ _ h));
         clocked = subst (λ (p : Phase). 1 ≤ closingClock p) (sym e) (leb-true 1 c (and-right _ _ (and-left _ _ h)));
-        within = subst (λ (p : Phase). recordsStored p ≤ l .«write_count» + 1) (sym e) (leb-true n (l .«write_count» + 1) (and-right _ _ h));
+        within = subst (λ (p : Phase). recordsStored p ≤ writeCount l + 1) (sym e) (leb-true n (writeCount l + 1) (and-right _ _ h));
         low = subst (λ (p : Phase). closingSlot p < 64) (sym e) (f .0);
         unheld = subst (λ (p : Phase). holds st (closingSlot p) ≡ false) (sym e) (f .1);
       }
@@ -142,24 +132,24 @@ module _ (ls : List Live) (es : List Entry) (hl : length ls ≡ 8) (he : length 
   unfolding namedBy
   named-names r h =
       let o : slotIn (txnColumn ls es) (r .id .txn) < length es = omega (arith, ltb-true (slotIn (txnColumn ls es) (r .id .txn)) 64 (and-left _ _ h)) in
-      names-is r ∙ any-at (λ e. isNamed e r) es entryBeyond (slotIn (txnColumn ls es) (r .id .txn)) o (and-right _ _ h)
+      names-is r ∙ any-at (λ e. isNamed e r) es noEntry (slotIn (txnColumn ls es) (r .id .txn)) o (and-right _ _ h)
 
   names-named : all entryRight es ≡ true → distinct (txnColumn ls es) ≡ true → (r : Read) → names es r ≡ true → namedBy es (txnColumn ls es) r ≡ true
   unfolding namedBy isNamed
-  names-named a u r h = go (any-finds (λ e. isNamed e r) es entryBeyond (sym (names-is r) ∙ h))
+  names-named a u r h = go (any-finds (λ e. isNamed e r) es noEntry (sym (names-is r) ∙ h))
     where
-      go : (j : ℕ) × (j < length es) × (isNamed (getD es j entryBeyond) r ≡ true) → namedBy es (txnColumn ls es) r ≡ true
+      go : (j : ℕ) × (j < length es) × (isNamed (getD es j noEntry) r ≡ true) → namedBy es (txnColumn ls es) r ≡ true
       go (j, o, q) =
           let t : ℕ = r .id .txn in
-          let e : Entry = getD es j entryBeyond in
+          let e : Entry = getD es j noEntry in
           let x : e .id .txn ≡ t = ap (λ (i : Id). i .txn) (same-id (e .id) (r .id) (and-left _ _ q)) in
           let hj : getD (heldColumn es) j 0 ≡ t = held-txn-at es j ∙ x in
           let k : j < length (heldColumn es) = omega (arith, length-map es (λ (y : Entry). y .id .txn)) in
           let f = first-finds (eqb t) (heldColumn es) 0 j (eq-eqb t (getD (heldColumn es) j 0) (sym hj)) k in
           let hd : getD (heldColumn es) (first (eqb t) (heldColumn es)) 0 ≡ t = sym (eqb-true t (getD (heldColumn es) (first (eqb t) (heldColumn es)) 0) (f .1)) in
           let same : first (eqb t) (heldColumn es) ≡ j =
-          once-right (liveColumn ls) (heldColumn es) u (first (eqb t) (heldColumn es)) j (hd ∙ sym hj) (λ z. true≢false (sym (and-right _ _ q) ∙ unheld-wrote e (all-at entryRight es entryBeyond a j o) (x ∙ sym hd ∙ z) (r .key))) in
-          and-intro _ _ (lt-ltb (slotIn (txnColumn ls es) t) 64 (omega (arith, slot-is t))) (subst (λ (i : ℕ). isNamed (getD es i entryBeyond) r ≡ true) (sym (slot-is t ∙ same)) q)
+          once-right (liveColumn ls) (heldColumn es) u (first (eqb t) (heldColumn es)) j (hd ∙ sym hj) (λ z. true≢false (sym (and-right _ _ q) ∙ unheld-wrote e (all-at entryRight es noEntry a j o) (x ∙ sym hd ∙ z) (r .key))) in
+          and-intro _ _ (lt-ltb (slotIn (txnColumn ls es) t) 64 (omega (arith, slot-is t))) (subst (λ (i : ℕ). isNamed (getD es i noEntry) r ≡ true) (sym (slot-is t ∙ same)) q)
 
 -- ── the whole ──
 all-unmap : {A B : Type 0} (f : A → B) (q : B → Bool) (l : List A) → all q (map f l) ≡ true → all (λ x. q (f x)) l ≡ true
@@ -214,4 +204,4 @@ module _ (st : Station) (hl : length (st .live) ≡ 8) (he : length (st .entries
       m
 
   pub sound-is : sound st ≡ parts (st .live) (st .entries)
-  sound-is = bool-same (sound st) (parts (st .live) (st .entries)) to-parts of-parts
+  sound-is = same-test (sound st) (parts (st .live) (st .entries)) to-parts of-parts

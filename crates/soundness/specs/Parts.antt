@@ -1,19 +1,19 @@
 -- The parts that soundness is tested in, each with a loop of its own; proofs/Whole says that together they are model's `sound`.
 use Prim.Native.Nat.{ℕ, zero, suc, _+_}
-use mathlib.Core.Bool.{Bool, true}
+use mathlib.Core.Bool.{Bool, true, false}
 use mathlib.Core.List.{List, [], _∷_, _++_, map}
 use lib.Dec.{eqb, ltb, leb}
 use lib.ListN.{drop, getD}
 use Rattle.model.specs.declared.Read.{Read}
 use Rattle.model.specs.declared.Live.{Live}
-use Rattle.model.specs.declared.Entry.{Entry}
+use Rattle.model.specs.Types.{Entry}
 use Rattle.model.specs.declared.Phase.{Phase}
 use Rattle.model.specs.declared.Phase.the-variants.{Unused, Open, Closing}
 use Rattle.model.specs.Lists.{_and_, _or_, all, first, distinct}
 use Rattle.model.specs.Limits.{keys, livePlaces, slots, writeLimit, readLimit}
 use Rattle.model.specs.Ids.{sameId}
-use Rattle.model.specs.Lives.{readsOf, writeKey, readKey, slotMark}
-use Rattle.model.specs.Entries.{wrote, entryBeyond}
+use Rattle.model.specs.Lives.{readsOf, writeCount, writeKey, readKey, slotMark}
+use Rattle.model.specs.Entries.{wrote, noEntry}
 use Rattle.model.specs.Sound.{isNoWrite, isNoRead, isNoLive, entryRight}
 
 -- a key of an ascending set: at least lo, below the limit
@@ -26,9 +26,6 @@ module _ {A : Type 0} (key : A → ℕ) (isZero : A → Bool) where
   setRight lo n [] = true
   setRight lo zero (x ∷ xs) = isZero x and setRight lo zero xs
   setRight lo (suc n) (x ∷ xs) = fits lo (key x) and setRight (suc (key x)) n xs
-
-abbrev pub keysRight : ℕ → List ℕ → Bool
-keysRight n ks = setRight (λ k. k) (eqb 0) 0 n ks
 
 unfoldable pub writesRight : Live → Bool
 writesRight l = leb (l .«write_count») writeLimit and setRight writeKey isNoWrite 0 (l .«write_count») (l .writes)
@@ -49,11 +46,16 @@ listsRight l = leb 1 (l .txn) and writesRight l and readsRight l
 unfoldable pub countsRight : ℕ → ℕ → ℕ → Bool
 countsRight c n w = leb 1 w and leb 1 c and leb n (w + 1)
 
+unfoldable pub isUnused : Phase → Bool
+isUnused Unused = true
+isUnused Open = false
+isUnused (Closing d c n) = false
+
 -- a live place by itself
 unfoldable pub shapeRight : Phase → Live → Bool
 shapeRight Unused l = isNoLive l
 shapeRight Open l = listsRight l
-shapeRight (Closing d c n) l = countsRight c n (l .«write_count») and listsRight l
+shapeRight (Closing d c n) l = countsRight c n (writeCount l) and listsRight l
 
 abbrev pub shape : Live → Bool
 shape l = shapeRight (l .phase) l
@@ -80,7 +82,7 @@ isNamed e r = sameId (e .id) (r .id) and wrote e (r .key)
 
 -- the entry that a read names, found by its transaction, has the id and wrote the key
 unfoldable pub namedBy : List Entry → List ℕ → Read → Bool
-namedBy es ts r = ltb (slotIn ts (r .id .txn)) slots and isNamed (getD es (slotIn ts (r .id .txn)) entryBeyond) r
+namedBy es ts r = ltb (slotIn ts (r .id .txn)) slots and isNamed (getD es (slotIn ts (r .id .txn)) noEntry) r
 
 abbrev pub allNamed : List Entry → List ℕ → Live → Bool
 allNamed es ts l = all (namedBy es ts) (readsOf l)

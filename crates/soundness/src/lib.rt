@@ -1,4 +1,6 @@
-// Whether a station is sound, as model's specs/Sound.antt defines it. What reads the whole station is called once, outside of loops.
+// Whether a station is sound, as model's specs/Sound.antt defines it.
+use keysets::has_key;
+use keysets::key_count;
 use model::Entry;
 use model::Live;
 use model::Phase;
@@ -7,16 +9,18 @@ use model::Station;
 use model::Write;
 use model::read_count;
 use model::wide;
-use model::wrote_key;
+use model::write_count;
 ghost use mathlib.Core.Path.{_≡_};
+ghost use mathlib.Core.Bool.{false};
 ghost use Prim.Native.Nat.{_+_, _≤_};
 ghost use lib.Dec.{eqb};
 ghost use lib.ListN.{length};
 ghost use Rattle.model.specs.Limits.{livePlaces, slots};
 ghost use Rattle.model.specs.Lists.{all, count, distinct};
+ghost use Rattle.model.specs.Listed.{listedEntry, listed};
 ghost use Rattle.model.specs.Lives.{slotMark};
 ghost use Rattle.model.specs.Sound.{isNoWrite, isNoRead, isNoLive, entryRight, sound};
-ghost use Rattle.soundness.specs.Parts.{fits, keysRight, writesRight, readsRight, noWrites, noReads, listsRight, countsRight, shape, txnColumn, markColumn, slotIn, isNamed, placeFits, slotFree};
+ghost use Rattle.soundness.specs.Parts.{fits, writesRight, readsRight, noWrites, noReads, listsRight, countsRight, isUnused, shape, slotIn, isNamed, slotFree};
 
 // Transactions, live and held, at most.
 const TXNS: usize = Station::LIVE + Station::SLOTS;
@@ -34,56 +38,17 @@ fn key_fits(low: u8, key: u8) -> bool
     key < Station::KEYS_U8
 }
 
-fn no_keys(keys: [u8; Station::WRITES]) -> bool
-    ensures { λ r. ⌜ r ≡ all (eqb 0) keys ⌝ }
-{
-    let mut j = 0;
-    while j < Station::WRITES {
-        if keys[j] != 0 {
-            return false;
-        }
-        j += 1;
-    }
-    true
-}
-
-// The first n keys ascend below 64, the others are zero.
-fn keys_right(keys: [u8; Station::WRITES], n: usize) -> bool
-    ensures { λ r. ⌜ r ≡ keysRight n keys ⌝ }
-{
-    let mut low = 0u8;
-    let mut j = 0;
-    while j < Station::WRITES {
-        let k = keys[j];
-        if j < n {
-            if !key_fits(low, k) {
-                return false;
-            }
-            low = k + 1;
-        } else {
-            if k != 0 {
-                return false;
-            }
-        }
-        j += 1;
-    }
-    true
-}
-
+// 02 §5: "1 to 8 ones for an entry".
 fn entry_right(e: Entry) -> bool
-    ensures { λ r. ⌜ r ≡ entryRight e ⌝ }
+    ensures { λ r. ⌜ r ≡ entryRight (listedEntry e) ⌝ }
 {
-    let n = e.count;
+    let n = key_count(e.keys);
     let id = e.id;
-    let keys = e.keys;
     if n == 0 {
         if id.clock != 0 {
             return false;
         }
-        if id.txn != 0 {
-            return false;
-        }
-        return no_keys(keys);
+        return id.txn == 0;
     }
     if Station::WRITES_U8 < n {
         return false;
@@ -91,24 +56,7 @@ fn entry_right(e: Entry) -> bool
     if id.txn == 0 {
         return false;
     }
-    if id.clock == 0 {
-        return false;
-    }
-    keys_right(keys, wide(n))
-}
-
-fn entries_right(entries: [Entry; Station::SLOTS]) -> bool
-    ensures { λ r. ⌜ r ≡ all entryRight entries ⌝ }
-{
-    let mut d = 0;
-    while d < Station::SLOTS {
-        let e = entries[d];
-        if !entry_right(e) {
-            return false;
-        }
-        d += 1;
-    }
-    true
+    id.clock != 0
 }
 
 // ---- a live place by itself ----
@@ -188,32 +136,47 @@ fn reads_right(l: Live) -> bool
     true
 }
 
+// All writes are zero, all reads are: their fields are or-ed and tested once.
 fn no_writes(l: Live) -> bool
     ensures { λ r. ⌜ r ≡ noWrites l ⌝ }
 {
+    let mut keys = 0u8;
+    let mut values = 0u64;
     let mut j = 0;
     while j < Station::WRITES {
         let w = l.writes[j];
-        if !no_write(w) {
-            return false;
-        }
+        keys = keys | w.key;
+        values = values | w.value;
         j += 1;
     }
-    true
+    if keys != 0 {
+        return false;
+    }
+    values == 0
 }
 
 fn no_reads(l: Live) -> bool
     ensures { λ r. ⌜ r ≡ noReads l ⌝ }
 {
+    let mut keys = 0u8;
+    let mut clocks = 0u64;
+    let mut txns = 0u32;
     let mut j = 0;
     while j < Station::READS {
         let read = l.reads[j];
-        if !no_read(read) {
-            return false;
-        }
+        let id = read.id;
+        keys = keys | read.key;
+        clocks = clocks | id.clock;
+        txns = txns | id.txn;
         j += 1;
     }
-    true
+    if keys != 0 {
+        return false;
+    }
+    if clocks != 0 {
+        return false;
+    }
+    txns == 0
 }
 
 fn unused_right(l: Live) -> bool
@@ -262,42 +225,31 @@ fn counts_right(clock: u64, stored: u8, writes: u8) -> bool
     stored - 1 <= writes
 }
 
-fn live_right(l: Live) -> bool
-    ensures { λ r. ⌜ r ≡ shape l ⌝ }
+fn is_unused(p: Phase) -> bool
+    ensures { λ r. ⌜ r ≡ isUnused p ⌝ }
+{
+    match p {
+        Phase::Unused => true,
+        Phase::Open => false,
+        Phase::Closing(_, _, _) => false,
+    }
+}
+
+// A place in use.
+fn used_right(l: Live) -> bool
+    ensures { λ r. ⌜ (isUnused (l .phase) ≡ false → r ≡ shape l) ⌝ }
 {
     let p = l.phase;
     match p {
-        Phase::Unused => unused_right(l),
+        Phase::Unused => false,
         Phase::Open => lists_right(l),
         Phase::Closing(_, clock, stored) => {
-            if !counts_right(clock, stored, l.write_count) {
+            if !counts_right(clock, stored, write_count(l)) {
                 return false;
             }
             lists_right(l)
         }
     }
-}
-
-// ---- columns ----
-// The transactions of the live places, then of the entries; 0 where unused.
-fn txns_of(live: [Live; Station::LIVE], entries: [Entry; Station::SLOTS]) -> [u32; TXNS]
-    ensures { λ r. ⌜ r ≡ txnColumn live entries ⌝ }
-{
-    let mut txns = [0u32; TXNS];
-    let mut i = 0;
-    while i < Station::LIVE {
-        let l = live[i];
-        txns[i] = l.txn;
-        i += 1;
-    }
-    let mut d = 0;
-    while d < Station::SLOTS {
-        let e = entries[d];
-        let id = e.id;
-        txns[Station::LIVE + d] = id.txn;
-        d += 1;
-    }
-    txns
 }
 
 // The slot that a closing transaction has, counted from 1; 0 of any other.
@@ -310,19 +262,6 @@ fn mark_of(l: Live) -> u32
         Phase::Open => 0,
         Phase::Closing(d, _, _) => d as u32 + 1,
     }
-}
-
-fn marks_of(live: [Live; Station::LIVE]) -> [u32; Station::LIVE]
-    ensures { λ r. ⌜ r ≡ markColumn live ⌝ }
-{
-    let mut marks = [0u32; Station::LIVE];
-    let mut i = 0;
-    while i < Station::LIVE {
-        let l = live[i];
-        marks[i] = mark_of(l);
-        i += 1;
-    }
-    marks
 }
 
 // ---- numbers that nothing else has ----
@@ -403,7 +342,7 @@ fn slot_of(txns: &[u32], txn: u32) -> usize
 }
 
 fn named(e: Entry, read: Read) -> bool
-    ensures { λ r. ⌜ r ≡ isNamed e read ⌝ }
+    ensures { λ r. ⌜ r ≡ isNamed (listedEntry e) read ⌝ }
 {
     let a = e.id;
     let b = read.id;
@@ -413,18 +352,52 @@ fn named(e: Entry, read: Read) -> bool
     if a.txn != b.txn {
         return false;
     }
-    wrote_key(e, read.key)
+    has_key(e.keys, read.key)
 }
 
-// Every live place is right by itself, and each of its reads names the entry that its transaction has. A place is read anew for each
-// use: only one with reads is then copied whole.
-fn lives_right(station: Station, txns: &[u32]) -> bool
-    ensures { λ r. ⌜ r ≡ all (placeFits (station .entries) (now (txns .entry))) (station .live) ⌝ }
+// ---- the station ----
+// Its loops stand here, so that no part of it is handed over whole. A place is read anew for each use: only one with reads is then copied whole.
+// Reads are tested after the entries and the transactions: where those are right, only the entry found by its transaction can be the one named.
+pub fn is_sound(station: Station) -> bool
+    ensures { λ r. ⌜ r ≡ sound (listed station) ⌝ }
 {
+    // The transactions of the live places, then of the entries; 0 where unused.
+    let mut txns = [0u32; TXNS];
+    let mut d = 0;
+    while d < Station::SLOTS {
+        let e = station.entries[d];
+        if !entry_right(e) {
+            return false;
+        }
+        let id = e.id;
+        txns[Station::LIVE + d] = id.txn;
+        d += 1;
+    }
+    let mut marks = [0u32; Station::LIVE];
+    let mut k = 0;
+    while k < Station::LIVE {
+        let l = station.live[k];
+        txns[k] = l.txn;
+        marks[k] = mark_of(l);
+        k += 1;
+    }
+    if !differ(&txns) {
+        return false;
+    }
     let mut i = 0;
     while i < Station::LIVE {
-        let l = station.live[i];
-        if !live_right(l) {
+        let place = station.live[i];
+        let phase = place.phase;
+        if is_unused(phase) {
+            let unused = station.live[i];
+            if !unused_right(unused) {
+                return false;
+            }
+            i += 1;
+            continue;
+        }
+        let used = station.live[i];
+        if !used_right(used) {
             return false;
         }
         let counted = station.live[i];
@@ -438,38 +411,18 @@ fn lives_right(station: Station, txns: &[u32]) -> bool
         while j < n {
             let read = reader.reads[j];
             let id = read.id;
-            let d = slot_of(txns, id.txn);
-            if Station::LAST_SLOT < d {
+            let at = slot_of(&txns, id.txn);
+            if Station::LAST_SLOT < at {
                 return false;
             }
-            let e = station.entries[d];
-            if !named(e, read) {
+            let held = station.entries[at];
+            if !named(held, read) {
                 return false;
             }
             j += 1;
         }
         i += 1;
     }
-    true
-}
-
-// Reads are tested after the entries and the transactions: where those are right, only the entry found by its transaction can be the one named.
-pub fn is_sound(station: Station) -> bool
-    ensures { λ r. ⌜ r ≡ sound station ⌝ }
-{
-    let entries = station.entries;
-    let live = station.live;
-    if !entries_right(entries) {
-        return false;
-    }
-    let txns = txns_of(live, entries);
-    if !differ(&txns) {
-        return false;
-    }
-    if !lives_right(station, &txns) {
-        return false;
-    }
-    let marks = marks_of(live);
     if !differ(&marks) {
         return false;
     }

@@ -9,10 +9,10 @@ use lib.ListN.{length, length-map}
 use native.Mathlib.Nat.{lt-irrefl}
 use native.Mathlib.Omega.{arith}
 use borrow.Author.Tests.{eqb-true}
-use Rattle.model.specs.declared.Station.{Station}
+use Rattle.model.specs.Types.{Station}
 use Rattle.model.specs.Lists.{first, count, anyBelow, greatestBelow}
 use Rattle.model.specs.Limits.{slots}
-use Rattle.model.specs.Entries.{entryRules, isNoEntry}
+use Rattle.model.specs.Entries.{keysOf, entryRules, isNoEntry}
 use Rattle.model.specs.Stations.{entryAt, liveTxns, heldTxns, isLive, isHeld, placeOf, slotOf, isFree}
 use Rattle.model.specs.Sound.{entryRight, sound}
 use Rattle.model.specs.Commit.{highestFree}
@@ -69,9 +69,9 @@ module _ (st : Station) (r : ℕ) (at : r ≡ cond (anyBelow (isFree st) slots) 
       go false e = e
 
 -- an entry of a sound station has at most 8 keys
-pub entry-count : (st : Station) → sound st ≡ true → (d : ℕ) → entryAt st d .count ≤ 8
+pub entry-count : (st : Station) → sound st ≡ true → (d : ℕ) → length (keysOf (entryAt st d)) ≤ 8
 unfolding entryRight isNoEntry
 entry-count st h d = ⊎-elim
-    (λ n. let z : entryAt st d .count ≡ 0 = eqb-true _ 0 (and-right _ _ (and-left _ _ n)) in omega arith)
+    (λ n. let z : length (keysOf (entryAt st d)) ≡ 0 = eqb-true _ 0 (and-right _ _ n) in omega arith)
     (λ r. rules-count (entryAt st d) r)
     (or-cases (isNoEntry (entryAt st d)) (entryRules (entryAt st d)) (sound-at st h .entry d))

@@ -9,12 +9,12 @@ use Rattle.model.specs.declared.Entry.{Entry}
 use Rattle.model.specs.declared.Station.{Station}
 use Rattle.model.specs.declared.Answer.{Answer}
 use Rattle.model.specs.Limits.{livePlaces, slots}
+use Rattle.model.specs.Listed.{listedEntry, listedEntries, listed, listedOutcome}
 use Rattle.model.specs.Stations.{setLive, setEntry}
 use Rattle.model.specs.Effects.{Effect, outcomeOf, says}
+use Rattle.model.proofs.ListedLaws.{listed-set}
 use Rattle.stations.specs.declared.Change.{Change}
 use Rattle.stations.specs.Changes.{changedBy, IsChange}
-use Rattle.model.specs.Lives.{liveBeyond}
-use Rattle.model.specs.Entries.{entryBeyond}
 
 module _ {A : Type 0} where
   set-first : (xs : List A) (d : A) → set xs 0 (getD xs 0 d) ≡ xs
@@ -23,7 +23,7 @@ module _ {A : Type 0} where
 
 -- what a change comes to, and that its place and slot are there
 module _ (st : Station) (e : Effect) (c : Change) (h : IsChange st e c) where
-  pub comes-to : changedBy st c ≡ outcomeOf e
+  pub comes-to : listedOutcome (changedBy st c) ≡ outcomeOf e
   unfolding IsChange
   comes-to = h .2
 
@@ -39,15 +39,16 @@ as-outcome st e f c p h = (h .0, h .1, h .2 ∙ sym p)
 pub as-effect : (st : Station) (e f : Effect) (c : Change) → e ≡ f → IsChange st f c → IsChange st e c
 as-effect st e f c p = as-outcome st e f c (ap outcomeOf p)
 
+-- whatever stands past the last place and the last slot
 module _ (st : Station) (a : Answer) where
-  pub is-unchanged : IsChange st (says a st) (record { answer = a; place = 0; live = getD (st .live) 0 liveBeyond; slot = 0; entry = getD (st .entries) 0 entryBeyond })
-  unfolding IsChange changedBy outcomeOf says setLive setEntry
-  is-unchanged = (omega arith, omega arith, λ i. record { answer = a; station = record { live = set-first (st .live) liveBeyond i; entries = set-first (st .entries) entryBeyond i } })
+  pub is-unchanged : (z : Live) (y : Entry) → IsChange st (says a (listed st)) (record { answer = a; place = 0; live = getD (st .live) 0 z; slot = 0; entry = getD (st .entries) 0 y })
+  unfolding IsChange changedBy outcomeOf says
+  is-unchanged z y = (omega arith, omega arith, λ i. record { answer = a; station = record { live = set-first (st .live) z i; entries = listedEntries (set-first (st .entries) y i) } })
 
-  pub is-live-changed : (i : ℕ) (l : Live) → i < livePlaces → IsChange st (says a (setLive st i l)) (record { answer = a; place = i; live = l; slot = 0; entry = getD (st .entries) 0 entryBeyond })
-  unfolding IsChange changedBy outcomeOf says setLive setEntry
-  is-live-changed i l o = (o, omega arith, λ j. record { answer = a; station = record { live = set (st .live) i l; entries = set-first (st .entries) entryBeyond j } })
+  pub is-live-changed : (y : Entry) (i : ℕ) (l : Live) → i < livePlaces → IsChange st (says a (setLive (listed st) i l)) (record { answer = a; place = i; live = l; slot = 0; entry = getD (st .entries) 0 y })
+  unfolding IsChange changedBy outcomeOf says setLive
+  is-live-changed y i l o = (o, omega arith, λ j. record { answer = a; station = record { live = set (st .live) i l; entries = listedEntries (set-first (st .entries) y j) } })
 
-  pub is-entry-changed : (d : ℕ) (e : Entry) → d < slots → IsChange st (says a (setEntry st d e)) (record { answer = a; place = 0; live = getD (st .live) 0 liveBeyond; slot = d; entry = e })
-  unfolding IsChange changedBy outcomeOf says setLive setEntry
-  is-entry-changed d e o = (omega arith, o, λ j. record { answer = a; station = record { live = set-first (st .live) liveBeyond j; entries = set (st .entries) d e } })
+  pub is-entry-changed : (z : Live) (d : ℕ) (e : Entry) → d < slots → IsChange st (says a (setEntry (listed st) d (listedEntry e))) (record { answer = a; place = 0; live = getD (st .live) 0 z; slot = d; entry = e })
+  unfolding IsChange changedBy outcomeOf says setEntry
+  is-entry-changed z d e o = (omega arith, o, λ j. record { answer = a; station = record { live = set-first (st .live) z j; entries = listed-set (st .entries) d e j } })

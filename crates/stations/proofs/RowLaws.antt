@@ -12,7 +12,7 @@ use native.Mathlib.Omega.{arith}
 use borrow.Author.Tests.{not-false, eqb-false, leb-true, leb-false, le-leb, lt-leb}
 use Rattle.model.specs.declared.Live.{Live}
 use Rattle.model.specs.declared.Phase.{Phase}
-use Rattle.model.specs.declared.Station.{Station}
+use Rattle.model.specs.Types.{Station}
 use Rattle.model.specs.declared.Answer.the-variants as A
 use Rattle.model.specs.Lists.{first, all, any}
 use Rattle.model.specs.Limits.{keys, livePlaces}

@@ -9,7 +9,9 @@ ghost use lib.ListN.{length, take};
 ghost use Rattle.model.specs.Lists.{_and_, first, member, maximum, anyBelow};
 ghost use Rattle.model.specs.Limits.{keys, livePlaces, slots, writeLimit, readLimit};
 ghost use Rattle.model.specs.Lives.{noLive, writesOf, writeKey, readKey, hasWritten, hasRead, valueUnder, isClosing, closingClock, slotMark, withPhase};
-ghost use Rattle.model.specs.Entries.{recordOf, entryFor};
+ghost use Rattle.model.specs.KeySets.{keySet};
+ghost use Rattle.model.specs.Listed.{listedEntry, listedEntries, listed};
+ghost use Rattle.model.specs.Entries.{wrote, recordOf, entryFor};
 ghost use Rattle.model.specs.Clocks.{entryClock, liveClock, clocks};
 ghost use Rattle.model.specs.Stations.{isFree, placeOf, setLive, setEntry};
 ghost use Rattle.model.specs.Sound.{zeroPastCounts, setsRight};
@@ -20,6 +22,8 @@ ghost use Rattle.model.specs.Get.{withRead};
 ghost use Rattle.model.specs.Commit.{highestFree};
 ghost use Rattle.stations.specs.Changes.{changedBy, IsChange};
 ghost use Rattle.stations.specs.Found.{liveTxn, entryTxn, liveMark, stationOf, liveIn, joined, firstRow, namedRows, openRows};
+use keysets::keys_below;
+use keysets::with_key;
 use model::Answer;
 use model::Entry;
 use model::Id;
@@ -96,7 +100,7 @@ fn phase_at(live: [Live; Station::LIVE], place: usize) -> Phase
 
 // The first slot whose entry is this transaction's; their number where there is none.
 pub fn slot_of(entries: [Entry; Station::SLOTS], txn: u32) -> usize
-    ensures { λ r. ⌜ r ≡ first (eqb txn) (map entryTxn entries) ⌝ }
+    ensures { λ r. ⌜ r ≡ first (eqb txn) (map entryTxn (listedEntries entries)) ⌝ }
 {
     let mut i = 0;
     while i < Station::SLOTS {
@@ -153,7 +157,7 @@ fn is_marked(marks: [usize; Station::LIVE], mark: usize) -> bool
 
 // The highest slot that no entry and no closing transaction has; their number where there is none.
 pub fn highest_free(live: [Live; Station::LIVE], entries: [Entry; Station::SLOTS]) -> usize
-    ensures { λ r. ⌜ r ≡ cond (anyBelow (isFree (stationOf live entries)) slots) (highestFree (stationOf live entries)) slots ⌝ }
+    ensures { λ r. ⌜ r ≡ cond (anyBelow (isFree (stationOf live (listedEntries entries))) slots) (highestFree (stationOf live (listedEntries entries))) slots ⌝ }
 {
     let marks = closing_slots(live);
     let mut n = Station::SLOTS;
@@ -378,7 +382,7 @@ pub fn greater(a: u64, b: u64) -> u64
 
 // The greatest clock of the entries; 0 where there is none.
 fn greatest_entry_clock(entries: [Entry; Station::SLOTS]) -> u64
-    ensures { λ r. ⌜ r ≡ maximum (map entryClock entries) ⌝ }
+    ensures { λ r. ⌜ r ≡ maximum (map entryClock (listedEntries entries)) ⌝ }
 {
     let mut most = 0;
     let mut i = 0;
@@ -409,7 +413,7 @@ fn greatest_closing_clock(live: [Live; Station::LIVE]) -> u64
 
 // The greatest clock of the entries and the closing transactions; 0 where there is none.
 pub fn greatest_clock(live: [Live; Station::LIVE], entries: [Entry; Station::SLOTS]) -> u64
-    ensures { λ r. ⌜ r ≡ maximum (clocks (stationOf live entries)) ⌝ }
+    ensures { λ r. ⌜ r ≡ maximum (clocks (stationOf live (listedEntries entries))) ⌝ }
 {
     let held = greatest_entry_clock(entries);
     let closing = greatest_closing_clock(live);
@@ -432,31 +436,44 @@ pub fn with_phase(l: Live, p: Phase) -> Live
     }
 }
 
+// The keys of the write set as one number.
+fn written_set(l: Live) -> u64
+    requires { ⌜ setsRight l ≡ true ⌝ }
+    ensures { λ r. ⌜ keySet r ≡ map writeKey (writesOf l) ⌝ }
+{
+    let n = wide(l.write_count);
+    let mut set = 0u64;
+    let mut i = 0;
+    while i < n {
+        let w = l.writes[i];
+        set = with_key(set, w.key);
+        i += 1;
+    }
+    set
+}
+
 // The entry that a closing transaction becomes.
 pub fn entry_for(l: Live) -> Entry
-    ensures { λ r. ⌜ r ≡ entryFor l ⌝ }
+    requires { ⌜ setsRight l ≡ true ⌝ }
+    ensures { λ r. ⌜ listedEntry r ≡ entryFor l ⌝ }
 {
     let p = l.phase;
-    let writes = l.writes;
     let id = Id {
         clock: closing_clock(p),
         txn: l.txn,
     };
     Entry {
         id: id,
-        count: l.write_count,
-        keys: write_keys(writes),
+        keys: written_set(l),
     }
 }
 
-// The number of the version record of a key, from 1; the count and 1 where the entry did not write it.
+// The number of the version record of a key that the entry wrote: one more than its keys below.
 pub fn record_of(e: Entry, key: u8) -> usize
-    requires { ⌜ e .count ≤ writeLimit ⌝ }
-    ensures { λ r. ⌜ r ≡ recordOf e key ⌝ }
+    requires { ⌜ wrote (listedEntry e) key ≡ true ⌝ }
+    ensures { λ r. ⌜ r ≡ recordOf (listedEntry e) key ⌝ }
 {
-    let n = wide(e.count);
-    let keys = e.keys;
-    position(&keys, n, key) + 1
+    keys_below(e.keys, key) + 1
 }
 
 // ---- what a call needs
@@ -535,7 +552,7 @@ pub struct Change {
 
 // An answer that changes nothing.
 pub fn unchanged(station: Station, answer: Answer) -> Change
-    ensures { λ r. ⌜ IsChange station (says answer station) r ⌝ }
+    ensures { λ r. ⌜ IsChange station (says answer (listed station)) r ⌝ }
 {
     let live = station.live[0];
     let entry = station.entries[0];
@@ -550,7 +567,7 @@ pub fn unchanged(station: Station, answer: Answer) -> Change
 
 // A refusal hands the station back as given.
 pub fn refused(station: Station, number: u8) -> Change
-    ensures { λ r. ⌜ IsChange station (says (Answer.Refused number 0) station) r ⌝ }
+    ensures { λ r. ⌜ IsChange station (says (Answer.Refused number 0) (listed station)) r ⌝ }
 {
     unchanged(station, Answer::Refused(number, 0))
 }
@@ -558,7 +575,7 @@ pub fn refused(station: Station, number: u8) -> Change
 // Another transaction, or another state of one, at a place.
 pub fn live_changed(station: Station, answer: Answer, place: usize, live: Live) -> Change
     requires { ⌜ place < livePlaces ⌝ }
-    ensures { λ r. ⌜ IsChange station (says answer (setLive station place live)) r ⌝ }
+    ensures { λ r. ⌜ IsChange station (says answer (setLive (listed station) place live)) r ⌝ }
 {
     let entry = station.entries[0];
     Change {
@@ -573,7 +590,7 @@ pub fn live_changed(station: Station, answer: Answer, place: usize, live: Live) 
 // Another entry in a slot.
 pub fn entry_changed(station: Station, answer: Answer, slot: usize, entry: Entry) -> Change
     requires { ⌜ slot < slots ⌝ }
-    ensures { λ r. ⌜ IsChange station (says answer (setEntry station slot entry)) r ⌝ }
+    ensures { λ r. ⌜ IsChange station (says answer (setEntry (listed station) slot (listedEntry entry))) r ⌝ }
 {
     let live = station.live[0];
     Change {

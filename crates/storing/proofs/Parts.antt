@@ -5,7 +5,8 @@ use mathlib.Core.Bool.{false}
 use mathlib.Core.List.{List}
 use lib.ListN.{length}
 use borrow.Author.Tests.{eq-eqb}
-use Rattle.model.specs.declared.Station.{Station}
+use Rattle.model.specs.declared.Station as machine
+use Rattle.model.specs.Types.{Station}
 use Rattle.model.specs.declared.Answer.{Answer}
 use Rattle.model.specs.Effects.{Effect, stored, outcomeOf, says, saysStoring, wrongLength}
 use Rattle.model.specs.Limits.{storeSize}
@@ -16,7 +17,7 @@ use Rattle.stations.proofs.Changes.{as-outcome, as-effect}
 use Rattle.stations.specs.Changes.{IsChange}
 
 -- the change, and the store at exit: with nothing stored, with one record stored
-module _ (st : Station) (c : Change) (e : Effect) (a : Answer) (x : Station) where
+module _ (st : machine.Station) (c : Change) (e : Effect) (a : Answer) (x : Station) where
   pub handed : (s : List ℕ) → e ≡ says a x → IsChange st (says a x) c → IsChange st e c × (s ≡ stored (e .stores) s)
   unfolding says stored
   handed s q h = (as-effect st e (says a x) c q h, sym (ap (λ (y : Effect). stored (y .stores) s) q))

@@ -5,25 +5,27 @@ use mathlib.Core.Logic.{_≢_, _⊎_, ⊎-elim}
 use mathlib.Core.Bool.{Bool, true, false, not}
 use mathlib.Core.List.{List, [], _∷_}
 use lib.Dec.{ltb}
-use lib.ListN.{length, getD}
+use lib.ListN.{length, getD, set}
 use native.Mathlib.Nat.{lt-irrefl}
 use native.Mathlib.Omega.{arith}
 use borrow.Author.Tests.{ltb-false, lt-ltb, le-ltb, eq-eqb, ne-eqb}
 use Rattle.model.specs.declared.Live.{Live}
-use Rattle.model.specs.declared.Entry.{Entry}
-use Rattle.model.specs.declared.Station.{Station}
+use Rattle.model.specs.declared as machine
+use Rattle.model.specs.Types.{Entry, Station}
 use Rattle.model.specs.declared.Phase.{Phase}
 use Rattle.model.specs.declared.Phase.the-variants.{Unused, Open, Closing}
 use Rattle.model.specs.declared.Answer.{Answer}
 use Rattle.model.specs.declared.Answer.the-variants as A
 use Rattle.model.specs.Limits.{livePlaces, slots, storeSize}
-use Rattle.model.specs.Lives.{withPhase, noWrite, noLive, isClosing, closingSlot, recordsStored}
+use Rattle.model.specs.Lives.{writeCount, withPhase, noWrite, noLive, isClosing, closingSlot, recordsStored}
 use Rattle.model.specs.Entries.{commitRecord, entryFor}
+use Rattle.model.specs.Listed.{listedEntry, listed}
 use Rattle.model.specs.Stations.{liveAt, setLive, setEntry, liveTxns, isLive, placeOf}
 use Rattle.model.specs.Records.{versionRecord, withRecord}
 use Rattle.model.specs.Sound.{sound}
 use Rattle.model.specs.Effects.{Effect, stored, outcomeOf, says, saysStoring, _when_, refusals, wrongLength, unsound}
 use Rattle.model.specs.Step.{oneMore, stepped, step}
+use Rattle.model.proofs.ListedLaws.{listed-set}
 use Rattle.model.proofs.RefusalLaws.{refusals-none, skipped, hit}
 use Rattle.model.proofs.Tests.{not-of-false, not-of-true}
 use Rattle.stations.specs.Changes.{changedBy, IsChange}
@@ -38,24 +40,24 @@ module _ (st : Station) (s : List ℕ) (i d c n : ℕ) where
   RecordStep = (outcomeOf (stepped st i (liveAt st i) (Closing d c n)) ≡ outcomeOf (says (recordAnswer (liveAt st i) d n) (setLive st i (withPhase (Closing d c (n + 1)) (liveAt st i)))))
       × (stored (stepped st i (liveAt st i) (Closing d c n) .stores) s ≡ recordStored (liveAt st i) (entryFor (liveAt st i)) d n s)
 
-  record-step : n ≤ liveAt st i .«write_count» → RecordStep
+  record-step : n ≤ writeCount (liveAt st i) → RecordStep
   unfolding stepped closingSlot recordsStored oneMore outcomeOf says saysStoring stored recordAnswer recordStored
-  record-step o = go (ltb n (liveAt st i .«write_count»)) refl
+  record-step o = go (ltb n (writeCount (liveAt st i))) refl
     where
-      go : (b : Bool) → ltb n (liveAt st i .«write_count») ≡ b → RecordStep
+      go : (b : Bool) → ltb n (writeCount (liveAt st i)) ≡ b → RecordStep
       go true e = (rw e, rw e)
-      go false e = let h : n ≡ liveAt st i .«write_count» = omega (arith, ltb-false n (liveAt st i .«write_count») e) in (rw (e, eq-eqb n _ h), rw (e, eq-eqb n _ h))
+      go false e = let h : n ≡ writeCount (liveAt st i) = omega (arith, ltb-false n (writeCount (liveAt st i)) e) in (rw (e, eq-eqb n _ h), rw (e, eq-eqb n _ h))
 
 -- the two kinds of record, as stored by the code
 module _ (l : Live) (e : Entry) (d n : ℕ) (s z : List ℕ) where
-  pub commit-stored : n ≡ l .«write_count» → z ≡ withRecord s d 0 (commitRecord e) → (A.Slipped d ≡ recordAnswer l d n) × (z ≡ recordStored l e d n s)
+  pub commit-stored : n ≡ writeCount l → z ≡ withRecord s d 0 (commitRecord e) → (A.Slipped d ≡ recordAnswer l d n) × (z ≡ recordStored l e d n s)
   unfolding recordAnswer recordStored
-  commit-stored h w = let o : l .«write_count» ≤ n = omega arith in (rw (le-ltb n (l .«write_count») o), rw (le-ltb n (l .«write_count») o) w)
+  commit-stored h w = let o : writeCount l ≤ n = omega arith in (rw (le-ltb n (writeCount l) o), rw (le-ltb n (writeCount l) o) w)
 
-  pub version-stored : n < l .«write_count» → z ≡ withRecord s d (n + 1) (versionRecord (getD (l .writes) n noWrite .key) (e .id) (getD (l .writes) n noWrite .value))
+  pub version-stored : n < writeCount l → z ≡ withRecord s d (n + 1) (versionRecord (getD (l .writes) n noWrite .key) (e .id) (getD (l .writes) n noWrite .value))
       → (A.Stored (getD (l .writes) n noWrite .key) ≡ recordAnswer l d n) × (z ≡ recordStored l e d n s)
   unfolding recordAnswer recordStored
-  version-stored o w = (rw (lt-ltb n (l .«write_count») o), rw (lt-ltb n (l .«write_count») o) w)
+  version-stored o w = (rw (lt-ltb n (writeCount l) o), rw (lt-ltb n (writeCount l) o) w)
 
 -- ── the tests of a step, in their order ──
 module _ (st : Station) (s : List ℕ) (t : ℕ) where
@@ -92,7 +94,7 @@ module _ (st : Station) (s : List ℕ) (t : ℕ) where
       step-on = g ∙ (skipped 10 _ _ st _ (not-of-true _ (ap isClosing p)) ∙ (refusals-none st _ ∙ ap (stepped st i (liveAt st i)) p))
 
       -- a record is stored
-      pub step-record : (a : Answer) (m : Live) (e : Entry) (z : List ℕ) → n ≤ liveAt st i .«write_count» → e ≡ entryFor (liveAt st i) → m ≡ withPhase (Closing d c (n + 1)) (liveAt st i)
+      pub step-record : (a : Answer) (m : Live) (e : Entry) (z : List ℕ) → n ≤ writeCount (liveAt st i) → e ≡ entryFor (liveAt st i) → m ≡ withPhase (Closing d c (n + 1)) (liveAt st i)
           → a ≡ recordAnswer (liveAt st i) d n → z ≡ recordStored (liveAt st i) e d n s
           → (outcomeOf (step st s t) ≡ outcomeOf (says a (setLive st i m))) × (z ≡ stored (step st s t .stores) s)
       step-record a m e z o q r ea ez =
@@ -102,14 +104,17 @@ module _ (st : Station) (s : List ℕ) (t : ℕ) where
           )
 
       -- the entry is made
-      module _ (m : Live) (e : Entry) (o : liveAt st i .«write_count» < n) (q : e ≡ entryFor (liveAt st i)) (r : m ≡ noLive) where
-        done : step st s t ≡ says (A.Done (e .id)) (setEntry (setLive st i m) d e)
-        unfolding stepped closingSlot recordsStored oneMore
-        done = let w : liveAt st i .«write_count» ≤ n = omega arith in step-on ∙ (rw (le-ltb n (liveAt st i .«write_count») w, ne-eqb n (liveAt st i .«write_count») (λ x. lt-irrefl n (omega arith)), r, q))
+      pub step-done : (m : Live) (e : Entry) → writeCount (liveAt st i) < n → e ≡ entryFor (liveAt st i) → m ≡ noLive → step st s t ≡ says (A.Done (e .id)) (setEntry (setLive st i m) d e)
+      unfolding stepped closingSlot recordsStored oneMore
+      step-done m e o q r =
+          let w : writeCount (liveAt st i) ≤ n = omega arith in
+          step-on ∙ (rw (le-ltb n (writeCount (liveAt st i)) w, ne-eqb n (writeCount (liveAt st i)) (λ x. lt-irrefl n (omega arith)), r, q))
 
-        pub step-done : i < livePlaces → d < slots → IsChange st (step st s t) (record { answer = A.Done (e .id); place = i; live = m; slot = d; entry = e }) × (s ≡ stored (step st s t .stores) s)
-        unfolding IsChange changedBy outcomeOf says
-        step-done v u = handed st _ _ (A.Done (e .id)) (setEntry (setLive st i m) d e) s done (v, u, refl)
+-- that is another transaction at a place and another entry in a slot
+pub is-done : (st : machine.Station.Station) (a : Answer) (i : ℕ) (m : Live) (d : ℕ) (e : machine.Entry.Entry) → i < livePlaces → d < slots
+    → IsChange st (says a (setEntry (setLive (listed st) i m) d (listedEntry e))) (record { answer = a; place = i; live = m; slot = d; entry = e })
+unfolding IsChange changedBy outcomeOf says setLive setEntry
+is-done st a i m d e v u = (v, u, λ j. record { answer = a; station = record { live = set (st .live) i m; entries = listed-set (st .entries) d e j } })
 
 -- a phase that is none of the third kind
 pub not-closing : (p : Phase) → (denote.Enum.Declared.tagOf Rattle.model.proofs.Phase.the-type p ≡ 0) ⊎ (denote.Enum.Declared.tagOf Rattle.model.proofs.Phase.the-type p ≡ 1) → isClosing p ≡ false

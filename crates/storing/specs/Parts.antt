@@ -6,17 +6,17 @@ use lib.Dec.{ltb}
 use lib.ListN.{getD}
 use Rattle.model.specs.declared.Write.{Write}
 use Rattle.model.specs.declared.Live.{Live}
-use Rattle.model.specs.declared.Entry.{Entry}
+use Rattle.model.specs.Types.{Entry}
 use Rattle.model.specs.declared.Answer.{Answer}
 use Rattle.model.specs.declared.Answer.the-variants as A
-use Rattle.model.specs.Lives.{noWrite}
+use Rattle.model.specs.Lives.{noWrite, writeCount}
 use Rattle.model.specs.Entries.{commitRecord}
 use Rattle.model.specs.Records.{versionRecord, withRecord}
 
 unfoldable pub recordAnswer : Live → ℕ → ℕ → Answer
-recordAnswer l d n = cond (ltb n (l .«write_count»)) (A.Stored (getD (l .writes) n noWrite .key)) (A.Slipped d)
+recordAnswer l d n = cond (ltb n (writeCount l)) (A.Stored (getD (l .writes) n noWrite .key)) (A.Slipped d)
 
 unfoldable pub recordStored : Live → Entry → ℕ → ℕ → List ℕ → List ℕ
 recordStored l e d n s =
     let w : Write = getD (l .writes) n noWrite in
-    cond (ltb n (l .«write_count»)) (withRecord s d (n + 1) (versionRecord (w .key) (e .id) (w .value))) (withRecord s d 0 (commitRecord e))
+    cond (ltb n (writeCount l)) (withRecord s d (n + 1) (versionRecord (w .key) (e .id) (w .value))) (withRecord s d 0 (commitRecord e))

@@ -8,9 +8,11 @@ ghost use lib.Dec.{leb};
 ghost use lib.ListN.{length};
 ghost use Rattle.model.specs.Lists.{_and_};
 ghost use Rattle.model.specs.Limits.{slots, writeLimit, readLimit, width, storeSize};
-ghost use Rattle.model.specs.Lives.{hasRead};
+ghost use Rattle.model.specs.Lives.{writeCount, hasRead};
 ghost use Rattle.model.specs.Entries.{wrote, commitRecord, recordOf};
 ghost use Rattle.model.specs.Records.{valueIn, versionRecord, zeroRecord, carriesVersion, recordAt, withRecord};
+ghost use Rattle.model.specs.KeySets.{keySet};
+ghost use Rattle.model.specs.Listed.{listedEntry, listed};
 ghost use Rattle.model.specs.Sound.{sound};
 ghost use Rattle.model.specs.Effects.{stored};
 ghost use Rattle.model.specs.Get.{get};
@@ -24,6 +26,7 @@ use model::Id;
 use model::Live;
 use model::Phase;
 use model::Station;
+use model::write_count;
 use reading::Chosen;
 use reading::choose_version;
 use reading::is_read;
@@ -66,7 +69,8 @@ fn store_version(store: &mut [u8], slot: usize, n: usize, key: u8, id: Id, value
 fn store_commit(store: &mut [u8], slot: usize, e: Entry)
     requires { ⌜ length (now store) ≡ storeSize ⌝ }
     requires { ⌜ slot < slots ⌝ }
-    ensures { λ _. ⌜ now (store .exit) ≡ withRecord (now (store .entry)) slot 0 (commitRecord e) ⌝ }
+    requires { ⌜ length (keySet (e .keys)) ≤ writeLimit ⌝ }
+    ensures { λ _. ⌜ now (store .exit) ≡ withRecord (now (store .entry)) slot 0 (commitRecord (listedEntry e)) ⌝ }
 {
     let at = Station::SLOT * slot;
     write_commit(&mut store[at..at + Station::RECORD], e);
@@ -104,9 +108,9 @@ struct VersionRead {
 fn read_version(store: &[u8], slot: usize, e: Entry, key: u8) -> VersionRead
     requires { ⌜ length (now store) ≡ storeSize ⌝ }
     requires { ⌜ slot < slots ⌝ }
-    requires { ⌜ (e .count ≤ writeLimit) × (wrote e key ≡ true) ⌝ }
-    ensures { λ r. ⌜ r .carried ≡ carriesVersion (recordAt (now (store .entry)) slot (recordOf e key)) key (e .id) ⌝ }
-    ensures { λ r. ⌜ r .value ≡ valueIn (recordAt (now (store .entry)) slot (recordOf e key)) ⌝ }
+    requires { ⌜ (length (keySet (e .keys)) ≤ writeLimit) × (wrote (listedEntry e) key ≡ true) ⌝ }
+    ensures { λ r. ⌜ r .carried ≡ carriesVersion (recordAt (now (store .entry)) slot (recordOf (listedEntry e) key)) key (e .id) ⌝ }
+    ensures { λ r. ⌜ r .value ≡ valueIn (recordAt (now (store .entry)) slot (recordOf (listedEntry e) key)) ⌝ }
 {
     let id = e.id;
     let at = Station::SLOT * slot + Station::RECORD * record_of(e, key);
@@ -118,8 +122,8 @@ fn read_version(store: &[u8], slot: usize, e: Entry, key: u8) -> VersionRead
 
 // Reads a key: the transaction's own value, or the version that Algorithm 1 chooses.
 pub fn get(station: Station, tested: bool, store: &[u8], txn: u32, key: u8) -> Change
-    requires { ⌜ tested ≡ sound station ⌝ }
-    ensures { λ r. ⌜ IsChange station (get station (now (store .entry)) txn key) r ⌝ }
+    requires { ⌜ tested ≡ sound (listed station) ⌝ }
+    ensures { λ r. ⌜ IsChange station (get (listed station) (now (store .entry)) txn key) r ⌝ }
 {
     if store.len() != Station::STORE {
         return refused(station, 1);
@@ -159,11 +163,11 @@ pub fn get(station: Station, tested: bool, store: &[u8], txn: u32, key: u8) -> C
 fn store_record(store: &mut [u8], l: Live, e: Entry, slot: u8, n: u8) -> Answer
     requires { ⌜ length (now store) ≡ storeSize ⌝ }
     requires { ⌜ slot < slots ⌝ }
-    requires { ⌜ (n ≤ l .«write_count») × (l .«write_count» ≤ writeLimit) ⌝ }
-    ensures { λ r. ⌜ (r ≡ recordAnswer l slot n) × (now (store .exit) ≡ recordStored l e slot n (now (store .entry))) ⌝ }
+    requires { ⌜ (n ≤ writeCount l) × (length (keySet (e .keys)) ≤ writeLimit) ⌝ }
+    ensures { λ r. ⌜ (r ≡ recordAnswer l slot n) × (now (store .exit) ≡ recordStored l (listedEntry e) slot n (now (store .entry))) ⌝ }
 {
     let d = slot as usize;
-    if n == l.write_count {
+    if n == write_count(l) {
         store_commit(store, d, e);
         return Answer::Slipped(slot);
     }
@@ -176,8 +180,8 @@ fn store_record(store: &mut [u8], l: Live, e: Entry, slot: u8, n: u8) -> Answer
 
 // Stores the next record of a closing transaction; after the commit record, acknowledges.
 pub fn step(station: Station, tested: bool, store: &mut [u8], txn: u32) -> Change
-    requires { ⌜ tested ≡ sound station ⌝ }
-    ensures { λ r. ⌜ (IsChange station (step station (now (store .entry)) txn) r) × (now (store .exit) ≡ stored (step station (now (store .entry)) txn .stores) (now (store .entry))) ⌝ }
+    requires { ⌜ tested ≡ sound (listed station) ⌝ }
+    ensures { λ r. ⌜ (IsChange station (step (listed station) (now (store .entry)) txn) r) × (now (store .exit) ≡ stored (step (listed station) (now (store .entry)) txn .stores) (now (store .entry))) ⌝ }
 {
     if store.len() != Station::STORE {
         return refused(station, 1);
@@ -196,7 +200,7 @@ pub fn step(station: Station, tested: bool, store: &mut [u8], txn: u32) -> Chang
     };
     let d = slot as usize;
     let e = entry_for(l);
-    if n > l.write_count {
+    if n > write_count(l) {
         let id = e.id;
         let unused = no_live();
         return Change {
@@ -215,8 +219,8 @@ pub fn step(station: Station, tested: bool, store: &mut [u8], txn: u32) -> Chang
 // ---- collect
 // Frees the slot of an entry that is superseded on every key it wrote and that no live transaction has read.
 pub fn collect(station: Station, tested: bool, store: &mut [u8], slot: u8) -> Change
-    requires { ⌜ tested ≡ sound station ⌝ }
-    ensures { λ r. ⌜ (IsChange station (collect station (now (store .entry)) slot) r) × (now (store .exit) ≡ stored (collect station (now (store .entry)) slot .stores) (now (store .entry))) ⌝ }
+    requires { ⌜ tested ≡ sound (listed station) ⌝ }
+    ensures { λ r. ⌜ (IsChange station (collect (listed station) (now (store .entry)) slot) r) × (now (store .exit) ≡ stored (collect (listed station) (now (store .entry)) slot .stores) (now (store .entry))) ⌝ }
 {
     if store.len() != Station::STORE {
         return refused(station, 1);

@@ -7,7 +7,9 @@ use mathlib.Core.List.{List, [], _∷_, append-nil}
 use lib.ListN.{length, take}
 use lib.Seq.{length-take-le}
 use Rattle.model.specs.declared.Station.{Station}
-use Rattle.model.specs.declared.Outcome.{Outcome}
+use Rattle.model.specs.declared.Outcome as machine
+use Rattle.model.specs.Types.{Outcome}
+use Rattle.model.specs.Listed.{listed, listedOutcome}
 use Rattle.model.specs.Sound.{sound}
 use Rattle.model.specs.Lists.{_or_}
 use Rattle.model.specs.Effects.{outcomeOf}
@@ -21,20 +23,20 @@ use Rattle.sheet.specs.Words.{newline}
 use Rattle.stream.specs.Streams.{byteOutput, bytesOutput, lastLine, endOutput}
 use Rattle.stream.specs.Parts.{deskOf, streamOf}
 
-module _ (l : List ℕ) (st : Station) (s : List ℕ) (n : ℕ) (q : Request) (h : q .command ≡ commandOf (lineCall l)) (o : Outcome) (p : o ≡ acted st s q) where
-  outcome-is : o ≡ outcomeOf (lineEffect (lineCall l) st s)
-  outcome-is = p ∙ acted-is q (lineCall l) h st s
+module _ (l : List ℕ) (st : Station) (s : List ℕ) (n : ℕ) (q : Request) (h : q .command ≡ commandOf (lineCall l)) (o : machine.Outcome) (p : listedOutcome o ≡ acted (listed st) s q) where
+  outcome-is : listedOutcome o ≡ outcomeOf (lineEffect (lineCall l) (listed st) s)
+  outcome-is = p ∙ acted-is q (lineCall l) h (listed st) s
 
-  pub line-run : (s′ : List ℕ) → s′ ≡ kept st s q → deskOf (o .station) s′ (n + 1) ≡ afterLine l (deskOf st s n)
+  pub line-run : (s′ : List ℕ) → s′ ≡ kept (listed st) s q → deskOf (o .station) s′ (n + 1) ≡ afterLine l (deskOf st s n)
   unfolding deskOf afterLine outcomeOf
-  line-run s′ k = λ i. record { station = outcome-is i .station; store = (k ∙ kept-is q (lineCall l) h st s) i; line = n + 1 }
+  line-run s′ k = λ i. record { station = outcome-is i .station; store = (k ∙ kept-is q (lineCall l) h (listed st) s) i; line = n + 1 }
 
   pub line-answered : printed n (o .answer) ≡ lineOutput l (deskOf st s n)
   unfolding deskOf lineOutput outcomeOf
   line-answered = ap (λ (x : Outcome). printed n (x .answer)) outcome-is
 
-  pub line-tested : q .tested ≡ sound st → (t : Bool) → t ≡ (asksScan (callOf (q .command)) or q .tested) → t ≡ sound (o .station)
-  line-tested g t e = e ∙ ap (λ (b : Bool). asksScan (callOf (q .command)) or b) g ∙ sym (acted-tested st s q) ∙ ap (λ (x : Outcome). sound (x .station)) (sym p)
+  pub line-tested : q .tested ≡ sound (listed st) → (t : Bool) → t ≡ (asksScan (callOf (q .command)) or q .tested) → t ≡ sound (listed (o .station))
+  line-tested g t e = e ∙ ap (λ (b : Bool). asksScan (callOf (q .command)) or b) g ∙ sym (acted-tested (listed st) s q) ∙ ap (λ (x : Outcome). sound (x .station)) (sym p)
 
 -- ── the end of the input ──
 pub end-none : (st : Station) (s : List ℕ) (n : ℕ) (p : List ℕ) (len : ℕ) → len ≡ 0 → [] ≡ endOutput (streamOf st s n p len)

@@ -3,11 +3,12 @@ use Prim.Native.Nat.{ℕ}
 use mathlib.Core.List.{List, [], _∷_}
 use lib.ListN.{take}
 use Rattle.model.specs.declared.Station.{Station}
+use Rattle.model.specs.Listed.{listed}
 use Rattle.sheet.specs.Sheets.{Desk}
 use Rattle.stream.specs.Streams.{Stream, joined}
 
 unfoldable pub deskOf : Station → List ℕ → ℕ → Desk
-deskOf station store number = record { station = station; store = store; line = number }
+deskOf station store number = record { station = listed station; store = store; line = number }
 
 -- the line is the first len bytes of the part that is kept
 unfoldable pub streamOf : Station → List ℕ → ℕ → List ℕ → ℕ → Stream

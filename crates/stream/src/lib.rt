@@ -11,6 +11,7 @@ use soundness::is_sound;
 ghost use mathlib.Core.Path.{_≡_};
 ghost use Prim.Native.Nat.{_+_, _*_, _^_, _≤_, _<_};
 ghost use lib.ListN.{length, take, drop};
+ghost use Rattle.model.specs.Listed.{listed, listedOutcome};
 ghost use Rattle.model.specs.Sound.{sound};
 ghost use Rattle.sheet.specs.Sheets.{firstLine, afterLine, lineOutput};
 ghost use Rattle.desk.specs.Acts.{acted, kept};
@@ -73,8 +74,8 @@ fn fill(part: &mut [u8], len: usize, input: &[u8], start: usize) -> Filled
 
 // The one call that is lent the station: it writes the new one over it.
 fn act_on(station: &mut Station, store: &mut [u8], request: Request) -> Answer
-    requires { ⌜ request .tested ≡ sound (now station) ⌝ }
-    ensures { λ r. ⌜ (r ≡ acted (now (station .entry)) (now (store .entry)) request .answer) × (now (station .exit) ≡ acted (now (station .entry)) (now (store .entry)) request .station) × (now (store .exit) ≡ kept (now (station .entry)) (now (store .entry)) request) ⌝ }
+    requires { ⌜ request .tested ≡ sound (listed (now station)) ⌝ }
+    ensures { λ r. ⌜ (r ≡ acted (listed (now (station .entry))) (now (store .entry)) request .answer) × (listed (now (station .exit)) ≡ acted (listed (now (station .entry))) (now (store .entry)) request .station) × (now (store .exit) ≡ kept (listed (now (station .entry))) (now (store .entry)) request) ⌝ }
 {
     let o = act(*station, store, request);
     *station = o.station;
@@ -83,8 +84,8 @@ fn act_on(station: &mut Station, store: &mut [u8], request: Request) -> Answer
 
 // Lends a station of its own to act_on, so that whoever calls this needs no reference to one.
 fn act_once(station: Station, store: &mut [u8], request: Request) -> Outcome
-    requires { ⌜ request .tested ≡ sound station ⌝ }
-    ensures { λ r. ⌜ (r ≡ acted station (now (store .entry)) request) × (now (store .exit) ≡ kept station (now (store .entry)) request) ⌝ }
+    requires { ⌜ request .tested ≡ sound (listed station) ⌝ }
+    ensures { λ r. ⌜ (listedOutcome r ≡ acted (listed station) (now (store .entry)) request) × (now (store .exit) ≡ kept (listed station) (now (store .entry)) request) ⌝ }
 {
     let mut s = station;
     let a = act_on(&mut s, store, request);
@@ -103,8 +104,8 @@ fn run_line(
     number: u64,
     out: &mut [u8],
 ) -> Ran
-    requires { ⌜ (96 ≤ length (now out)) × (tested ≡ sound station) ⌝ }
-    ensures { λ r. ⌜ (deskOf (r .station) (now (store .exit)) (number + 1) ≡ afterLine (now (line .entry)) (deskOf station (now (store .entry)) number)) × (r .used ≤ 96) × (take (r .used) (now (out .exit)) ≡ lineOutput (now (line .entry)) (deskOf station (now (store .entry)) number)) × (drop (r .used) (now (out .exit)) ≡ drop (r .used) (now (out .entry))) × (r .tested ≡ sound (r .station)) ⌝ }
+    requires { ⌜ (96 ≤ length (now out)) × (tested ≡ sound (listed station)) ⌝ }
+    ensures { λ r. ⌜ (deskOf (r .station) (now (store .exit)) (number + 1) ≡ afterLine (now (line .entry)) (deskOf station (now (store .entry)) number)) × (r .used ≤ 96) × (take (r .used) (now (out .exit)) ≡ lineOutput (now (line .entry)) (deskOf station (now (store .entry)) number)) × (drop (r .used) (now (out .exit)) ≡ drop (r .used) (now (out .entry))) × (r .tested ≡ sound (listed (r .station))) ⌝ }
 {
     let command = parse_line(line);
     let request = Request { command, tested };
@@ -130,7 +131,7 @@ fn run_lines(
     input: &[u8],
     out: &mut [u8],
 ) -> Fed
-    requires { ⌜ (length (now part) ≡ 65) × (len ≤ 65) × (number + length (now input) < 2 ^ 64) × (96 * length (now input) ≤ length (now out)) × (tested ≡ sound station) ⌝ }
+    requires { ⌜ (length (now part) ≡ 65) × (len ≤ 65) × (number + length (now input) < 2 ^ 64) × (96 * length (now input) ≤ length (now out)) × (tested ≡ sound (listed station)) ⌝ }
     ensures { λ r. ⌜ (streamOf (r .station) (now (store .exit)) (r .number) (now (part .exit)) (r .len) ≡ afterBytes (now (input .entry)) (streamOf station (now (store .entry)) number (now (part .entry)) len)) × (take (r .used) (now (out .exit)) ≡ bytesOutput (now (input .entry)) (streamOf station (now (store .entry)) number (now (part .entry)) len)) × (drop (r .used) (now (out .exit)) ≡ drop (r .used) (now (out .entry))) × (r .used ≤ 96 * length (now (input .entry))) × (r .len ≤ 65) × (r .number ≤ number + length (now (input .entry))) ⌝ }
 {
     let mut known = tested;

@@ -1,18 +1,16 @@
 -- Loops that mark more and more: over rows, and for one element of a list after the other.
-use Prim.Native.Nat.{ℕ, zero, suc, _+_, _<_, _≤_}
+use Prim.Native.Nat.{ℕ, _+_, _<_, _≤_}
 use mathlib.Core.Path.{_≡_, refl, sym, ap, _∙_}
 use mathlib.Core.Bool.{Bool, true, false}
-use mathlib.Core.List.{List, [], _∷_}
-use lib.Dec.{eqb}
+use mathlib.Core.List.{List}
 use lib.ListN.{length, take, getD, set, length-set}
 use lib.Seq.{take-all}
-use native.Mathlib.Nat.{not-suc-le-zero, le-of-suc-le-suc, lt-irrefl}
-use native.Mathlib.Numerals.{add-one}
+use native.Mathlib.Nat.{not-suc-le-zero, lt-irrefl}
 use native.Mathlib.Omega.{arith}
-use borrow.Author.Tests.{eq-eqb, ne-eqb}
 use Rattle.model.specs.Lists.{_or_, any}
 use Rattle.model.proofs.Tests.{or-intro-right, or-false, or-assoc}
-use Rattle.model.proofs.ListLaws.{at-set, below-more, any-yes, any-no}
+use Rattle.model.proofs.ListLaws.{at-set, below-more}
+use Rattle.reading.proofs.Loops.{any-take-more}
 use Rattle.sweeping.specs.Marks.{AlsoMarked}
 
 -- ── row after row ──
@@ -52,23 +50,6 @@ module _ (p : ℕ → Bool) (m : ℕ) (xs : List Bool) where
     marking-all o j u = h .passed j (omega arith)
 
 -- ── element after element ──
-module _ {A : Type 0} where
-  pub any-take-more : (p : A → Bool) (l : List A) (i : ℕ) (z : A) → i < length l → any p (take (i + 1) l) ≡ (any p (take i l) or p (getD l i z))
-  any-take-more p l i z o = rw (add-one i) (go l i o)
-    where
-      go : (l : List A) (i : ℕ) → i < length l → any p (take (suc i) l) ≡ (any p (take i l) or p (getD l i z))
-      go [] i u = absurd (not-suc-le-zero u)
-      go (x ∷ xs) zero u = one (p x) refl
-        where
-          one : (b : Bool) → p x ≡ b → any p (x ∷ []) ≡ (any p [] or p x)
-          one true e = unfold any in unfold _or_ in (any-yes p x [] e ∙ sym e)
-          one false e = unfold any in unfold _or_ in (any-no p x [] e ∙ sym e)
-      go (x ∷ xs) (suc i) u = both (p x) refl (go xs i (le-of-suc-le-suc u))
-        where
-          both : (b : Bool) → p x ≡ b → any p (take (suc i) xs) ≡ (any p (take i xs) or p (getD xs i z)) → any p (x ∷ take (suc i) xs) ≡ (any p (x ∷ take i xs) or p (getD xs i z))
-          both true e ih = unfold _or_ in (any-yes p x (take (suc i) xs) e ∙ sym (ap (λ (b : Bool). b or p (getD xs i z)) (any-yes p x (take i xs) e)))
-          both false e ih = any-no p x (take (suc i) xs) e ∙ (ih ∙ sym (ap (λ (b : Bool). b or p (getD xs i z)) (any-no p x (take i xs) e)))
-
 -- marked where they were, and for one of the first i elements
 pub record AlsoAny {A : Type 0} (f : A → ℕ → Bool) (ls : List A) (m : ℕ) (xs : List Bool) (i : ℕ) (ys : List Bool) : Type 0 where
   pub marked : AlsoMarked (λ d. any (λ x. f x d) (take i ls)) m xs ys
@@ -88,13 +69,3 @@ module _ {A : Type 0} (f : A → ℕ → Bool) (ls : List A) (m : ℕ) (xs : Lis
 
     pub also-all : length ls ≤ i → AlsoMarked (λ d. any (λ x. f x d) ls) m xs ys
     also-all o d u = h .marked d u ∙ ap (λ (l : List A). getD xs d false or any (λ x. f x d) l) (take-all i ls o)
-
--- ── one more marked ──
-pub also-set : (m : ℕ) (ys : List Bool) (k : ℕ) → length ys ≡ m → k < m → AlsoMarked (λ d. eqb d k) m ys (set ys k true)
-also-set m ys k l o d u = at-set (λ j y. y ≡ (getD ys j false or eqb j k)) ys k true false (omega arith)
-    (sym (or-intro-right (getD ys k false) _ (eq-eqb k k refl)))
-    (λ j n. sym (or-false (getD ys j false)) ∙ ap (λ (b : Bool). getD ys j false or b) (sym (ne-eqb j k n))) d
-
--- one that is no row
-pub also-not : (m : ℕ) (ys : List Bool) (k : ℕ) → m ≤ k → AlsoMarked (λ d. eqb d k) m ys ys
-also-not m ys k o d u = sym (or-false (getD ys d false)) ∙ ap (λ (b : Bool). getD ys d false or b) (sym (ne-eqb d k (λ e. lt-irrefl d (omega arith))))

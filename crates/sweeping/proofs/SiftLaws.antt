@@ -1,43 +1,40 @@
--- Rows sifted one after the other; and that what is kept of all entries, newest first, are those that may be collected.
+-- Rows sifted one after the other: the keys that the rows before wrote, and the rows kept.
 use Prim.Native.Nat.{ℕ, _+_, _<_}
 use mathlib.Core.Path.{_≡_, refl, sym, ap, _∙_}
 use mathlib.Core.Bool.{Bool, true, false, cond, true≢false}
 use mathlib.Core.List.{List}
-use lib.Dec.{eqb, ltb}
+use lib.Dec.{eqb}
+use lib.Bits.{bitOr}
 use lib.ListN.{length, getD, set}
 use native.Mathlib.Nat.{not-suc-le-zero, lt-irrefl}
-use native.Mathlib.Decide.{ℕ-discrete, decLt}
+use native.Mathlib.Decide.{ℕ-discrete}
 use native.Mathlib.Omega.{arith}
-use borrow.Author.Tests.{eq-eqb, ne-eqb, le-ltb}
-use Rattle.model.specs.declared.Entry.{Entry}
-use Rattle.model.specs.Lists.{_and_, _or_, all, any}
-use Rattle.model.specs.Limits.{keys}
+use borrow.Author.Tests.{eq-eqb, ne-eqb}
+use Rattle.model.specs.Types.{Entry}
+use Rattle.model.specs.Lists.{_or_, all, member}
+use Rattle.model.specs.KeySets.{keySet}
 use Rattle.model.specs.Entries.{keysOf, wrote}
 use Rattle.model.proofs.ListLaws.{at-set, below-more}
+use Rattle.model.proofs.KeySetLaws.{set-or}
 use Rattle.reading.specs.Columns.{nthEntry}
-use Rattle.sweeping.specs.Marks.{AlsoMarked, Marked, allSeen}
+use Rattle.reading.proofs.KeyLoop.{Collecting, collecting-more}
 use Rattle.sweeping.specs.Sifted.{wroteBefore, keeps, AreSifted}
-use Rattle.sweeping.proofs.MarkLoop.{any-take-more}
 
 -- ── the keys that the rows before wrote ──
 module _ (es : List Entry) (xs : List ℕ) where
-  pub before-none : (seen : List Bool) → ((k : ℕ) → k < keys → getD seen k false ≡ false) → Marked (wroteBefore es xs 0) keys seen
-  unfolding wroteBefore any
-  before-none seen z k o = z k o
+  -- the entry of a row wrote a key
+  abbrev pub rowWrote : ℕ → ℕ → Bool
+  rowWrote x k = wrote (nthEntry es x) k
 
-  module _ (c : ℕ) (seen : List Bool) (h : Marked (wroteBefore es xs c) keys seen) where
-    pub before-more : c < length xs → (after : List Bool) → AlsoMarked (wrote (nthEntry es (getD xs c 0))) keys seen after → Marked (wroteBefore es xs (c + 1)) keys after
-    unfolding wroteBefore
-    before-more o after g k u = g k u ∙ (ap (λ (b : Bool). b or wrote (nthEntry es (getD xs c 0)) k) (h k u) ∙ sym (any-take-more (λ x. wrote (nthEntry es x) k) xs c 0 o))
+  module _ (c seen : ℕ) (h : Collecting rowWrote xs c seen) where
+    pub seen-more : c < length xs → (set : ℕ) → keySet set ≡ keysOf (nthEntry es (getD xs c 0)) → Collecting rowWrote xs (c + 1) (bitOr seen set)
+    unfolding wrote
+    seen-more o set q = collecting-more rowWrote xs c seen h 0 (getD xs c 0) refl o (bitOr seen set) (λ k. set-or seen set k ∙ ap (λ (ks : List ℕ). member k (keySet seen) or member k ks) q)
 
     -- so the test of an entry is of them
-    pub seen-before : (e : Entry) → allSeen seen e ≡ all (λ k. ltb k keys and wroteBefore es xs c k) (keysOf e)
-    unfolding allSeen
-    seen-before e = λ i. all (λ k. each k (decLt k keys) i) (keysOf e)
-      where
-        each : (k : ℕ) → Dec (k < keys) → (ltb k keys and getD seen k false) ≡ (ltb k keys and wroteBefore es xs c k)
-        each k (yes o) = ap (λ (b : Bool). ltb k keys and b) (h k o)
-        each k (no o) = unfold _and_ in rw (le-ltb k keys (omega arith))
+    pub seen-before : (ks : List ℕ) → all (λ k. member k (keySet seen)) ks ≡ all (wroteBefore es xs c) ks
+    unfolding wroteBefore
+    seen-before ks = λ z. all (λ k. h .has k z) ks
 
 -- ── the rows kept ──
 module _ (es : List Entry) (xs : List ℕ) (read : List Bool) where

@@ -2,22 +2,21 @@
 use Prim.Native.Nat.{ℕ, suc, _+_, _-_, _<_, _≤_}
 use mathlib.Core.Path.{_≡_, refl, sym, ap, subst, _∙_}
 use mathlib.Core.Logic.{_≢_, inl, inr}
-use mathlib.Core.Bool.{Bool, true, false, not, true≢false}
+use mathlib.Core.Bool.{Bool, true, false, true≢false}
 use mathlib.Core.List.{List, [], _∷_}
 use mathlib.Core.Option.{some, none}
-use lib.ListN.{length, getD}
+use lib.ListN.{length, getD, set}
 use native.Mathlib.Nat.{lt-irrefl}
 use native.Mathlib.Decide.{ℕ-discrete}
 use native.Mathlib.Omega.{arith}
 use borrow.Author.Tests.{not-true, eqb-false}
 use Rattle.model.specs.declared.Id.{Id}
-use Rattle.model.specs.declared.Entry.{Entry}
-use Rattle.model.specs.declared.Station.{Station}
-use Rattle.model.specs.declared.Outcome.{Outcome}
+use Rattle.model.specs.Types.{Entry, Station, Outcome}
+use Rattle.model.specs.declared as machine
 use Rattle.model.specs.declared.Answer.the-variants as A
-use Rattle.model.specs.Lists.{_and_}
 use Rattle.model.specs.Limits.{slots, storeSize, sweepLimit}
 use Rattle.model.specs.Ids.{older}
+use Rattle.model.specs.Listed.{listedEntry, listedEntries, listed}
 use Rattle.model.specs.Entries.{noEntry, carriesEntry}
 use Rattle.model.specs.Stations.{entryAt, setEntry}
 use Rattle.model.specs.Records.{zeroRecord, recordAt, withRecord}
@@ -30,12 +29,14 @@ use Rattle.model.specs.Answers.{refusedWith}
 use Rattle.model.specs.Sweep.{mayCollect, oldestToCollect, Collection, collections, stationAfter, recordsOf, sweep}
 use Rattle.model.proofs.Tests.{and-left, and-right}
 use Rattle.model.proofs.IdLaws.{older-irrefl}
+use Rattle.model.proofs.ListedLaws.{listed-set}
 use Rattle.model.proofs.OrderLaws.{oldest-eq, oldest-not}
 use Rattle.model.proofs.StationLaws.{entry-get, entryAt-other, setEntry-length}
 use Rattle.model.proofs.SoundFacts.{one-slot}
 use Rattle.model.proofs.SoundKept.{Keeps, collect-keeps}
 use Rattle.model.proofs.CollectionLaws.{Collected, collect-accepted, collected-station, collected-store, collect-length, ends, goes, stored-append}
 use Rattle.model.proofs.SweepLaws.{collect-leaves-others, collect-empties, sweep-on}
+use Rattle.stations.specs.Found.{stationOf}
 use Rattle.storing.proofs.CollectRows.{collect-17, collect-on}
 use Rattle.sweeping.specs.Order.{AreToCollect}
 
@@ -229,8 +230,10 @@ module _ (limit : ℕ) (st₀ : Station) (s₀ : List ℕ) (st : Station) (s : L
   )
 
 -- the same, with the slot, the unused entry and the store as the code has them
-pub sweeping-as : (limit : ℕ) (st₀ : Station) (s₀ : List ℕ) (st : Station) (s : List ℕ) (d count n : ℕ) (xs : List ℕ) → Sweeping limit st₀ s₀ (setEntry st d noEntry) (withRecord s d 0 zeroRecord) count n xs
-    → (w : ℕ) → w ≡ d → (x : Entry) → x ≡ noEntry → (y : List ℕ) → y ≡ withRecord s w 0 zeroRecord → Sweeping limit st₀ s₀ (setEntry st w x) y count n xs
+pub sweeping-as : (limit : ℕ) (st₀ : Station) (s₀ : List ℕ) (st : machine.Station.Station) (s : List ℕ) (d count n : ℕ) (xs : List ℕ) → Sweeping limit st₀ s₀ (setEntry (listed st) d noEntry) (withRecord s d 0 zeroRecord) count n xs
+    → (w : ℕ) → w ≡ d → (x : machine.Entry.Entry) → listedEntry x ≡ noEntry → (y : List ℕ) → y ≡ withRecord s w 0 zeroRecord
+    → Sweeping limit st₀ s₀ (stationOf (st .live) (listedEntries (set (st .entries) w x))) y count n xs
+unfolding setEntry
 sweeping-as limit st₀ s₀ st s d count n xs p w q x e y f =
-    subst (λ (z : List ℕ). Sweeping limit st₀ s₀ (setEntry st w x) z count n xs) (sym (f ∙ ap (λ (c : ℕ). withRecord s c 0 zeroRecord) q))
-    (subst (λ (z : Station). Sweeping limit st₀ s₀ z (withRecord s d 0 zeroRecord) count n xs) (λ i. setEntry st (sym q i) (sym e i)) p)
+    subst (λ (z : List ℕ). Sweeping limit st₀ s₀ (stationOf (st .live) (listedEntries (set (st .entries) w x))) z count n xs) (sym (f ∙ ap (λ (c : ℕ). withRecord s c 0 zeroRecord) q))
+    (subst (λ (es : List Entry). Sweeping limit st₀ s₀ (stationOf (st .live) es) (withRecord s d 0 zeroRecord) count n xs) (sym (listed-set (st .entries) w x ∙ (λ i. set (listedEntries (st .entries)) (q i) (e i)))) p)

@@ -4,17 +4,16 @@ use mathlib.Core.Path.{_≡_, refl, sym, ap, subst, _∙_}
 use mathlib.Core.Logic.{⊎-elim}
 use mathlib.Core.Bool.{Bool, true, false, not, true≢false}
 use mathlib.Core.List.{List}
-use lib.Dec.{eqb, ltb}
+use lib.Dec.{eqb}
 use lib.ListN.{length, take, getD, length-take}
 use lib.Seq.{getD-take}
 use native.Mathlib.Decide.{ℕ-discrete, decLt}
 use native.Mathlib.Omega.{arith}
-use borrow.Author.Tests.{lt-ltb, ne-eqb}
+use borrow.Author.Tests.{ne-eqb}
 use Rattle.model.specs.declared.Id.{Id}
-use Rattle.model.specs.declared.Entry.{Entry}
-use Rattle.model.specs.declared.Station.{Station}
+use Rattle.model.specs.Types.{Entry, Station}
 use Rattle.model.specs.Lists.{_and_, all, any}
-use Rattle.model.specs.Limits.{keys, slots}
+use Rattle.model.specs.Limits.{slots}
 use Rattle.model.specs.Ids.{older, sameId}
 use Rattle.model.specs.Lives.{readsOf}
 use Rattle.model.specs.Entries.{noEntry, keysOf, wrote}
@@ -23,12 +22,9 @@ use Rattle.model.specs.Sound.{sound}
 use Rattle.model.specs.Supersedence.{newerOn, superseded, isReadBy, isRead}
 use Rattle.model.specs.Sweep.{mayCollect}
 use Rattle.model.proofs.Tests.{and-left, and-right, and-intro, bool-cases, not-of-false, same-test}
-use Rattle.model.proofs.ListLaws.{all-at, all-of, any-finds, any-at, member-at}
+use Rattle.model.proofs.ListLaws.{any-finds, any-at}
 use Rattle.model.proofs.IdLaws.{older-irrefl, older-total}
-use Rattle.model.proofs.InsertLaws.{ascending-member}
-use Rattle.model.proofs.InsideLaws.{right-ascending}
 use Rattle.model.proofs.StationLaws.{entry-get}
-use Rattle.model.proofs.SoundLaws.{sound-at}
 use Rattle.model.proofs.SoundFacts.{one-slot, wrote-held}
 use Rattle.reading.specs.Columns.{nthEntry, Column, idAt, IsOrder, hasId}
 use Rattle.sweeping.specs.Marks.{Marked}
@@ -128,14 +124,9 @@ module _ (st : Station) (hs : List Bool) (cs ts : List ℕ) (n : ℕ) (xs : List
             (bool-cases (older (row i .id) (row (f .0) .id)))
 
   -- so it is superseded where all that it wrote stand in rows before
-  superseded-before : (i : ℕ) → i < n → superseded es (row i) ≡ all (λ k. ltb k keys and wroteBefore es xs i k) (keysOf (row i))
+  superseded-before : (i : ℕ) → i < n → superseded es (row i) ≡ all (wroteBefore es xs i) (keysOf (row i))
   unfolding superseded
-  superseded-before i u = same-test _ _
-      (λ h. all-of (λ k. ltb k keys and wroteBefore es xs i k) (keysOf (row i)) 0 (λ j v. and-intro _ _ (lt-ltb (getD (keysOf (row i)) j 0) keys (below j v)) (newer-before i u (getD (keysOf (row i)) j 0) (all-at (newerOn es (row i)) (keysOf (row i)) 0 h j v))))
-      (λ h. all-of (newerOn es (row i)) (keysOf (row i)) 0 (λ j v. before-newer i u (getD (keysOf (row i)) j 0) (and-right _ _ (all-at (λ k. ltb k keys and wroteBefore es xs i k) (keysOf (row i)) 0 h j v))))
-    where
-      below : (j : ℕ) → j < length (keysOf (row i)) → getD (keysOf (row i)) j 0 < keys
-      below j v = ascending-member 0 keys (getD (keysOf (row i)) j 0) (keysOf (row i)) (right-ascending (row i) (sound-at st (o .right) .entry (getD xs i 0))) (member-at (keysOf (row i)) j v) .1
+  superseded-before i u = λ z. all (λ k. same-test _ _ (newer-before i u k) (before-newer i u k) z) (keysOf (row i))
 
   is-read : (d : ℕ) → d < slots → getD read d false ≡ isRead st (entryAt st d)
   unfolding isRead isReadBy hasId

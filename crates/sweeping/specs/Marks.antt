@@ -1,14 +1,10 @@
--- Rows and keys marked: what the functions below the sweep mark.
+-- Rows marked: what the functions below the sweep mark.
 use Prim.Native.Nat.{ℕ, _<_}
 use mathlib.Core.Path.{_≡_}
 use mathlib.Core.Bool.{Bool, false}
 use mathlib.Core.List.{List}
-use lib.Dec.{ltb}
 use lib.ListN.{getD}
-use Rattle.model.specs.declared.Entry.{Entry}
-use Rattle.model.specs.Lists.{_and_, _or_, all}
-use Rattle.model.specs.Limits.{keys}
-use Rattle.model.specs.Entries.{keysOf}
+use Rattle.model.specs.Lists.{_or_}
 
 -- of the first m, ys has what xs has, and those that pass
 abbrev pub AlsoMarked : (ℕ → Bool) → ℕ → List Bool → List Bool → Type 0
@@ -17,7 +13,3 @@ AlsoMarked p m xs ys = (d : ℕ) → d < m → getD ys d false ≡ (getD xs d fa
 -- of the first m, those that pass are marked
 abbrev pub Marked : (ℕ → Bool) → ℕ → List Bool → Type 0
 Marked p m ys = (d : ℕ) → d < m → getD ys d false ≡ p d
-
--- every key that the entry wrote is marked
-unfoldable pub allSeen : List Bool → Entry → Bool
-allSeen seen e = all (λ k. ltb k keys and getD seen k false) (keysOf e)

@@ -3,11 +3,9 @@ use Prim.Native.Nat.{ℕ, _<_, _≤_}
 use mathlib.Core.Path.{_≡_}
 use mathlib.Core.Bool.{Bool, true, false, not}
 use mathlib.Core.List.{List}
-use lib.Dec.{ltb}
 use lib.ListN.{take, getD}
-use Rattle.model.specs.declared.Entry.{Entry}
+use Rattle.model.specs.Types.{Entry}
 use Rattle.model.specs.Lists.{_and_, all, any}
-use Rattle.model.specs.Limits.{keys}
 use Rattle.model.specs.Entries.{keysOf, wrote}
 use Rattle.reading.specs.Columns.{nthEntry}
 
@@ -19,7 +17,7 @@ wroteBefore es xs i k = any (λ x. wrote (nthEntry es x) k) (take i xs)
 unfoldable pub keeps : List Entry → List ℕ → List Bool → ℕ → Bool
 keeps es xs read i =
     let d : ℕ = getD xs i 0 in
-    all (λ k. ltb k keys and wroteBefore es xs i k) (keysOf (nthEntry es d)) and not (getD read d false)
+    all (wroteBefore es xs i) (keysOf (nthEntry es d)) and not (getD read d false)
 
 -- the first m of ys are the kept among the first n rows, in their order: the jth is row `row j`
 pub record AreSifted (es : List Entry) (xs : List ℕ) (read : List Bool) (n m : ℕ) (ys : List ℕ) : Type 0 where

@@ -9,23 +9,23 @@ ghost use lib.ListN.{length};
 ghost use Rattle.model.specs.Lists.{_and_, _or_, any};
 ghost use Rattle.model.specs.Limits as Limits;
 ghost use Rattle.model.specs.Ids.{sameId};
+ghost use Rattle.model.specs.Listed.{listedEntries, listed, listedOutcome};
 ghost use Rattle.model.specs.Lives.{readsOf};
-ghost use Rattle.model.specs.Entries.{wrote};
 ghost use Rattle.model.specs.Sound.{sound};
 ghost use Rattle.model.specs.Effects.{_when_, outcomeOf, stored};
 ghost use Rattle.model.specs.Sweep.{sweep};
 ghost use Rattle.stations.specs.Found.{stationOf, firstRow};
 ghost use Rattle.reading.specs.Columns.{Column, AreRows, idAt, hasId};
-ghost use Rattle.sweeping.specs.Marks.{AlsoMarked, Marked, allSeen};
+ghost use Rattle.sweeping.specs.Marks.{AlsoMarked, Marked};
 ghost use Rattle.sweeping.specs.Sifted.{AreSifted};
 ghost use Rattle.sweeping.specs.Order.{AreToCollect};
+use keysets::is_within;
 use model::Answer;
 use model::Entry;
 use model::Id;
 use model::Live;
 use model::Outcome;
 use model::Station;
-use model::key_count;
 use model::no_entry;
 use model::read_count;
 use model::wide;
@@ -38,7 +38,7 @@ use storing::store_zero;
 
 // ---- which entries there are, and which of them live transactions have read
 fn held_of(entries: [Entry; Station::SLOTS]) -> [bool; Station::SLOTS]
-    ensures { λ r. ⌜ Column (λ e. not (eqb (e .id .txn) 0)) false entries r ⌝ }
+    ensures { λ r. ⌜ Column (λ e. not (eqb (e .id .txn) 0)) false (listedEntries entries) r ⌝ }
 {
     let mut out = [false; Station::SLOTS];
     let mut d = 0;
@@ -125,42 +125,7 @@ fn read_of(
     out
 }
 
-// ---- which keys newer entries have written
-fn with_keys(seen: [bool; Station::KEYS], e: Entry) -> [bool; Station::KEYS]
-    ensures { λ r. ⌜ AlsoMarked (wrote e) Limits.keys seen r ⌝ }
-{
-    let n = key_count(e);
-    let mut out = seen;
-    let mut j = 0;
-    while j < n {
-        let k = wide(e.keys[j]);
-        j += 1;
-        if k < Station::KEYS {
-            out[k] = true;
-        }
-    }
-    out
-}
-
-// Whether all that the entry wrote are among them.
-fn all_seen(seen: &[bool; Station::KEYS], e: Entry) -> bool
-    ensures { λ r. ⌜ r ≡ allSeen (now (seen .entry)) e ⌝ }
-{
-    let n = key_count(e);
-    let mut j = 0;
-    while j < n {
-        let k = wide(e.keys[j]);
-        if k >= Station::KEYS {
-            return false;
-        }
-        if !seen[k] {
-            return false;
-        }
-        j += 1;
-    }
-    true
-}
-
+// ---- which are superseded
 fn both(a: bool, b: bool) -> bool
     ensures { λ r. ⌜ r ≡ (a and b) ⌝ }
 {
@@ -170,16 +135,17 @@ fn both(a: bool, b: bool) -> bool
     false
 }
 
-// Of all entries, newest first, those that are superseded by the ones before them and not read.
+// Of all entries, newest first, those that are superseded by the ones before them and not read: all their keys are among those that the ones
+// before have written.
 fn sifted(
     entries: [Entry; Station::SLOTS],
     order: Candidates,
     read: [bool; Station::SLOTS],
 ) -> Candidates
     requires { ⌜ (order .n ≤ Limits.slots) × AreRows (order .n) (order .slots) ⌝ }
-    ensures { λ r. ⌜ AreSifted entries (order .slots) read (order .n) (r .n) (r .slots) ⌝ }
+    ensures { λ r. ⌜ AreSifted (listedEntries entries) (order .slots) read (order .n) (r .n) (r .slots) ⌝ }
 {
-    let mut seen = [false; Station::KEYS];
+    let mut seen = 0u64;
     let mut slots = [0u8; Station::SLOTS];
     let mut n = 0;
     let mut c = 0;
@@ -188,9 +154,8 @@ fn sifted(
         let d = wide(s);
         c += 1;
         let e = entries[d];
-        let old = all_seen(&seen, e);
-        let next = with_keys(seen, e);
-        seen = next;
+        let old = is_within(e.keys, seen);
+        seen = seen | e.keys;
         if !both(old, !read[d]) {
             continue;
         }
@@ -202,8 +167,8 @@ fn sifted(
 
 // The slots whose entries may be collected, newest first.
 fn to_collect(live: [Live; Station::LIVE], entries: [Entry; Station::SLOTS]) -> Candidates
-    requires { ⌜ sound (stationOf live entries) ≡ true ⌝ }
-    ensures { λ r. ⌜ AreToCollect (stationOf live entries) (r .n) (r .slots) ⌝ }
+    requires { ⌜ sound (stationOf live (listedEntries entries)) ≡ true ⌝ }
+    ensures { λ r. ⌜ AreToCollect (stationOf live (listedEntries entries)) (r .n) (r .slots) ⌝ }
 {
     let clocks = clocks_of(entries);
     let txns = txns_of(entries);
@@ -228,9 +193,9 @@ fn goes_on(left: usize, count: u8, limit: u64) -> bool
 // entry's ends it.
 fn collect_all(station: Station, store: &mut [u8], order: Candidates, limit: u64) -> Outcome
     requires { ⌜ length (now store) ≡ Limits.storeSize ⌝ }
-    requires { ⌜ (sound station ≡ true) × (0 < limit) × (limit ≤ Limits.sweepLimit) ⌝ }
-    requires { ⌜ AreToCollect station (order .n) (order .slots) ⌝ }
-    ensures { λ r. ⌜ (r ≡ outcomeOf (sweep station (now (store .entry)) limit)) × (now (store .exit) ≡ stored (sweep station (now (store .entry)) limit .stores) (now (store .entry))) ⌝ }
+    requires { ⌜ (sound (listed station) ≡ true) × (0 < limit) × (limit ≤ Limits.sweepLimit) ⌝ }
+    requires { ⌜ AreToCollect (listed station) (order .n) (order .slots) ⌝ }
+    ensures { λ r. ⌜ (listedOutcome r ≡ outcomeOf (sweep (listed station) (now (store .entry)) limit)) × (now (store .exit) ≡ stored (sweep (listed station) (now (store .entry)) limit .stores) (now (store .entry))) ⌝ }
 {
     let mut next = station;
     let mut left = order.n;
@@ -279,8 +244,8 @@ fn sweep_row(size: usize, tested: bool, limit: u64) -> u8
 
 // Collects the oldest entries that may be collected, at most so many, and answers how many.
 pub fn sweep(station: Station, tested: bool, store: &mut [u8], limit: u64) -> Outcome
-    requires { ⌜ tested ≡ sound station ⌝ }
-    ensures { λ r. ⌜ (r ≡ outcomeOf (sweep station (now (store .entry)) limit)) × (now (store .exit) ≡ stored (sweep station (now (store .entry)) limit .stores) (now (store .entry))) ⌝ }
+    requires { ⌜ tested ≡ sound (listed station) ⌝ }
+    ensures { λ r. ⌜ (listedOutcome r ≡ outcomeOf (sweep (listed station) (now (store .entry)) limit)) × (now (store .exit) ≡ stored (sweep (listed station) (now (store .entry)) limit .stores) (now (store .entry))) ⌝ }
 {
     let row = sweep_row(store.len(), tested, limit);
     if row != 0 {

@@ -11,13 +11,12 @@ use native.Mathlib.Nat.{lt-irrefl}
 use native.Mathlib.Omega.{arith}
 use borrow.Author.Tests.{not-false, le-leb, lt-leb, ne-eqb, eqb-true, eqb-false, leb-false}
 use Rattle.model.specs.declared.Live.{Live}
-use Rattle.model.specs.declared.Entry.{Entry}
-use Rattle.model.specs.declared.Station.{Station}
+use Rattle.model.specs.Types.{Entry, Station}
 use Rattle.model.specs.declared.Phase.the-variants.{Closing}
 use Rattle.model.specs.declared.Answer.the-variants as A
 use Rattle.model.specs.Lists.{_and_, all, member, anyBelow}
 use Rattle.model.specs.Limits.{livePlaces, slots, lastClock}
-use Rattle.model.specs.Lives.{withPhase, noLive, isClosing, liveBeyond}
+use Rattle.model.specs.Lives.{writesOf, writeCount, withPhase, noLive, isClosing, liveBeyond}
 use Rattle.model.specs.Stations.{liveAt, entryAt, setLive, liveTxns, isLive, isHeld, placeOf, slotOf, isFree}
 use Rattle.model.specs.Clocks.{clocks, clockAbove}
 use Rattle.model.specs.Sound.{sound}
@@ -77,11 +76,11 @@ module _ (st : Station) (n x c : ℕ) (q : c ≡ clockFor n x st) where
 -- ── the rows after 8, and the effect ──
 -- rows 13 and 21 of a transaction, and what becomes of it at place p
 pub last-rows : Station → Live → List Row
-last-rows st l = 13 when (leb 1 (l .«write_count») and not (anyBelow (isFree st) slots)) ∷ 21 when (leb 1 (l .«write_count») and member lastClock (clocks st)) ∷ []
+last-rows st l = 13 when (leb 1 (writeCount l) and not (anyBelow (isFree st) slots)) ∷ 21 when (leb 1 (writeCount l) and member lastClock (clocks st)) ∷ []
 
 pub closed : Station → ℕ → ℕ → Live → Effect
 closed st x p l =
-    cond (eqb (l .«write_count») 0) (says A.Empty (setLive st p noLive))
+    cond (eqb (writeCount l) 0) (says A.Empty (setLive st p noLive))
     (says (A.Closing (highestFree st)) (setLive st p (withPhase (Closing (highestFree st) (clockAbove x (clocks st)) 0) l)))
 
 pub commit-rest : Station → ℕ → ℕ → ℕ → Live → Effect
@@ -163,9 +162,9 @@ module _ {st : Station} {t x j i : ℕ} (k : Known st t x j i) where
 
     -- with the entry that the code reads
     pub commit-retry : (d : Entry) → commit st t x ≡ says (A.Done (getD (st .entries) j d .id)) st
-    unfolding entryAt isClosing commit-rest last-rows
+    unfolding entryAt isClosing commit-rest last-rows writesOf
     commit-retry d =
-        let w : leb 1 (liveAt st (placeOf t st) .«write_count») ≡ false = ap (λ (l : Live). leb 1 (l .«write_count»)) held-nowhere in
+        let w : leb 1 (writeCount (liveAt st (placeOf t st))) ≡ false = ap (λ (l : Live). leb 1 (writeCount l)) held-nowhere in
         k .passed
         ∙ (skipped 9 _ _ st _ (ap (λ (l : Live). isClosing (l .phase)) held-nowhere)
         ∙ (skipped 13 _ _ st _ (and-none-left _ _ w)
@@ -193,37 +192,37 @@ module _ {st : Station} {t x j i : ℕ} (k : Known st t x j i) where
     }
 
 -- ── rows 13 and 21, and the effect: with the slot and the clock that `slot_for` and `clock_for` give ──
-module _ {st : Station} {t x i : ℕ} {l : Live} (k : IsOpen st t x i l) (d : ℕ) (q : d ≡ slotFor (l .«write_count») st) where
+module _ {st : Station} {t x i : ℕ} {l : Live} (k : IsOpen st t x i l) (d : ℕ) (q : d ≡ slotFor (writeCount l) st) where
   pub commit-13 : 64 ≤ d → commit st t x ≡ says (A.Refused 13 0) st
   unfolding last-rows
   commit-13 o =
-      let s = no-slot st (l .«write_count») d q o in
-      k .rest ∙ hit 13 _ _ st _ (and-intro _ _ (le-leb 1 (l .«write_count») (omega (arith, s .0))) (not-of-false _ (s .1)))
+      let s = no-slot st (writeCount l) d q o in
+      k .rest ∙ hit 13 _ _ st _ (and-intro _ _ (le-leb 1 (writeCount l) (omega (arith, s .0))) (not-of-false _ (s .1)))
 
-  module _ (o : d < 64) (c : ℕ) (p : c ≡ clockFor (l .«write_count») x st) where
+  module _ (o : d < 64) (c : ℕ) (p : c ≡ clockFor (writeCount l) x st) where
     pub commit-21 : c ≡ 0 → commit st t x ≡ says (A.Refused 21 0) st
     unfolding last-rows
     commit-21 z =
-        let s = no-clock st (l .«write_count») x c p (k .clocked) z in
+        let s = no-clock st (writeCount l) x c p (k .clocked) z in
         k .rest
-        ∙ (skipped 13 _ _ st _ (and-none-right _ _ (not-of-true _ (slot-taken st (l .«write_count») d q (s .0) o .0)))
-        ∙ hit 21 _ _ st _ (and-intro _ _ (le-leb 1 (l .«write_count») (omega (arith, s .0))) (s .1)))
+        ∙ (skipped 13 _ _ st _ (and-none-right _ _ (not-of-true _ (slot-taken st (writeCount l) d q (s .0) o .0)))
+        ∙ hit 21 _ _ st _ (and-intro _ _ (le-leb 1 (writeCount l) (omega (arith, s .0))) (s .1)))
 
-    pub commit-done : c ≢ 0 → commit st t x ≡ says (commitAnswer (l .«write_count») d) (setLive st i (afterCommit d c l))
+    pub commit-done : c ≢ 0 → commit st t x ≡ says (commitAnswer (writeCount l) d) (setLive st i (afterCommit d c l))
     unfolding last-rows closed afterCommit commitAnswer
-    commit-done z = go (eqb (l .«write_count») 0) refl
+    commit-done z = go (eqb (writeCount l) 0) refl
       where
-        go : (b : Bool) → eqb (l .«write_count») 0 ≡ b → commit st t x ≡ says (commitAnswer (l .«write_count») d) (setLive st i (afterCommit d c l))
+        go : (b : Bool) → eqb (writeCount l) 0 ≡ b → commit st t x ≡ says (commitAnswer (writeCount l) d) (setLive st i (afterCommit d c l))
         go true h =
-            let w : leb 1 (l .«write_count») ≡ false = ap (leb 1) (eqb-true (l .«write_count») 0 h) in
+            let w : leb 1 (writeCount l) ≡ false = ap (leb 1) (eqb-true (writeCount l) 0 h) in
             rw h
             (k .rest
             ∙ (skipped 13 _ _ st _ (and-none-left _ _ w)
             ∙ (skipped 21 _ _ st _ (and-none-left _ _ w) ∙ (refusals-none st _ ∙ cond-true _ _ _ h))))
         go false h =
-            let w = eqb-false (l .«write_count») 0 h in
-            let s = slot-taken st (l .«write_count») d q w o in
-            let m = clock-taken st (l .«write_count») x c p w z in
+            let w = eqb-false (writeCount l) 0 h in
+            let s = slot-taken st (writeCount l) d q w o in
+            let m = clock-taken st (writeCount l) x c p w z in
             rw h
             (k .rest
             ∙ (skipped 13 _ _ st _ (and-none-right _ _ (not-of-true _ (s .0)))

@@ -4,13 +4,13 @@ use mathlib.Core.Bool.{Bool, not, cond}
 use mathlib.Core.List.{List, [], _∷_}
 use lib.Dec.{eqb, leb}
 use Rattle.model.specs.declared.Live.{Live}
-use Rattle.model.specs.declared.Station.{Station}
+use Rattle.model.specs.Types.{Station}
 use Rattle.model.specs.declared.Phase.the-variants.{Closing}
 use Rattle.model.specs.declared.Answer.{Answer}
 use Rattle.model.specs.declared.Answer.the-variants as A
 use Rattle.model.specs.Lists.{_and_, member, anyBelow}
 use Rattle.model.specs.Limits.{livePlaces, slots, lastClock}
-use Rattle.model.specs.Lives.{noLive, withPhase}
+use Rattle.model.specs.Lives.{noLive, writeCount, withPhase}
 use Rattle.model.specs.Stations.{isFree}
 use Rattle.model.specs.Clocks.{clocks, clockAbove}
 use Rattle.model.specs.Effects.{Row, _when_}
@@ -30,7 +30,7 @@ clockFor n c st = cond (eqb n 0) c (cond (member lastClock (clocks st)) 0 (clock
 
 -- 01 'Calls': "Open with an empty write list: empty, nothing stored, the ticket is forgotten. Else it becomes closing"
 unfoldable pub afterCommit : ℕ → ℕ → Live → Live
-afterCommit d c l = cond (eqb (l .«write_count») 0) noLive (withPhase (Closing d c 0) l)
+afterCommit d c l = cond (eqb (writeCount l) 0) noLive (withPhase (Closing d c 0) l)
 
 unfoldable pub commitAnswer : ℕ → ℕ → Answer
 commitAnswer n d = cond (eqb n 0) A.Empty (A.Closing d)

@@ -6,6 +6,7 @@ use model::Entry;
 use model::Live;
 use model::Phase;
 use model::Station;
+use model::write_count;
 use stations::Change;
 use stations::greater;
 use stations::greatest_clock;
@@ -24,6 +25,7 @@ use stations::unchanged;
 use stations::with_phase;
 use stations::with_write;
 ghost use mathlib.Core.Path.{_≡_};
+ghost use Rattle.model.specs.Listed.{listedEntries, listed};
 ghost use Rattle.model.specs.Sound.{sound};
 ghost use Rattle.model.specs.Start.{start};
 ghost use Rattle.model.specs.Put.{put};
@@ -36,8 +38,8 @@ ghost use Rattle.transactions.specs.Committing.{unknownRows, slotFor, cl
 // ---- start
 // Makes a transaction live and open, with empty sets, in the lowest unused place.
 pub fn start(station: Station, tested: bool, txn: u32) -> Change
-    requires { ⌜ tested ≡ sound station ⌝ }
-    ensures { λ r. ⌜ IsChange station (start station txn) r ⌝ }
+    requires { ⌜ tested ≡ sound (listed station) ⌝ }
+    ensures { λ r. ⌜ IsChange station (start (listed station) txn) r ⌝ }
 {
     if !tested {
         return refused(station, 2);
@@ -64,8 +66,8 @@ pub fn start(station: Station, tested: bool, txn: u32) -> Change
 // ---- put
 // Adds a key to the write set, or replaces its value.
 pub fn put(station: Station, tested: bool, txn: u32, key: u8, value: u64) -> Change
-    requires { ⌜ tested ≡ sound station ⌝ }
-    ensures { λ r. ⌜ IsChange station (put station txn key value) r ⌝ }
+    requires { ⌜ tested ≡ sound (listed station) ⌝ }
+    ensures { λ r. ⌜ IsChange station (put (listed station) txn key value) r ⌝ }
 {
     let live = station.live;
     let at = open_at(live, tested, txn, key);
@@ -84,9 +86,6 @@ pub fn put(station: Station, tested: bool, txn: u32, key: u8, value: u64) -> Cha
 }
 
 // ---- commit
-// After it there is no clock.
-const LAST_CLOCK: u64 = 18446744073709551615;
-
 // The first of rows 2, 3, 5 and 8 that applies; 0 where none does.
 fn unknown_row(tested: bool, txn: u32, clock: u64, held: usize, place: usize) -> u8
     ensures { λ r. ⌜ r ≡ firstRow (unknownRows txn clock held place tested) ⌝ }
@@ -111,7 +110,7 @@ fn unknown_row(tested: bool, txn: u32, clock: u64, held: usize, place: usize) ->
 
 // The slot for this many writes: the highest free one, 64 where there is none. Nothing written needs no slot: 0.
 fn slot_for(live: [Live; Station::LIVE], entries: [Entry; Station::SLOTS], writes: u8) -> usize
-    ensures { λ r. ⌜ r ≡ slotFor writes (stationOf live entries) ⌝ }
+    ensures { λ r. ⌜ r ≡ slotFor writes (stationOf live (listedEntries entries)) ⌝ }
 {
     if writes == 0 {
         return 0;
@@ -127,13 +126,13 @@ fn clock_for(
     writes: u8,
     given: u64,
 ) -> u64
-    ensures { λ r. ⌜ r ≡ clockFor writes given (stationOf live entries) ⌝ }
+    ensures { λ r. ⌜ r ≡ clockFor writes given (stationOf live (listedEntries entries)) ⌝ }
 {
     if writes == 0 {
         return given;
     }
     let greatest = greatest_clock(live, entries);
-    if greatest == LAST_CLOCK {
+    if greatest == Station::LAST_CLOCK {
         return 0;
     }
     greater(given, greatest + 1)
@@ -143,7 +142,7 @@ fn clock_for(
 fn after_commit(l: Live, slot: u8, clock: u64) -> Live
     ensures { λ r. ⌜ r ≡ afterCommit slot clock l ⌝ }
 {
-    if l.write_count == 0 {
+    if write_count(l) == 0 {
         return no_live();
     }
     with_phase(l, Phase::Closing(slot, clock, 0))
@@ -161,8 +160,8 @@ fn commit_answer(writes: u8, slot: u8) -> Answer
 // Begins to close a transaction, in the highest free slot and with a clock above all that are taken. A read-only one is over at once, and
 // a retry of a held one changes nothing.
 pub fn commit(station: Station, tested: bool, txn: u32, clock: u64) -> Change
-    requires { ⌜ tested ≡ sound station ⌝ }
-    ensures { λ r. ⌜ IsChange station (commit station txn clock) r ⌝ }
+    requires { ⌜ tested ≡ sound (listed station) ⌝ }
+    ensures { λ r. ⌜ IsChange station (commit (listed station) txn clock) r ⌝ }
 {
     let entries = station.entries;
     let held = slot_of(entries, txn);
@@ -184,7 +183,7 @@ pub fn commit(station: Station, tested: bool, txn: u32, clock: u64) -> Change
     if is_closing(phase) {
         return refused(station, 9);
     }
-    let writes = l.write_count;
+    let writes = write_count(l);
     let slot = slot_for(live, entries, writes);
     if slot >= Station::SLOTS {
         return refused(station, 13);
@@ -201,8 +200,8 @@ pub fn commit(station: Station, tested: bool, txn: u32, clock: u64) -> Change
 // ---- abort
 // Forgets an open transaction.
 pub fn abort(station: Station, tested: bool, txn: u32) -> Change
-    requires { ⌜ tested ≡ sound station ⌝ }
-    ensures { λ r. ⌜ IsChange station (abort station txn) r ⌝ }
+    requires { ⌜ tested ≡ sound (listed station) ⌝ }
+    ensures { λ r. ⌜ IsChange station (abort (listed station) txn) r ⌝ }
 {
     let live = station.live;
     let at = open_at(live, tested, txn, 0);

@@ -6,14 +6,15 @@ use lib.ListN.{length}
 use native.Mathlib.Omega.{arith}
 use borrow.Author.Needs.{needs}
 use borrow.Author.Tests.{not-false}
-use Rattle.model.specs.declared.Outcome.{Outcome}
+use Rattle.model.specs.Types.{Outcome}
+use Rattle.model.specs.Listed.{listed}
 use Rattle.model.specs.Sound.{sound}
 use Rattle.desk.proofs.ActLaws.{acted-sound}
 use Rattle.bench.proofs.bench_known.Statement.{statement}
 use Rattle.bench.proofs.bench_known.Tie as tie
 
 abbrev Inv-loop : tie.InvT-loop
-Inv-loop store₀ verb rounds entries lives reads base s₀ last₀ i₀ store s last i = (i ≤ rounds) × (sound s ≡ true) × (length store ≡ length store₀)
+Inv-loop store₀ verb rounds entries lives reads base s₀ last₀ i₀ store s last i = (i ≤ rounds) × (sound (listed s) ≡ true) × (length store ≡ length store₀)
 
 abbrev μ-loop : tie.MeasureT-loop
 μ-loop store₀ verb rounds entries lives reads base s₀ last₀ i₀ store s last i = rounds - i

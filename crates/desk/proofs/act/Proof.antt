@@ -1,6 +1,7 @@
 -- `desk::act` meets its contract. Assumes nothing.
-use mathlib.Core.Path.{sym, _∙_}
+use mathlib.Core.Path.{sym, ap, _∙_}
 use borrow.Author.Needs.{needs}
+use Rattle.model.specs.Listed.{listedOutcome}
 use Rattle.stations.proofs.Changes.{comes-to, is-inside}
 use Rattle.desk.specs.Acts.{acted}
 use Rattle.desk.proofs.ActLaws.{scan-acts, not-sweep, sweep-acts}
@@ -46,7 +47,7 @@ same-length-3 c = search needs
 
 returns-3 : tie.Need-returns-3
 unfolding acted
-returns-3 c = (c .changed .ensures ∙ comes-to _ _ _ (c .before .before .before .decide .ensures .0), c .before .before .before .decide .ensures .1)
+returns-3 c = (ap listedOutcome (c .changed .ensures) ∙ comes-to _ _ _ (c .before .before .before .decide .ensures .0), c .before .before .before .decide .ensures .1)
 
 pub act-spec : {M : Type 1} → statement M
 act-spec =

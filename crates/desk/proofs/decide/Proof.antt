@@ -72,40 +72,40 @@ refused-requires-3 c κs = search needs
 
 returns : tie.Need-returns
 unfolding callOf does
-returns c = decides-quiet _ _ _ (Start _) (ap callOf (c .before .before .command .given .1)) _ (c .start .ensures) (start-stores-nothing _ _)
+returns c = decides-quiet _ _ _ (Start _) (ap callOf (c .before .before .command .given .1)) _ _ (c .start .ensures) (start-stores-nothing _ _)
 
 returns-2 : tie.Need-returns-2
 unfolding callOf does
-returns-2 c = decides-quiet _ _ _ (Put _ _ _) (ap callOf (c .before .before .command2 .given .1)) _ (c .put .ensures) (put-stores-nothing _ _ _ _)
+returns-2 c = decides-quiet _ _ _ (Put _ _ _) (ap callOf (c .before .before .command2 .given .1)) _ _ (c .put .ensures) (put-stores-nothing _ _ _ _)
 
 same-length : tie.Need-same-length
 same-length c = search needs
 
 returns-3 : tie.Need-returns-3
 unfolding callOf does
-returns-3 c = decides-quiet _ _ _ (Get _ _) (ap callOf (c .before .before .before .command3 .given .1)) _ (c .get .ensures) (get-stores-nothing _ _ _ _)
+returns-3 c = decides-quiet _ _ _ (Get _ _) (ap callOf (c .before .before .before .command3 .given .1)) _ _ (c .get .ensures) (get-stores-nothing _ _ _ _)
 
 returns-4 : tie.Need-returns-4
 unfolding callOf does
-returns-4 c = decides-quiet _ _ _ (Commit _ _) (ap callOf (c .before .before .command4 .given .1)) _ (c .commit .ensures) (commit-stores-nothing _ _ _)
+returns-4 c = decides-quiet _ _ _ (Commit _ _) (ap callOf (c .before .before .command4 .given .1)) _ _ (c .commit .ensures) (commit-stores-nothing _ _ _)
 
 same-length-2 : tie.Need-same-length-2
 same-length-2 c = search needs
 
 returns-5 : tie.Need-returns-5
 unfolding callOf does
-returns-5 c = decides _ _ _ (Step _) (ap callOf (c .before .before .before .before .before .command5 .given .1)) _ (c .before .before .step .ensures .0) _ (c .before .before .step .ensures .1)
+returns-5 c = decides _ _ _ (Step _) (ap callOf (c .before .before .before .before .before .command5 .given .1)) _ _ (c .before .before .step .ensures .0) _ (c .before .before .step .ensures .1)
 
 returns-6 : tie.Need-returns-6
 unfolding callOf does
-returns-6 c = decides-quiet _ _ _ (Abort _) (ap callOf (c .before .before .command6 .given .1)) _ (c .abort .ensures) (abort-stores-nothing _ _)
+returns-6 c = decides-quiet _ _ _ (Abort _) (ap callOf (c .before .before .command6 .given .1)) _ _ (c .abort .ensures) (abort-stores-nothing _ _)
 
 same-length-3 : tie.Need-same-length-3
 same-length-3 c = search needs
 
 returns-7 : tie.Need-returns-7
 unfolding callOf does
-returns-7 c = decides _ _ _ (Collect _) (ap callOf (c .before .before .before .before .before .command7 .given .1)) _ (c .before .before .collect .ensures .0) _ (c .before .before .collect .ensures .1)
+returns-7 c = decides _ _ _ (Collect _) (ap callOf (c .before .before .before .before .before .command7 .given .1)) _ _ (c .before .before .collect .ensures .0) _ (c .before .before .collect .ensures .1)
 
 -- a cut was ruled out
 returns-8 : tie.Need-returns-8
@@ -114,7 +114,7 @@ returns-8 c = absurd (true≢false (sym (ap (λ (x : Command). asksScan (callOf 
 
 returns-9 : tie.Need-returns-9
 unfolding callOf does
-returns-9 c = decides-not _ _ _ (ap callOf (c .before .enum-told2 .given .1)) _ (c .refused2 .ensures)
+returns-9 c = decides-not _ _ _ (ap callOf (c .before .enum-told2 .given .1)) _ _ (c .refused2 .ensures)
 
 -- nor was a sweep asked
 returns-10 : tie.Need-returns-10

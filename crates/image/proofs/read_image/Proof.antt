@@ -1,5 +1,5 @@
 -- `image::read_image` meets its contract.
-use Rattle.image.proofs.Names.{Bool, true, false, cond, map, livePlaces, slots, recordSize, emptyStation, placeSize, placesSize, imageSize, entryFrom, placeFrom, stationIn, isImage, _≡_, sym, ap, _∙_, length, drop, length-drop, arith, needs, not-true, not-false}
+use Rattle.image.proofs.Names.{true, false, true≢false, map, livePlaces, slots, placeSize, placesSize, entrySize, imageSize, entryFrom, placeFrom, stationIn, isImage, _≡_, sym, ap, _∙_, length, drop, length-drop, arith, needs, not-true, not-false}
 use Rattle.image.proofs.PartLaws.{parts-take}
 use Rattle.image.proofs.Round.{image-length}
 use Rattle.image.proofs.read_image.Statement.{statement}
@@ -14,9 +14,8 @@ long c = image-length (c .before .before .before .args .bytes .now) (whole c)
 
 returns : tie.Need-returns
 returns c =
-    let b = c .before .before .before .before .args .bytes .now in
-    let e : isImage b ≡ false = sym (c .before .before .is-image .ensures) ∙ not-true _ (c .before .if1 .taken) in
-    (sym e, c .empty .ensures ∙ sym (ap (λ (t : Bool). cond t (stationIn b) emptyStation) e))
+    let e : isImage (c .before .before .before .before .args .bytes .now) ≡ false = sym (c .before .before .is-image .ensures) ∙ not-true _ (c .before .if1 .taken) in
+    (sym e, λ h. absurd (true≢false (sym h ∙ e)))
 
 returns-2 : tie.Need-returns-2
 unfolding stationIn
@@ -24,12 +23,12 @@ returns-2 c =
     let k = c .before .before .before .before in
     let b = k .before .before .before .args .bytes .now in
     let p = parts-take placeSize livePlaces b (omega (arith, long k)) in
-    let q = parts-take recordSize slots (drop placesSize b) (omega (arith, long k, length-drop placesSize b)) in
+    let q = parts-take entrySize slots (drop placesSize b) (omega (arith, long k, length-drop placesSize b)) in
     let s : record { live = c .before .before .places-in .result; entries = c .entries-in .result } ≡ stationIn b = λ z. record {
       live = (c .before .before .places-in .ensures ∙ ap (map placeFrom) p) z;
       entries = (c .entries-in .ensures ∙ ap (map entryFrom) q) z;
     } in
-    (sym (whole k), s ∙ sym (ap (λ (t : Bool). cond t (stationIn b) emptyStation) (whole k)))
+    (sym (whole k), λ h. s)
 
 pub read-image-spec : {M : Type 1} → statement M
 read-image-spec =

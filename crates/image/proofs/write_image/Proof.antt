@@ -2,6 +2,7 @@
 use Rattle.image.proofs.Names.{refl, _++_, putMid, placesSize, entriesSize, stationBytes, _≡_, ap₂, _∙_, arith, needs}
 use Rattle.image.proofs.PartLaws.{put-none, put-next, put-last}
 use Rattle.image.proofs.Round.{image-of}
+use Rattle.model.proofs.ListedLaws.{station-back}
 use Rattle.image.proofs.Handed.{station-handed}
 use Rattle.image.proofs.write_image.Statement.{statement}
 use Rattle.image.proofs.write_image.Tie as tie
@@ -15,7 +16,8 @@ returns c =
     let e = c .before .before .write-entries in
     let b = putMid placesSize entriesSize (putMid 0 placesSize (a .bytes .now) (p .last .0)) (e .last .0) in
     let w : b ≡ stationBytes (a .station) = put-last (e .last .0) entriesSize (put-next (p .last .0) placesSize (put-none (a .bytes .now) (s .pre)) (omega arith) (p .kept .0)) refl (e .kept .0) ∙ ap₂ _++_ (p .ensures) (e .ensures) in
-    (w, image-of (a .station) b (station-handed (a .station) _ (s .good .1 .0)) w)
+    let f = station-handed (a .station) _ (s .good .1 .0) in
+    (w, (image-of (a .station) b f w, station-back (a .station) f))
 
 pub write-image-spec : {M : Type 1} → statement M
 write-image-spec =

@@ -2,7 +2,7 @@
 use mathlib.Core.Path.{_≡_, sym, ap, _∙_}
 use mathlib.Core.Bool.{true}
 use borrow.Author.Needs.{needs}
-use Rattle.model.specs.Stations.{emptyStation}
+use Rattle.model.specs.Listed.{listed}
 use Rattle.model.specs.Sound.{sound}
 use Rattle.image.specs.Images.{stationIn, isImage}
 use Rattle.interface.specs.Exchange.{unsoundStation}
@@ -21,7 +21,7 @@ returns : tie.Need-returns
 returns c =
     let r = c .before .before .before .read-image in
     let e : isImage (c .before .before .before .before .before .args .image .now) ≡ true = sym (r .ensures .0) ∙ c .before .before .if1 .taken in
-    (r .ensures .0, r .ensures .1 ∙ sym (cond-yes _ _ emptyStation e) ∙ cond-yes _ _ unsoundStation e, c .is-sound .ensures)
+    (r .ensures .0, ap listed (r .ensures .1 e) ∙ cond-yes _ _ unsoundStation e, c .is-sound .ensures)
 
 unsound-station-requires : tie.Need-unsound-station-requires
 unsound-station-requires c κs = search needs
@@ -32,7 +32,7 @@ returns-2 c =
     let u = c .unsound-station in
     let x = c .before .before .before .before .args .image .now in (
       r .ensures .0,
-      u .ensures ∙ cond-no (isImage x) (stationIn x) unsoundStation (sym (r .ensures .0) ∙ c .before .if1 .left),
+      u .ensures ∙ cond-no (isImage x) (listed (stationIn x)) unsoundStation (sym (r .ensures .0) ∙ c .before .if1 .left),
       sym unsound-station ∙ ap sound (sym (u .ensures)),
     )
 

@@ -1,10 +1,12 @@
 -- `interface::gorehimu_empty` meets its contract.
-use mathlib.Core.Path.{ap, _∙_}
+use mathlib.Core.Path.{sym, ap, _∙_}
 use lib.ListN.{length}
 use borrow.Author.Tests.{eq-eqb, ne-eqb}
 use borrow.Author.Needs.{needs}
+use Rattle.model.specs.Listed.{numbered}
 use Rattle.image.specs.Layout.{imageSize}
 use Rattle.image.specs.Images.{stationBytes}
+use Rattle.interface.specs.Exchange.{imageOf}
 use Rattle.interface.proofs.LengthLaws.{cond-yes, cond-no}
 use Rattle.interface.proofs.gorehimu_empty.Statement.{statement}
 use Rattle.interface.proofs.gorehimu_empty.Tie as tie
@@ -24,9 +26,11 @@ same-length : tie.Need-same-length
 same-length c = search needs
 
 returns-2 : tie.Need-returns-2
+unfolding imageOf
 returns-2 c =
+    let w = c .before .before .write-image in
     let e = eq-eqb (length (c .before .before .before .before .before .before .before .args .image .now)) imageSize (c .before .before .before .before .before .if1 .left) in
-    (cond-yes _ _ _ e, c .before .before .write-image .ensures .0 ∙ ap stationBytes (c .before .before .before .before .empty .ensures) ∙ cond-yes _ _ _ e)
+    (cond-yes _ _ _ e, w .ensures .0 ∙ ap stationBytes (sym (w .ensures .1 .1) ∙ ap numbered (c .before .before .before .before .empty .ensures)) ∙ cond-yes _ _ _ e)
 
 pub gorehimu-empty-spec : {M : Type 1} → statement M
 gorehimu-empty-spec =

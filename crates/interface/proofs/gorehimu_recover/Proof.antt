@@ -4,8 +4,9 @@ use mathlib.Core.Bool.{true, false}
 use lib.ListN.{length}
 use borrow.Author.Needs.{needs}
 use borrow.Author.Tests.{not-true, not-false}
+use Rattle.model.specs.Listed.{numbered}
 use Rattle.image.specs.Images.{stationBytes}
-use Rattle.interface.specs.Exchange.{requestSize, fitsOne}
+use Rattle.interface.specs.Exchange.{requestSize, imageOf, fitsOne}
 use Rattle.interface.proofs.LengthLaws.{cond-yes, cond-no, one-image, one-answer}
 use Rattle.interface.proofs.gorehimu_recover.Statement.{statement}
 use Rattle.interface.proofs.gorehimu_recover.Tie as tie
@@ -38,12 +39,14 @@ same-length-2 : tie.Need-same-length-2
 same-length-2 c = search needs
 
 returns-2 : tie.Need-returns-2
+unfolding imageOf
 returns-2 c =
+    let w = c .before .before .write-image in
     let e = fit (c .before .before .before .before .before .before .before .before .before) in
     let r = c .before .before .before .before .before .before .before .run-scan in (
       cond-yes _ _ _ e,
       (
-        c .before .before .write-image .ensures .0 ∙ ap stationBytes (r .ensures .2) ∙ cond-yes _ _ _ e,
+        w .ensures .0 ∙ ap stationBytes (sym (w .ensures .1 .1) ∙ ap numbered (r .ensures .2)) ∙ cond-yes _ _ _ e,
         r .ensures .3 ∙ cond-yes _ _ _ e,
       ),
     )

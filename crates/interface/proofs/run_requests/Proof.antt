@@ -8,8 +8,8 @@ use borrow.Author.Needs.{needs}
 use borrow.Rule.Slice.PartMut.{mid-len, same-len-mid}
 use native.Mathlib.Omega.{arith}
 use Rattle.model.specs.declared.Station.{Station}
+use Rattle.model.specs.Listed.{listed}
 use Rattle.model.specs.Limits.{livePlaces, slots}
-use Rattle.model.specs.Stations.{setLive, setEntry}
 use Rattle.model.specs.Sound.{sound}
 use Rattle.model.proofs.SoundKept.{sound-scan}
 use Rattle.stations.specs.Changes.{changedBy}
@@ -31,7 +31,7 @@ held w t st s = heldOf (record { whole = w; tested = t; station = st }) s
 
 abbrev Inv-loop : tie.InvT-loop
 Inv-loop store₀ requests answers₀ count whole₀ tested₀ station₀ i₀ store answers whole tested station i =
-    (i ≤ count) × (length answers ≡ length answers₀) × (length store ≡ length store₀) × (tested ≡ sound station)
+    (i ≤ count) × (length answers ≡ length answers₀) × (length store ≡ length store₀) × (tested ≡ sound (listed station))
     × Passed count requests (afterRequests (parts requestSize count requests) (held whole₀ tested₀ station₀ store₀)) (answersTo (parts requestSize count requests) (held whole₀ tested₀ station₀ store₀)) i (held whole tested station store) answers
 
 abbrev μ-loop : tie.MeasureT-loop
@@ -203,7 +203,7 @@ loop-less-3 : tie.Need-loop-less-3 Inv-loop μ-loop
 loop-less-3 c = search needs
 
 loop-again-3 : tie.Need-loop-again-3 Inv-loop μ-loop
-unfolding changedBy setLive setEntry
+unfolding changedBy
 loop-again-3 c =
     let y = c .before .before .write-answer in
     let r = c .before .before .before .before .before .before .before .before .decide in

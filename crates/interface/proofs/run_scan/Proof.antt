@@ -1,7 +1,7 @@
 -- `interface::run_scan` meets its contract.
 use mathlib.Core.Path.{refl, ap, _∙_}
 use borrow.Author.Needs.{needs}
-use Rattle.model.specs.declared.Outcome.{Outcome}
+use Rattle.model.specs.Types.{Outcome}
 use Rattle.model.specs.Effects.{outcomeOf}
 use Rattle.interface.specs.Exchange.{answerBytes}
 use Rattle.interface.proofs.run_scan.Statement.{statement}

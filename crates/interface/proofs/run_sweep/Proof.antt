@@ -1,7 +1,7 @@
 -- `interface::run_sweep` meets its contract.
 use mathlib.Core.Path.{ap, _∙_}
 use borrow.Author.Needs.{needs}
-use Rattle.model.specs.declared.Outcome.{Outcome}
+use Rattle.model.specs.Types.{Outcome}
 use Rattle.model.specs.Effects.{outcomeOf}
 use Rattle.interface.specs.Exchange.{answerBytes}
 use Rattle.interface.proofs.run_sweep.Statement.{statement}

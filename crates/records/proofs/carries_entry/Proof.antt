@@ -1,15 +1,28 @@
 -- `records::carries_entry` meets its contract.
 use mathlib.Core.Path.{_≡_, sym, ap, _∙_}
-use lib.ListN.{getD}
+use mathlib.Core.Bool.{true}
+use lib.Dec.{eqb}
+use lib.ListN.{length, getD}
 use borrow.Author.Needs.{needs}
 use borrow.Author.Tests.{not-true, not-false, eq-eqb, ne-eqb}
 use Rattle.model.specs.declared.Id.{Id}
-use Rattle.model.specs.Lists.{_and_}
+use Rattle.model.specs.Lists.{_and_, same}
 use Rattle.model.specs.Ids.{sameId}
 use Rattle.model.specs.Bytes.{idIn}
-use Rattle.model.specs.Entries.{entryIn, carriesEntry}
+use Rattle.model.specs.KeySets.{keySet}
+use Rattle.model.specs.Entries.{markIn, committedMark, countIn, keyBytes, carriesKeys, carriesEntry}
 use Rattle.records.proofs.carries_entry.Statement.{statement}
 use Rattle.records.proofs.carries_entry.Tie as tie
+
+-- ── what the tests said ──
+abbrev start : tie.After-same-id → tie.Start
+start p = p .before .before .before .before .before .before
+
+commits : (p : tie.Else1) → (eqb (markIn (p .before .before .before .args .r .now)) committedMark and eqb (getD (p .before .before .before .args .r .now) 2 0) 0 and eqb (getD (p .before .before .before .args .r .now) 3 0) 0) ≡ true
+commits p = sym (p .before .is-commit .ensures) ∙ not-false _ (p .if1 .left)
+
+ids : (p : tie.After-same-id) → sameId (idIn (start p .args .r .now)) (start p .args .e .id) ≡ p .same-id .result
+ids p = ap (λ (i : Id). sameId i (start p .args .e .id)) (sym (p .before .id-in .ensures)) ∙ sym (p .same-id .ensures)
 
 is-commit-requires : tie.Need-is-commit-requires
 is-commit-requires c κs = search needs
@@ -25,25 +38,27 @@ same-id-requires : tie.Need-same-id-requires
 same-id-requires c κs = search needs
 
 returns-2 : tie.Need-returns-2
-unfolding carriesEntry _and_ entryIn
+unfolding carriesEntry _and_
 returns-2 c =
-    let e = c .before .before .before .before .before .before .before .args .e in
-    let s = c .before .before .before .before .before .before .before .args .r .now in
-    let h = sym (c .before .before .before .before .before .is-commit .ensures) ∙ not-false _ (c .before .before .before .before .if1 .left) in
-    let ids : sameId (idIn s) (e .id) ≡ c .before .same-id .result = ap (λ (i : Id). sameId i (e .id)) (sym (c .before .before .id-in .ensures)) ∙ sym (c .before .same-id .ensures) in
-    simp (h, ids ∙ not-true _ (c .if2 .taken))
+    let p = c .before in
+    simp (commits (p .before .before .before), ids p ∙ not-true _ (c .if2 .taken))
 
 shared-slice-read-if3 : tie.Need-shared-slice-read-if3
 shared-slice-read-if3 c = search needs
 
+key-count-requires : tie.Need-key-count-requires
+key-count-requires c κs = search needs
+
 returns-3 : tie.Need-returns-3
-unfolding carriesEntry _and_ entryIn
+unfolding carriesEntry carriesKeys _and_
 returns-3 c =
-    let e = c .before .before .before .before .before .before .before .before .before .before .args .e in
-    let s = c .before .before .before .before .before .before .before .before .before .before .args .r .now in
-    let h = sym (c .before .before .before .before .before .before .before .before .is-commit .ensures) ∙ not-false _ (c .before .before .before .before .before .before .before .if1 .left) in
-    let ids : sameId (idIn s) (e .id) ≡ c .before .before .before .before .same-id .result = ap (λ (i : Id). sameId i (e .id)) (sym (c .before .before .before .before .before .id-in .ensures)) ∙ sym (c .before .before .before .before .same-id .ensures) in
-    simp (h, ids ∙ not-false _ (c .before .before .before .if2 .left), ne-eqb (getD s 1 0) (e .count) (c .if3 .taken))
+    let p = c .before .before .before in
+    let a = start (p .before) .args in
+    let n : countIn (a .r .now) ≡ length (keySet (a .e .keys)) → ⊥ = λ z. c .if3 .taken (z ∙ sym (c .before .key-count .ensures)) in
+    simp (commits (p .before .before .before .before), ids (p .before) ∙ not-false _ (p .if2 .left), ne-eqb (countIn (a .r .now)) (length (keySet (a .e .keys))) n)
+
+key-bytes-requires : tie.Need-key-bytes-requires
+key-bytes-requires c κs = search needs
 
 sub-same-keys : tie.Need-sub-same-keys
 sub-same-keys c = search needs
@@ -58,13 +73,13 @@ same-keys-requires : tie.Need-same-keys-requires
 same-keys-requires c κs = search needs
 
 returns-4 : tie.Need-returns-4
-unfolding carriesEntry _and_ entryIn
+unfolding carriesEntry carriesKeys _and_
 returns-4 c =
-    let e = c .before .before .before .before .before .before .before .before .before .before .before .before .before .args .e in
-    let s = c .before .before .before .before .before .before .before .before .before .before .before .before .before .args .r .now in
-    let h = sym (c .before .before .before .before .before .before .before .before .before .before .before .is-commit .ensures) ∙ not-false _ (c .before .before .before .before .before .before .before .before .before .before .if1 .left) in
-    let ids : sameId (idIn s) (e .id) ≡ c .before .before .before .before .before .before .before .same-id .result = ap (λ (i : Id). sameId i (e .id)) (sym (c .before .before .before .before .before .before .before .before .id-in .ensures)) ∙ sym (c .before .before .before .before .before .before .before .same-id .ensures) in
-    simp (h, ids ∙ not-false _ (c .before .before .before .before .before .before .if2 .left), eq-eqb (getD s 1 0) (e .count) (c .before .before .before .if3 .left)) (c .same-keys .ensures)
+    let t = c .before .before .before in
+    let p = t .before .before .before in
+    let a = start (p .before) .args in
+    simp (commits (p .before .before .before .before), ids (p .before) ∙ not-false _ (p .if2 .left), eq-eqb (countIn (a .r .now)) (length (keySet (a .e .keys))) (t .if3 .left ∙ t .before .key-count .ensures))
+    (c .same-keys .ensures ∙ ap (same (keyBytes (a .r .now))) (c .before .before .key-bytes .ensures))
 
 pub carries-entry-spec : {M : Type 1} → statement M
 carries-entry-spec =
@@ -76,7 +91,9 @@ carries-entry-spec =
     same-id-requires
     returns-2
     shared-slice-read-if3
+    key-count-requires
     returns-3
+    key-bytes-requires
     sub-same-keys
     part-same-keys-start
     part-same-keys-end

@@ -7,7 +7,7 @@ use native.Mathlib.Omega.{arith}
 use borrow.Author.Needs.{needs}
 use borrow.Author.Tests.{not-true, not-false}
 use Rattle.model.specs.Limits.{recordSize}
-use Rattle.model.specs.Entries.{keysOf}
+use Rattle.records.specs.Fields.{firstKeys}
 use Rattle.model.specs.Records.{carriesVersion, recordAt}
 use Rattle.model.specs.Slots.{versionsCarry}
 use Rattle.records.proofs.SlotSteps.{part-record, part-length, versions-more, versions-not, versions-end}
@@ -57,23 +57,23 @@ start l = l .before .before .before .before .before
 abbrev loop-of : tie.After-carries-version Inv-loop μ-loop → tie.At-loop Inv-loop μ-loop
 loop-of a = a .before .before .before
 
-long : (s : tie.Start Inv-loop μ-loop) → length (s .args .e .keys) ≡ 8
+long : (s : tie.Start Inv-loop μ-loop) → length (s .args .f .keys) ≡ 8
 long s = search needs
 
 carried :
     (a : tie.After-carries-version Inv-loop μ-loop)
-    → carriesVersion (recordAt (start (loop-of a) .args .w .now) 0 (loop-of a .loop .n + 1)) (getD (start (loop-of a) .args .e .keys) (loop-of a .loop .n) 0) (start (loop-of a) .args .e .id) ≡ a .carries-version .result
+    → carriesVersion (recordAt (start (loop-of a) .args .w .now) 0 (loop-of a .loop .n + 1)) (getD (start (loop-of a) .args .f .keys) (loop-of a .loop .n) 0) (start (loop-of a) .args .f .id) ≡ a .carries-version .result
 carried a =
     let s = start (loop-of a) .args in
     let n = loop-of a .loop .n in
-    ap (λ (r : List ℕ). carriesVersion r (getD (s .e .keys) n 0) (s .e .id)) (sym (part-record (s .w .now) n)) ∙ sym (a .carries-version .ensures)
+    ap (λ (r : List ℕ). carriesVersion r (getD (s .f .keys) n 0) (s .f .id)) (sym (part-record (s .w .now) n)) ∙ sym (a .carries-version .ensures)
 
 returns : tie.Need-returns Inv-loop μ-loop
-unfolding keysOf
+unfolding firstKeys
 returns c =
     let l = loop-of (c .before) in
     let s = start l in
-    sym (l .loop .inv .1 ∙ versions-not (recordAt (s .args .w .now) 0) (s .args .e .id) (s .args .e .keys) (s .args .e .count) (l .loop .n) (omega arith) (omega (arith, long s)) (carried (c .before) ∙ not-true _ (c .if1 .taken)))
+    sym (l .loop .inv .1 ∙ versions-not (recordAt (s .args .w .now) 0) (s .args .f .id) (s .args .f .keys) (s .args .f .count) (l .loop .n) (omega arith) (omega (arith, long s)) (carried (c .before) ∙ not-true _ (c .if1 .taken)))
 
 add-n : tie.Need-add-n Inv-loop μ-loop
 add-n c = search needs
@@ -85,14 +85,14 @@ loop-again : tie.Need-loop-again Inv-loop μ-loop
 loop-again c =
     let l = loop-of (c .before) in
     let s = start l in
-    (omega arith, l .loop .inv .1 ∙ versions-more (recordAt (s .args .w .now) 0) (s .args .e .id) (s .args .e .keys) (s .args .e .count) (l .loop .n) (omega arith) (omega (arith, long s)) (carried (c .before) ∙ not-false _ (c .if1 .left)))
+    (omega arith, l .loop .inv .1 ∙ versions-more (recordAt (s .args .w .now) 0) (s .args .f .id) (s .args .f .keys) (s .args .f .count) (l .loop .n) (omega arith) (omega (arith, long s)) (carried (c .before) ∙ not-false _ (c .if1 .left)))
 
 returns-2 : tie.Need-returns-2 Inv-loop μ-loop
-unfolding keysOf
+unfolding firstKeys
 returns-2 c =
     let l = c .before in
     let s = start l in
-    sym (l .loop .inv .1 ∙ versions-end (recordAt (s .args .w .now) 0) (s .args .e .id) (s .args .e .keys) (s .args .e .count) (l .loop .n) (omega arith))
+    sym (l .loop .inv .1 ∙ versions-end (recordAt (s .args .w .now) 0) (s .args .f .id) (s .args .f .keys) (s .args .f .count) (l .loop .n) (omega arith))
 
 pub versions-carry-spec : {M : Type 1} → statement M
 versions-carry-spec =

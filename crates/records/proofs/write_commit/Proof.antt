@@ -1,13 +1,24 @@
 -- `records::write_commit` meets its contract.
-use mathlib.Core.Path.{_≡_}
+use Prim.Native.Nat.{ℕ}
+use mathlib.Core.Path.{_≡_, ap, _∙_}
+use mathlib.Core.List.{_++_}
 use lib.ListN.{length, drop, length-drop}
 use native.Mathlib.Omega.{arith}
 use borrow.Author.Needs.{needs}
+use Rattle.model.specs.Lists.{padded}
+use Rattle.model.specs.Limits.{writeLimit}
 use Rattle.model.specs.Bytes.{headBytes}
+use Rattle.model.specs.KeySets.{keySet}
 use Rattle.model.specs.Entries.{committedMark, commitRecord}
 use Rattle.records.proofs.ByteLaws.{put-end, length-head}
 use Rattle.records.proofs.write_commit.Statement.{statement}
 use Rattle.records.proofs.write_commit.Tie as tie
+
+key-bytes-requires : tie.Need-key-bytes-requires
+key-bytes-requires c κs = search needs
+
+key-count-requires : tie.Need-key-count-requires
+key-count-requires c κs = search needs
 
 write-head-requires : tie.Need-write-head-requires
 write-head-requires c κs = search needs
@@ -30,17 +41,23 @@ same-length c = search needs
 returns : tie.Need-returns
 unfolding commitRecord
 returns c =
-    let a = c .before .before .before .before .before .before .before .before .before .before .before .args in
-    let e = a .e in
-    let w = c .before .before .before .before .before .before .write-head in
+    let w = c .before .before .before .before .before .before in
+    let n = w .before .key-count in
+    let b = w .before .before .before .key-bytes in
+    let a = w .before .before .before .before .before .before .args in
+    let i = a .e .id in
+    let ks = padded 0 writeLimit (keySet (a .e .keys)) in
     let v = c .before .before .write-keys in
     let l : length (drop 16 (a .part .now)) ≡ 8 = simp length-drop (omega arith) in
-    put-end (w .last .0) (headBytes committedMark (e .count) (e .id)) (drop 16 (a .part .now)) (v .last .0) (e .keys) 16 8 (w .ensures) (length-head committedMark (e .count) (e .id)) l (v .ensures)
+    put-end (w .write-head .last .0) (headBytes committedMark (n .result) i) (drop 16 (a .part .now)) (v .last .0) ks 16 8 (w .write-head .ensures) (length-head committedMark (n .result) i) l (v .ensures ∙ b .ensures)
+    ∙ ap (λ (k : ℕ). headBytes committedMark k i ++ ks) (n .ensures)
 
 pub write-commit-spec : {M : Type 1} → statement M
 write-commit-spec =
     tie.close
     (tie.spec
+    key-bytes-requires
+    key-count-requires
     write-head-requires
     sub-write-keys
     part-write-keys-start

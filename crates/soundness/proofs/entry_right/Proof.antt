@@ -1,71 +1,57 @@
+-- `soundness::entry_right` meets its contract. Assumes nothing.
 use Prim.Native.Nat.{ℕ}
-use mathlib.Core.Path.{_≡_, ap, _∙_}
+use mathlib.Core.Path.{_≡_}
 use mathlib.Core.Bool.{true, false}
 use native.Mathlib.Omega.{arith}
 use lib.Dec.{leb}
+use lib.ListN.{length}
 use borrow.Author.Tests.{eq-eqb, ne-eqb, le-leb, lt-leb}
 use Rattle.model.specs.Lists.{_and_}
-use Rattle.soundness.specs.Parts.{keysRight}
-use Rattle.soundness.proofs.PartLaws.{entry-none, entry-some}
+use Rattle.model.specs.KeySets.{keySet}
+use Rattle.model.proofs.Tests.{and-none-right}
+use Rattle.soundness.proofs.PartLaws.{entry-none, entry-some, some-clock}
 use Rattle.soundness.proofs.entry_right.Statement.{statement}
 use Rattle.soundness.proofs.entry_right.Tie as tie
 
+abbrev start : tie.After-id → tie.Start
+start a = a .before .before
+
+abbrev count : tie.After-id → ℕ
+count a = a .before .key-count .result
+
+counted : (a : tie.After-id) → count a ≡ length (keySet (start a .args .e .keys))
+counted a = a .before .key-count .ensures
+
+key-count-requires : tie.Need-key-count-requires
+key-count-requires c κs = tt
+
 returns : tie.Need-returns
 unfolding _and_
-returns c = let e = c .before .before .before .before .before .args .e in rw (entry-none e (c .before .before .if1 .taken), ne-eqb (e .id .clock) 0 (c .if2 .taken))
+returns c = let a = c .before .before .before in let e = start a .args .e in rw (entry-none e (count a) (counted a) (c .before .before .if1 .taken), ne-eqb (e .id .clock) 0 (c .if2 .taken))
 
 returns-2 : tie.Need-returns-2
 unfolding _and_
-returns-2 c = let e = c .before .before .before .before .before .before .before .args .e in rw (entry-none e (c .before .before .before .before .if1 .taken), eq-eqb (e .id .clock) 0 (c .before .before .if2 .left), ne-eqb (e .id .txn) 0 (c .if3 .taken))
-
-no-keys-requires : tie.Need-no-keys-requires
-no-keys-requires c κs = tt
+returns-2 c = let a = c .before .before .before .before in let e = start a .args .e in rw (entry-none e (count a) (counted a) (c .before .before .before .if1 .taken), eq-eqb (e .id .clock) 0 (c .before .if2 .left))
 
 returns-3 : tie.Need-returns-3
 unfolding _and_
-returns-3 c = let e = c .before .before .before .before .before .before .before .before .args .e in rw (entry-none e (c .before .before .before .before .before .if1 .taken), eq-eqb (e .id .clock) 0 (c .before .before .before .if2 .left), eq-eqb (e .id .txn) 0 (c .before .if3 .left)) (c .no-keys .ensures)
+returns-3 c = let a = c .before .before in let e = start a .args .e in rw (entry-some e (count a) (counted a) (c .before .if1 .left), lt-leb (count a) 8 (omega (arith, c .if3 .taken)))
 
 returns-4 : tie.Need-returns-4
 unfolding _and_
-returns-4 c = let e = c .before .before .before .before .args .e in rw (entry-some e (c .before .if1 .left), lt-leb (e .count) 8 (c .if4 .taken))
+returns-4 c =
+    let a = c .before .before .before .before in
+    let e = start a .args .e in
+    let t : leb 1 (e .id .txn) ≡ false = lt-leb 1 (e .id .txn) (omega (arith, c .if4 .taken)) in
+    rw (entry-some e (count a) (counted a) (c .before .before .before .if1 .left), and-none-right (leb (count a) 8) (leb 1 (e .id .txn)) t)
 
 returns-5 : tie.Need-returns-5
 unfolding _and_
-returns-5 c = let e = c .before .before .before .before .before .before .args .e in let t : leb 1 (e .id .txn) ≡ false = lt-leb 1 (e .id .txn) (omega (arith, c .if5 .taken)) in rw (entry-some e (c .before .before .before .if1 .left), le-leb (e .count) 8 (c .before .before .if4 .left), t)
-
-returns-6 : tie.Need-returns-6
-unfolding _and_
-returns-6 c =
-    let e = c .before .before .before .before .before .before .before .before .args .e in
-    let t : leb 1 (e .id .txn) ≡ true = le-leb 1 (e .id .txn) (omega (arith, c .before .before .if5 .left)) in
-    let k : leb 1 (e .id .clock) ≡ false = lt-leb 1 (e .id .clock) (omega (arith, c .if6 .taken)) in
-    rw (entry-some e (c .before .before .before .before .before .if1 .left), le-leb (e .count) 8 (c .before .before .before .before .if4 .left), t, k)
-
-wide-requires : tie.Need-wide-requires
-wide-requires c κs = tt
-
-keys-right-requires : tie.Need-keys-right-requires
-keys-right-requires c κs = tt
-
-returns-7 : tie.Need-returns-7
-unfolding _and_
-returns-7 c =
-    let e = c .before .before .before .before .before .before .before .before .before .before .args .e in
-    let t : leb 1 (e .id .txn) ≡ true = le-leb 1 (e .id .txn) (omega (arith, c .before .before .before .before .if5 .left)) in
-    let k : leb 1 (e .id .clock) ≡ true = le-leb 1 (e .id .clock) (omega (arith, c .before .before .if6 .left)) in
-    rw (entry-some e (c .before .before .before .before .before .before .before .if1 .left), le-leb (e .count) 8 (c .before .before .before .before .before .before .if4 .left), t, k) (c .keys-right .ensures ∙ ap (λ (n : ℕ). keysRight n (e .keys)) (c .before .wide .ensures))
+returns-5 c =
+    let a = c .before .before .before .before .before in
+    let e = start a .args .e in
+    let t : leb 1 (e .id .txn) ≡ true = le-leb 1 (e .id .txn) (omega (arith, c .before .if4 .left)) in
+    rw (entry-some e (count a) (counted a) (c .before .before .before .before .if1 .left), le-leb (count a) 8 (omega (arith, c .before .before .before .if3 .left)), t) (some-clock (e .id .clock))
 
 pub entry-right-spec : {M : Type 1} → statement M
-entry-right-spec =
-    tie.close
-    (tie.spec
-    returns
-    returns-2
-    no-keys-requires
-    returns-3
-    returns-4
-    returns-5
-    returns-6
-    wide-requires
-    keys-right-requires
-    returns-7)
+entry-right-spec = tie.close (tie.spec key-count-requires returns returns-2 returns-3 returns-4 returns-5)

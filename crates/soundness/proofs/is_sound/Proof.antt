@@ -1,136 +1,394 @@
-use Prim.Native.Nat.{ℕ}
-use mathlib.Core.Path.{_≡_, sym, ap, ap₂, _∙_}
-use mathlib.Core.Bool.{true, false}
+-- `soundness::is_sound` meets its contract. Each loop's invariant: what is passed passes, and a column is filled so far. Assumes nothing.
+use Prim.Native.Nat.{ℕ, _+_, _-_, _≤_}
+use mathlib.Core.Path.{_≡_, refl, sym, ap, ap₂, _∙_}
+use mathlib.Core.Bool.{Bool, true, false}
 use mathlib.Core.List.{List}
 use native.Mathlib.Omega.{arith}
-use lib.ListN.{length, length-map}
+use lib.ListN.{length, take, drop, getD, length-map, length-set}
+use lib.Seq.{drop-set-lt}
+use borrow.Author.Needs.{needs}
 use borrow.Author.Tests.{not-true, not-false}
+use Rattle.model.specs.declared.Live.{Live}
+use Rattle.model.specs.Types.{Entry}
 use Rattle.model.specs.Lists.{_and_, all, distinct}
-use Rattle.model.specs.Sound.{entryRight, sound}
-use Rattle.soundness.specs.Parts.{txnColumn, markColumn, parts, placeFits, slotFree}
-use Rattle.soundness.proofs.PartLaws.{marks-count, txns-count}
-use Rattle.soundness.proofs.Whole.{sound-is}
+use Rattle.model.specs.Lives.{noRead, readsOf, liveBeyond}
+use Rattle.model.specs.Entries.{noEntry}
+use Rattle.model.specs.Listed.{listedEntries, listed}
+use Rattle.model.specs.Sound.{isNoLive, entryRight, sound}
+use Rattle.model.proofs.RestLaws.{all-split}
+use Rattle.model.proofs.ListedLaws.{listed-length}
+use Rattle.soundness.specs.Parts.{shape, liveColumn, heldColumn, txnColumn, markColumn, namedBy, placeFits, slotFree, parts}
+use Rattle.soundness.proofs.AllLoop.{AllPassed, all-start, all-wrong, all-next, all-done}
+use Rattle.soundness.proofs.PartLaws.{place-wrong, place-reads, place-unread, unnamed, named-stop, named-more, named-end, named-listed, right-listed}
+use Rattle.soundness.proofs.PartLaws.{unused-shape, held-more, held-end, live-more, txns-end, marks-more, marks-end}
+use Rattle.soundness.proofs.Whole.{unused-names, sound-is}
 use Rattle.soundness.proofs.is_sound.Statement.{statement}
 use Rattle.soundness.proofs.is_sound.Tie as tie
 
--- ── what is known at a place ──
-lives : (s : tie.Start) → length (s .args .station .live) ≡ 8
-lives s = simp length-map at (s .good .0 .1 .1 .0 .1 .0 .1)
+-- entries: right so far, and their transactions in the column
+abbrev Inv-loop : tie.InvT-loop
+Inv-loop station txns₀ d₀ txns d =
+    (d ≤ 64) × (all entryRight (listedEntries (station .entries)) ≡ all entryRight (drop d (listedEntries (station .entries))))
+    × (length txns ≡ 72) × (take d (drop 8 txns) ≡ take d (heldColumn (listedEntries (station .entries))))
 
-held : (s : tie.Start) → length (s .args .station .entries) ≡ 64
-held s = simp length-map at (s .good .0 .1 .1 .1 .0 .1 .0 .1)
+abbrev μ-loop : tie.MeasureT-loop
+μ-loop station txns₀ d₀ txns d = 64 - d
 
-whole : (s : tie.Start) → sound (s .args .station) ≡ parts (s .args .station .live) (s .args .station .entries)
-whole s = sound-is (s .args .station) (lives s) (held s)
+-- the columns of the live places
+abbrev Inv-loop2 : tie.InvT-loop2
+Inv-loop2 station txns₀ d marks₀ k₀ txns marks k =
+    (k ≤ 8) × (length txns ≡ 72) × (length marks ≡ 8) × (take k txns ≡ take k (liveColumn (station .live)))
+    × (drop 8 txns ≡ heldColumn (listedEntries (station .entries))) × (take k marks ≡ take k (markColumn (station .live)))
 
-txns-long : (c : tie.After-txns-of) → 72 ≡ length (c .txns-of .result)
-txns-long c = let s = c .before .before .before .before .before in txns-count (s .args .station .live) (s .args .station .entries) (lives s) (held s) ∙ sym (ap length (c .txns-of .ensures))
+abbrev μ-loop2 : tie.MeasureT-loop2
+μ-loop2 station txns₀ d marks₀ k₀ txns marks k = 8 - k
 
-marks-long : (c : tie.After-marks-of) → 8 ≡ length (c .marks-of .result)
-marks-long c = let s = c .before .before .before .before .before .before .before .before .before .before .before .before in marks-count (s .args .station .live) (lives s) ∙ sym (ap length (c .marks-of .ensures))
+-- a place's reads
+abbrev Inv-loop4 : tie.InvT-loop4
+Inv-loop4 station txns d marks k i n reader j₀ j =
+    (j ≤ n)
+    × (all (placeFits (listedEntries (station .entries)) txns) (station .live)
+    ≡ (all (namedBy (listedEntries (station .entries)) txns) (drop j (readsOf reader)) and all (placeFits (listedEntries (station .entries)) txns) (drop (i + 1) (station .live))))
 
-entries-hold : (c : tie.Else1) → all entryRight (c .before .before .before .before .args .station .entries) ≡ true
-entries-hold c = sym (c .before .entries-right .ensures) ∙ not-false _ (c .if1 .left)
+abbrev μ-loop4 : tie.MeasureT-loop4
+μ-loop4 station txns d marks k i n reader j₀ j = n - j
 
-txns-differ : (c : tie.Else2) → distinct (txnColumn (c .before .before .before .before .before .before .before .before .args .station .live) (c .before .before .before .before .before .before .before .before .args .station .entries)) ≡ true
-txns-differ c = sym (ap distinct (c .before .before .before .txns-of .ensures)) ∙ sym (c .before .differ .ensures) ∙ not-false _ (c .if2 .left)
+-- the places
+abbrev Inv-loop3 : tie.InvT-loop3
+Inv-loop3 station txns d marks k i₀ i = AllPassed (placeFits (listedEntries (station .entries)) txns) (station .live) 8 i
 
-lives-hold : (c : tie.Else3) → all (placeFits (c .before .before .before .before .before .before .before .before .before .before .before .args .station .entries) (txnColumn (c .before .before .before .before .before .before .before .before .before .before .before .args .station .live) (c .before .before .before .before .before .before .before .before .before .before .before .args .station .entries))) (c .before .before .before .before .before .before .before .before .before .before .before .args .station .live) ≡ true
-lives-hold c =
-    let st = c .before .before .before .before .before .before .before .before .before .before .before .args .station in
-    sym (ap (λ (x : List ℕ). all (placeFits (st .entries) x) (st .live)) (c .before .before .before .before .before .before .txns-of .ensures)) ∙ sym (c .before .lives-right .ensures) ∙ not-false _ (c .if3 .left)
+abbrev μ-loop3 : tie.MeasureT-loop3
+μ-loop3 station txns d marks k i₀ i = 8 - i
 
-marks-differ : (c : tie.Else4) → distinct (markColumn (c .before .before .before .before .before .before .before .before .before .before .before .before .before .before .before .args .station .live)) ≡ true
-marks-differ c = sym (ap distinct (c .before .before .before .marks-of .ensures)) ∙ sym (c .before .differ2 .ensures) ∙ not-false _ (c .if4 .left)
+-- ── the station ──
+abbrev lives : tie.Start Inv-loop μ-loop Inv-loop2 μ-loop2 Inv-loop4 μ-loop4 Inv-loop3 μ-loop3 → List Live
+lives s = s .args .t1 .live
+
+abbrev entries : tie.Start Inv-loop μ-loop Inv-loop2 μ-loop2 Inv-loop4 μ-loop4 Inv-loop3 μ-loop3 → List Entry
+entries s = listedEntries (s .args .t1 .entries)
+
+lives-long : (s : tie.Start Inv-loop μ-loop Inv-loop2 μ-loop2 Inv-loop4 μ-loop4 Inv-loop3 μ-loop3) → length (lives s) ≡ 8
+lives-long s = simp length-map at (s .good .0 .1 .1 .0 .1 .0 .1)
+
+entries-long : (s : tie.Start Inv-loop μ-loop Inv-loop2 μ-loop2 Inv-loop4 μ-loop4 Inv-loop3 μ-loop3) → length (entries s) ≡ 64
+entries-long s = listed-length (s .args .t1 .entries) ∙ simp length-map at (s .good .0 .1 .1 .1 .0 .1 .0 .1)
+
+whole : (s : tie.Start Inv-loop μ-loop Inv-loop2 μ-loop2 Inv-loop4 μ-loop4 Inv-loop3 μ-loop3) → sound (listed (s .args .t1)) ≡ parts (lives s) (entries s)
+whole s = sound-is (listed (s .args .t1)) (lives-long s) (entries-long s)
+
+-- ── its entries ──
+entry : (a : tie.After-entry-right Inv-loop μ-loop Inv-loop2 μ-loop2 Inv-loop4 μ-loop4 Inv-loop3 μ-loop3) (b : Bool) → a .entry-right .result ≡ b → entryRight (getD (entries (a .before .before .before .before)) (a .before .before .before .loop .d) noEntry) ≡ b
+entry a b e = right-listed (a .before .before .before .before .args .t1 .entries) (a .before .before .before .loop .d) ∙ sym (a .entry-right .ensures) ∙ e
+
+entries-hold : (a : tie.After-loop Inv-loop μ-loop Inv-loop2 μ-loop2 Inv-loop4 μ-loop4 Inv-loop3 μ-loop3) → all entryRight (entries (a .before .before)) ≡ true
+entries-hold a = let l = a .before in all-done entryRight (entries (l .before)) 64 (entries-long (l .before)) (l .loop .d) (l .loop .inv .0, l .loop .inv .1) (omega arith)
+
+-- ── its columns ──
+abbrev start2 : tie.At-loop2 Inv-loop μ-loop Inv-loop2 μ-loop2 Inv-loop4 μ-loop4 Inv-loop3 μ-loop3 → tie.Start Inv-loop μ-loop Inv-loop2 μ-loop2 Inv-loop4 μ-loop4 Inv-loop3 μ-loop3
+start2 l = l .before .before .before
+
+txns-are : (a : tie.After-loop2 Inv-loop μ-loop Inv-loop2 μ-loop2 Inv-loop4 μ-loop4 Inv-loop3 μ-loop3) → a .before .loop2 .txns ≡ txnColumn (lives (start2 (a .before))) (entries (start2 (a .before)))
+txns-are a = let l = a .before in txns-end (l .loop2 .txns) (lives (start2 l)) (entries (start2 l)) (l .loop2 .k) (lives-long (start2 l)) (omega arith) (l .loop2 .inv .3) (l .loop2 .inv .4)
+
+marks-are : (a : tie.After-loop2 Inv-loop μ-loop Inv-loop2 μ-loop2 Inv-loop4 μ-loop4 Inv-loop3 μ-loop3) → a .before .loop2 .marks ≡ markColumn (lives (start2 (a .before)))
+marks-are a = let l = a .before in marks-end (l .loop2 .marks) (lives (start2 l)) (l .loop2 .k) (l .loop2 .inv .2) (lives-long (start2 l)) (omega arith) (l .loop2 .inv .5)
+
+differ-as : (a : tie.After-differ Inv-loop μ-loop Inv-loop2 μ-loop2 Inv-loop4 μ-loop4 Inv-loop3 μ-loop3) (b : Bool) → a .differ .result ≡ b → distinct (txnColumn (lives (start2 (a .before .before .before))) (entries (start2 (a .before .before .before)))) ≡ b
+differ-as a b e = sym (ap distinct (txns-are (a .before .before))) ∙ sym (a .differ .ensures) ∙ e
+
+-- ── the place at hand ──
+abbrev columns : tie.At-loop3 Inv-loop μ-loop Inv-loop2 μ-loop2 Inv-loop4 μ-loop4 Inv-loop3 μ-loop3 → tie.At-loop2 Inv-loop μ-loop Inv-loop2 μ-loop2 Inv-loop4 μ-loop4 Inv-loop3 μ-loop3
+columns a = a .before .before .before .before .before
+
+abbrev start3 : tie.At-loop3 Inv-loop μ-loop Inv-loop2 μ-loop2 Inv-loop4 μ-loop4 Inv-loop3 μ-loop3 → tie.Start Inv-loop μ-loop Inv-loop2 μ-loop2 Inv-loop4 μ-loop4 Inv-loop3 μ-loop3
+start3 a = start2 (columns a)
+
+abbrev txns : tie.At-loop3 Inv-loop μ-loop Inv-loop2 μ-loop2 Inv-loop4 μ-loop4 Inv-loop3 μ-loop3 → List ℕ
+txns a = columns a .loop2 .txns
+
+abbrev fits : tie.At-loop3 Inv-loop μ-loop Inv-loop2 μ-loop2 Inv-loop4 μ-loop4 Inv-loop3 μ-loop3 → Live → Bool
+fits a = placeFits (entries (start3 a)) (txns a)
+
+abbrev live : tie.At-loop3 Inv-loop μ-loop Inv-loop2 μ-loop2 Inv-loop4 μ-loop4 Inv-loop3 μ-loop3 → Live
+live a = getD (lives (start3 a)) (a .loop3 .i) liveBeyond
+
+txns-differ : (a : tie.At-loop3 Inv-loop μ-loop Inv-loop2 μ-loop2 Inv-loop4 μ-loop4 Inv-loop3 μ-loop3) → distinct (txnColumn (lives (start3 a)) (entries (start3 a))) ≡ true
+txns-differ a = differ-as (a .before .before) true (not-false _ (a .before .if2 .left))
+
+-- as all places fit or not with the column's local, so with the column
+fits-as : (a : tie.At-loop3 Inv-loop μ-loop Inv-loop2 μ-loop2 Inv-loop4 μ-loop4 Inv-loop3 μ-loop3) (b : Bool) → all (fits a) (lives (start3 a)) ≡ b → all (placeFits (entries (start3 a)) (txnColumn (lives (start3 a)) (entries (start3 a)))) (lives (start3 a)) ≡ b
+fits-as a b e = sym (ap (λ (x : List ℕ). all (placeFits (entries (start3 a)) x) (lives (start3 a))) (txns-are (a .before .before .before .before))) ∙ e
+
+misfit : (a : tie.At-loop3 Inv-loop μ-loop Inv-loop2 μ-loop2 Inv-loop4 μ-loop4 Inv-loop3 μ-loop3) → all (fits a) (lives (start3 a)) ≡ false → false ≡ sound (listed (start3 a .args .t1))
+unfolding parts _and_
+misfit a e = sym (whole (start3 a) ∙ rw (entries-hold (columns a .before), txns-differ a, fits-as a false e))
+
+wrong : (a : tie.In-loop3 Inv-loop μ-loop Inv-loop2 μ-loop2 Inv-loop4 μ-loop4 Inv-loop3 μ-loop3) → shape (live (a .before)) ≡ false → false ≡ sound (listed (start3 (a .before) .args .t1))
+wrong c e =
+    let a = c .before in
+    misfit a (all-wrong (fits a) (lives (start3 a)) 8 (lives-long (start3 a)) (a .loop3 .i) (a .loop3 .inv) liveBeyond (omega arith) (place-wrong (entries (start3 a)) (txns a) (live a) e))
+
+unused : (a : tie.After-unused-right Inv-loop μ-loop Inv-loop2 μ-loop2 Inv-loop4 μ-loop4 Inv-loop3 μ-loop3) (b : Bool) → a .unused-right .result ≡ b → isNoLive (live (a .before .before .before .before .before .before)) ≡ b
+unused a b e = sym (a .unused-right .ensures) ∙ e
+
+unused-as : (a : tie.After-unused-right Inv-loop μ-loop Inv-loop2 μ-loop2 Inv-loop4 μ-loop4 Inv-loop3 μ-loop3) (b : Bool) → a .unused-right .result ≡ b → shape (live (a .before .before .before .before .before .before)) ≡ b
+unused-as a b e =
+    let t = a .before .before in
+    let l = live (a .before .before .before .before .before .before) in
+    unused-shape (l .phase) l (sym (t .before .is-unused .ensures) ∙ t .if3 .taken) ∙ unused a b e
+
+used-as : (a : tie.After-used-right Inv-loop μ-loop Inv-loop2 μ-loop2 Inv-loop4 μ-loop4 Inv-loop3 μ-loop3) (b : Bool) → a .used-right .result ≡ b → shape (live (a .before .before .before .before .before .before)) ≡ b
+used-as a b e = let t = a .before .before in sym (a .used-right .ensures (sym (t .before .is-unused .ensures) ∙ t .if3 .left)) ∙ e
+
+-- ── its reads ──
+abbrev outer : tie.After-reader Inv-loop μ-loop Inv-loop2 μ-loop2 Inv-loop4 μ-loop4 Inv-loop3 μ-loop3 → tie.At-loop3 Inv-loop μ-loop Inv-loop2 μ-loop2 Inv-loop4 μ-loop4 Inv-loop3 μ-loop3
+outer r = r .before .before .before .before .before .before .before .before .before .before .before
+
+shaped : (r : tie.Else5 Inv-loop μ-loop Inv-loop2 μ-loop2 Inv-loop4 μ-loop4 Inv-loop3 μ-loop3) → shape (live (r .before .before .before .before .before .before .before)) ≡ true
+shaped r = used-as (r .before) true (not-false _ (r .if5 .left))
+
+read-count : (r : tie.After-reader Inv-loop μ-loop Inv-loop2 μ-loop2 Inv-loop4 μ-loop4 Inv-loop3 μ-loop3) → r .before .before .read-count .result ≡ length (readsOf (live (outer r)))
+read-count r = r .before .before .read-count .ensures .1
+
+-- ── the marks ──
+places-hold : (e : tie.After-loop3 Inv-loop μ-loop Inv-loop2 μ-loop2 Inv-loop4 μ-loop4 Inv-loop3 μ-loop3) → all (placeFits (entries (start3 (e .before))) (txnColumn (lives (start3 (e .before))) (entries (start3 (e .before))))) (lives (start3 (e .before))) ≡ true
+places-hold e = let a = e .before in fits-as a true (all-done (fits a) (lives (start3 a)) 8 (lives-long (start3 a)) (a .loop3 .i) (a .loop3 .inv) (omega arith))
+
+marks-as : (e : tie.After-differ2 Inv-loop μ-loop Inv-loop2 μ-loop2 Inv-loop4 μ-loop4 Inv-loop3 μ-loop3) (b : Bool) → e .differ2 .result ≡ b → distinct (markColumn (lives (start3 (e .before .before .before)))) ≡ b
+marks-as e b q = sym (ap distinct (marks-are (e .before .before .before .before .before .before .before))) ∙ sym (e .differ2 .ensures) ∙ q
 
 -- ── needs ──
-entries-right-requires : tie.Need-entries-right-requires
-entries-right-requires c κs = tt
+loop-holds : tie.Need-loop-holds Inv-loop μ-loop Inv-loop2 μ-loop2 Inv-loop4 μ-loop4 Inv-loop3 μ-loop3
+loop-holds c = (omega arith, refl, refl, refl)
 
-returns : tie.Need-returns
+returns : tie.Need-returns Inv-loop μ-loop Inv-loop2 μ-loop2 Inv-loop4 μ-loop4 Inv-loop3 μ-loop3
 unfolding parts _and_
 returns c =
-    let s = c .before .before .before .before in
-    let a : all entryRight (s .args .station .entries) ≡ false = sym (c .before .entries-right .ensures) ∙ not-true _ (c .if1 .taken) in
+    let l = c .before .before .before .before in
+    let s = l .before in
+    let a : all entryRight (entries s) ≡ false =
+    all-wrong entryRight (entries s) 64 (entries-long s) (l .loop .d) (l .loop .inv .0, l .loop .inv .1) noEntry (omega arith) (entry (c .before) false (not-true _ (c .if1 .taken))) in
     sym (whole s ∙ rw a)
 
-txns-of-requires : tie.Need-txns-of-requires
-txns-of-requires c κs = tt
+loop-again : tie.Need-loop-again Inv-loop μ-loop Inv-loop2 μ-loop2 Inv-loop4 μ-loop4 Inv-loop3 μ-loop3
+loop-again c =
+    let t = c .before in
+    let l = t .before .before .before .before in
+    let s = l .before in
+    let r = all-next entryRight (entries s) 64 (entries-long s) (l .loop .d) (l .loop .inv .0, l .loop .inv .1) noEntry (omega arith) (entry (t .before) true (not-false _ (t .if1 .left))) in
+    (r .0, r .1, simp length-set (l .loop .inv .2), held-more (l .loop .txns) (s .args .t1 .entries) (l .loop .d) (l .loop .inv .2) (entries-long s) (omega arith) (l .loop .inv .3))
 
-slice-aggregate-differ : tie.Need-slice-aggregate-differ
-slice-aggregate-differ c = txns-long (c .before)
+loop2-holds : tie.Need-loop2-holds Inv-loop μ-loop Inv-loop2 μ-loop2 Inv-loop4 μ-loop4 Inv-loop3 μ-loop3
+loop2-holds c =
+    let l = c .before in
+    (omega arith, l .loop .inv .2, refl, refl, held-end (l .loop .txns) (entries (l .before)) (l .loop .d) (l .loop .inv .2) (entries-long (l .before)) (omega arith) (l .loop .inv .3), refl)
 
-differ-requires : tie.Need-differ-requires
-differ-requires c κs = omega (arith, txns-long (c .before))
+loop2-again : tie.Need-loop2-again Inv-loop μ-loop Inv-loop2 μ-loop2 Inv-loop4 μ-loop4 Inv-loop3 μ-loop3
+loop2-again c =
+    let l = c .before .before .before in
+    let ls = lives (start2 l) in
+    let h = lives-long (start2 l) in (
+      omega arith,
+      simp length-set (l .loop2 .inv .1),
+      simp length-set (l .loop2 .inv .2),
+      live-more (l .loop2 .txns) ls (l .loop2 .k) (l .loop2 .inv .1) h (omega arith) (l .loop2 .inv .3),
+      drop-set-lt 8 (l .loop2 .txns) (l .loop2 .k) _ (omega arith) ∙ l .loop2 .inv .4,
+      marks-more (l .loop2 .marks) ls (l .loop2 .k) _ (l .loop2 .inv .2) h (omega arith) (c .mark-of .ensures) (l .loop2 .inv .5),
+    )
 
-returns-2 : tie.Need-returns-2
+slice-aggregate-differ : tie.Need-slice-aggregate-differ Inv-loop μ-loop Inv-loop2 μ-loop2 Inv-loop4 μ-loop4 Inv-loop3 μ-loop3
+slice-aggregate-differ c = sym (c .before .before .loop2 .inv .1)
+
+differ-requires : tie.Need-differ-requires Inv-loop μ-loop Inv-loop2 μ-loop2 Inv-loop4 μ-loop4 Inv-loop3 μ-loop3
+differ-requires c κs = omega (arith, c .before .before .loop2 .inv .1)
+
+returns-2 : tie.Need-returns-2 Inv-loop μ-loop Inv-loop2 μ-loop2 Inv-loop4 μ-loop4 Inv-loop3 μ-loop3
 unfolding parts _and_
 returns-2 c =
-    let s = c .before .before .before .before .before .before .before .before in
-    let u : distinct (txnColumn (s .args .station .live) (s .args .station .entries)) ≡ false = sym (ap distinct (c .before .before .before .txns-of .ensures)) ∙ sym (c .before .differ .ensures) ∙ not-true _ (c .if2 .taken) in
-    sym (whole s ∙ rw (entries-hold (c .before .before .before .before), u))
+    let l = c .before .before .before .before in
+    sym (whole (start2 l) ∙ rw (entries-hold (l .before), differ-as (c .before) false (not-true _ (c .if2 .taken))))
 
-slice-aggregate-lives-right : tie.Need-slice-aggregate-lives-right
-slice-aggregate-lives-right c = txns-long (c .before .before .before .before)
+loop3-holds : tie.Need-loop3-holds Inv-loop μ-loop Inv-loop2 μ-loop2 Inv-loop4 μ-loop4 Inv-loop3 μ-loop3
+loop3-holds c = let l = c .before .before .before .before in all-start (placeFits (entries (start2 l)) (l .loop2 .txns)) (lives (start2 l)) 8
 
-lives-right-requires : tie.Need-lives-right-requires
-lives-right-requires c κs = tt
+returns-3 : tie.Need-returns-3 Inv-loop μ-loop Inv-loop2 μ-loop2 Inv-loop4 μ-loop4 Inv-loop3 μ-loop3
+returns-3 c = wrong (c .before .before .before .before .before .before) (unused-as (c .before) false (not-true _ (c .if4 .taken)))
 
-returns-3 : tie.Need-returns-3
-unfolding parts _and_
-returns-3 c =
-    let s = c .before .before .before .before .before .before .before .before .before .before .before in
-    let st = s .args .station in
-    let p : all (placeFits (st .entries) (txnColumn (st .live) (st .entries))) (st .live) ≡ false = sym (ap (λ (x : List ℕ). all (placeFits (st .entries) x) (st .live)) (c .before .before .before .before .before .before .txns-of .ensures)) ∙ sym (c .before .lives-right .ensures) ∙ not-true _ (c .if3 .taken) in
-    sym (whole s ∙ rw (entries-hold (c .before .before .before .before .before .before .before), txns-differ (c .before .before .before), p))
+loop3-again : tie.Need-loop3-again Inv-loop μ-loop Inv-loop2 μ-loop2 Inv-loop4 μ-loop4 Inv-loop3 μ-loop3
+loop3-again c =
+    let u = c .before in
+    let a = u .before .before .before .before .before .before in
+    let t = not-false _ (c .if4 .left) in
+    all-next (fits a) (lives (start3 a)) 8 (lives-long (start3 a)) (a .loop3 .i) (a .loop3 .inv) liveBeyond (omega arith)
+    (place-reads (entries (start3 a)) (txns a) (live a) (unused-as u true t) ∙ unused-names (namedBy (entries (start3 a)) (txns a)) (live a) (unused u true t))
 
-marks-of-requires : tie.Need-marks-of-requires
-marks-of-requires c κs = tt
+returns-4 : tie.Need-returns-4 Inv-loop μ-loop Inv-loop2 μ-loop2 Inv-loop4 μ-loop4 Inv-loop3 μ-loop3
+returns-4 c = wrong (c .before .before .before .before .before .before) (used-as (c .before) false (not-true _ (c .if5 .taken)))
 
-slice-aggregate-differ-2 : tie.Need-slice-aggregate-differ-2
-slice-aggregate-differ-2 c = marks-long (c .before)
+loop3-again-2 : tie.Need-loop3-again-2 Inv-loop μ-loop Inv-loop2 μ-loop2 Inv-loop4 μ-loop4 Inv-loop3 μ-loop3
+loop3-again-2 c =
+    let e = c .before .before .before in
+    let a = e .before .before .before .before .before .before .before in
+    all-next (fits a) (lives (start3 a)) 8 (lives-long (start3 a)) (a .loop3 .i) (a .loop3 .inv) liveBeyond (omega arith)
+    (place-unread (entries (start3 a)) (txns a) (live a) (shaped e) (omega (arith, c .before .read-count .ensures .1, c .if6 .taken)))
 
-differ-requires-2 : tie.Need-differ-requires-2
-differ-requires-2 c κs = omega (arith, marks-long (c .before))
+loop4-holds : tie.Need-loop4-holds Inv-loop μ-loop Inv-loop2 μ-loop2 Inv-loop4 μ-loop4 Inv-loop3 μ-loop3
+loop4-holds c =
+    let a = outer c in
+    let ls = lives (start3 a) in
+    let h = lives-long (start3 a) in (
+      omega arith,
+      a .loop3 .inv .1 ∙ all-split (fits a) ls (a .loop3 .i) liveBeyond (omega arith)
+          ∙ ap (λ (b : Bool). b and all (fits a) (drop (a .loop3 .i + 1) ls)) (place-reads (entries (start3 a)) (txns a) (live a) (shaped (c .before .before .before .before))),
+    )
 
-returns-4 : tie.Need-returns-4
-unfolding parts _and_
-returns-4 c =
-    let s = c .before .before .before .before .before .before .before .before .before .before .before .before .before .before .before in
-    let m : distinct (markColumn (s .args .station .live)) ≡ false = sym (ap distinct (c .before .before .before .marks-of .ensures)) ∙ sym (c .before .differ2 .ensures) ∙ not-true _ (c .if4 .taken) in
-    sym (whole s ∙ rw (entries-hold (c .before .before .before .before .before .before .before .before .before .before .before), txns-differ (c .before .before .before .before .before .before .before), lives-hold (c .before .before .before .before), m))
+slice-aggregate-slot-of : tie.Need-slice-aggregate-slot-of Inv-loop μ-loop Inv-loop2 μ-loop2 Inv-loop4 μ-loop4 Inv-loop3 μ-loop3
+slice-aggregate-slot-of c = let l = columns (outer (c .before .before .before .before .before)) in sym (l .loop2 .inv .1)
 
-slice-aggregate-slots-free : tie.Need-slice-aggregate-slots-free
-slice-aggregate-slots-free c = marks-long (c .before .before .before .before .before)
-
-slots-free-requires : tie.Need-slots-free-requires
-slots-free-requires c κs = tt
-
-returns-5 : tie.Need-returns-5
-unfolding parts _and_
+returns-5 : tie.Need-returns-5 Inv-loop μ-loop Inv-loop2 μ-loop2 Inv-loop4 μ-loop4 Inv-loop3 μ-loop3
 returns-5 c =
-    let s = c .before .before .before .before .before .before .before .before .before .before .before .before .before .before .before .before .before .before in
-    let st = s .args .station in
-    let q : parts (st .live) (st .entries) ≡ all (slotFree (txnColumn (st .live) (st .entries))) (markColumn (st .live)) = rw (entries-hold (c .before .before .before .before .before .before .before .before .before .before .before .before .before .before), txns-differ (c .before .before .before .before .before .before .before .before .before .before), lives-hold (c .before .before .before .before .before .before .before), marks-differ (c .before .before .before)) in
-    c .slots-free .ensures ∙ ap₂ (λ (x y : List ℕ). all (slotFree x) y) (c .before .before .before .before .before .before .before .before .before .before .before .before .before .txns-of .ensures) (c .before .before .before .before .before .before .marks-of .ensures) ∙ sym (whole s ∙ q)
+    let s = c .before in
+    let m = s .before .before .before .before .before in
+    let r = m .before in
+    let a = outer r in
+    misfit a (unnamed (entries (start3 a)) (txns a) (live a) (m .loop4 .j) _ _ (m .loop4 .inv .1) (s .slot-of .result) (s .slot-of .ensures) (omega (arith, read-count r)) (c .if7 .taken))
+
+returns-6 : tie.Need-returns-6 Inv-loop μ-loop Inv-loop2 μ-loop2 Inv-loop4 μ-loop4 Inv-loop3 μ-loop3
+returns-6 c =
+    let e = c .before .before .before in
+    let s = e .before in
+    let m = s .before .before .before .before .before in
+    let r = m .before in
+    let a = outer r in
+    misfit a
+    (named-stop (entries (start3 a)) (txns a) (live a) (m .loop4 .j) _ _ (m .loop4 .inv .1) (s .slot-of .result) (s .slot-of .ensures) (omega (arith, read-count r)) (e .if7 .left)
+    (named-listed (start3 a .args .t1 .entries) (s .slot-of .result) (getD (live a .reads) (m .loop4 .j) noRead) ∙ sym (c .before .named .ensures) ∙ not-true _ (c .if8 .taken)))
+
+loop4-again : tie.Need-loop4-again Inv-loop μ-loop Inv-loop2 μ-loop2 Inv-loop4 μ-loop4 Inv-loop3 μ-loop3
+loop4-again c =
+    let e = c .before .before .before in
+    let s = e .before in
+    let m = s .before .before .before .before .before in
+    let r = m .before in
+    let a = outer r in (
+      omega arith,
+      named-more (entries (start3 a)) (txns a) (live a) (m .loop4 .j) _ _ (m .loop4 .inv .1) (s .slot-of .result) (s .slot-of .ensures) (omega (arith, read-count r)) (e .if7 .left)
+          (named-listed (start3 a .args .t1 .entries) (s .slot-of .result) (getD (live a .reads) (m .loop4 .j) noRead) ∙ sym (c .before .named .ensures) ∙ not-false _ (c .if8 .left)),
+    )
+
+loop3-again-3 : tie.Need-loop3-again-3 Inv-loop μ-loop Inv-loop2 μ-loop2 Inv-loop4 μ-loop4 Inv-loop3 μ-loop3
+loop3-again-3 c =
+    let m = c .before in
+    let a = outer (m .before) in
+    (omega arith, named-end (entries (start3 a)) (txns a) (live a) (m .loop4 .j) _ _ (m .loop4 .inv .1) (omega (arith, read-count (m .before))))
+
+slice-aggregate-differ-2 : tie.Need-slice-aggregate-differ-2 Inv-loop μ-loop Inv-loop2 μ-loop2 Inv-loop4 μ-loop4 Inv-loop3 μ-loop3
+slice-aggregate-differ-2 c = sym (columns (c .before .before) .loop2 .inv .2)
+
+differ-requires-2 : tie.Need-differ-requires-2 Inv-loop μ-loop Inv-loop2 μ-loop2 Inv-loop4 μ-loop4 Inv-loop3 μ-loop3
+differ-requires-2 c κs = omega (arith, columns (c .before .before) .loop2 .inv .2)
+
+returns-7 : tie.Need-returns-7 Inv-loop μ-loop Inv-loop2 μ-loop2 Inv-loop4 μ-loop4 Inv-loop3 μ-loop3
+unfolding parts _and_
+returns-7 c =
+    let e = c .before .before .before in
+    let a = e .before in
+    sym (whole (start3 a) ∙ rw (entries-hold (columns a .before), txns-differ a, places-hold e, marks-as (c .before) false (not-true _ (c .if9 .taken))))
+
+slice-aggregate-slots-free : tie.Need-slice-aggregate-slots-free Inv-loop μ-loop Inv-loop2 μ-loop2 Inv-loop4 μ-loop4 Inv-loop3 μ-loop3
+slice-aggregate-slots-free c = sym (columns (c .before .before .before .before .before .before) .loop2 .inv .2)
+
+returns-8 : tie.Need-returns-8 Inv-loop μ-loop Inv-loop2 μ-loop2 Inv-loop4 μ-loop4 Inv-loop3 μ-loop3
+unfolding parts _and_
+returns-8 c =
+    let f = c .before .before .before in
+    let e = f .before .before .before in
+    let a = e .before in
+    let ts = txnColumn (lives (start3 a)) (entries (start3 a)) in
+    let q : parts (lives (start3 a)) (entries (start3 a)) ≡ all (slotFree ts) (markColumn (lives (start3 a))) =
+    rw (entries-hold (columns a .before), txns-differ a, places-hold e, marks-as (f .before) true (not-false _ (f .if9 .left))) in
+    let b = a .before .before .before .before in
+    c .slots-free .ensures ∙ ap₂ (λ (x y : List ℕ). all (slotFree x) y) (txns-are b) (marks-are b) ∙ sym (whole (start3 a) ∙ q)
 
 pub is-sound-spec : {M : Type 1} → statement M
 is-sound-spec =
     tie.close
     (tie.spec
-    entries-right-requires
+    Inv-loop
+    μ-loop
+    Inv-loop2
+    μ-loop2
+    Inv-loop4
+    μ-loop4
+    Inv-loop3
+    μ-loop3
+    loop-holds
+    (λ c. search needs)
+    (λ c. search needs)
+    (λ c κs. tt)
     returns
-    txns-of-requires
+    (λ c. search needs)
+    (λ c. search needs)
+    (λ c. search needs)
+    (λ c. search needs)
+    (λ c. search needs)
+    loop-again
+    loop2-holds
+    (λ c. search needs)
+    (λ c. search needs)
+    (λ c. search needs)
+    (λ c. search needs)
+    (λ c κs. tt)
+    (λ c. search needs)
+    (λ c. search needs)
+    (λ c. search needs)
+    (λ c. search needs)
+    loop2-again
     slice-aggregate-differ
     differ-requires
     returns-2
-    slice-aggregate-lives-right
-    lives-right-requires
+    loop3-holds
+    (λ c. search needs)
+    (λ c. search needs)
+    (λ c κs. tt)
+    (λ c. search needs)
+    (λ c. search needs)
+    (λ c κs. tt)
     returns-3
-    marks-of-requires
+    (λ c. search needs)
+    (λ c. search needs)
+    loop3-again
+    (λ c. search needs)
+    (λ c. search needs)
+    (λ c κs. tt)
+    returns-4
+    (λ c. search needs)
+    (λ c. search needs)
+    (λ c κs. tt)
+    (λ c. search needs)
+    (λ c. search needs)
+    loop3-again-2
+    (λ c. search needs)
+    (λ c. search needs)
+    loop4-holds
+    (λ c. search needs)
+    (λ c. search needs)
+    slice-aggregate-slot-of
+    (λ c κs. tt)
+    returns-5
+    (λ c. search needs)
+    (λ c. search needs)
+    (λ c κs. tt)
+    returns-6
+    (λ c. search needs)
+    (λ c. search needs)
+    loop4-again
+    (λ c. search needs)
+    (λ c. search needs)
+    loop3-again-3
     slice-aggregate-differ-2
     differ-requires-2
-    returns-4
+    returns-7
     slice-aggregate-slots-free
-    slots-free-requires
-    returns-5)
+    (λ c κs. tt)
+    returns-8)

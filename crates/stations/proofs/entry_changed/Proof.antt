@@ -8,7 +8,7 @@ element-copy-out-live : tie.Need-element-copy-out-live
 element-copy-out-live c = search needs
 
 returns : tie.Need-returns
-returns c = is-entry-changed _ _ _ _ (c .before .pre)
+returns c = is-entry-changed _ _ _ _ _ (c .before .pre)
 
 pub entry-changed-spec : {M : Type 1} → statement M
 entry-changed-spec = tie.close (tie.spec element-copy-out-live returns)

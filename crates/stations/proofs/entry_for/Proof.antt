@@ -7,12 +7,12 @@ use Rattle.stations.proofs.entry_for.Tie as tie
 closing-clock-requires : tie.Need-closing-clock-requires
 closing-clock-requires c κs = search needs
 
-write-keys-requires : tie.Need-write-keys-requires
-write-keys-requires c κs = search needs
+written-set-requires : tie.Need-written-set-requires
+written-set-requires c κs = c .before .pre
 
 returns : tie.Need-returns
 unfolding entryFor
-returns c = rw (c .write-keys .ensures, c .before .closing-clock .ensures)
+returns c = rw (c .written-set .ensures, c .before .closing-clock .ensures)
 
 pub entry-for-spec : {M : Type 1} → statement M
-entry-for-spec = tie.close (tie.spec closing-clock-requires write-keys-requires returns)
+entry-for-spec = tie.close (tie.spec closing-clock-requires written-set-requires returns)

@@ -1,20 +1,26 @@
 -- `stations::greatest_entry_clock` meets its contract. The loop's invariant: what is kept is the greatest of the first i. Assumes nothing.
-use Prim.Native.Nat.{_-_}
+use Prim.Native.Nat.{ℕ, _-_}
 use borrow.Author.Needs.{needs}
-use Rattle.model.specs.Entries.{entryBeyond}
-use Rattle.model.specs.Clocks.{entryClock}
+use mathlib.Core.Path.{sym, ap, _∙_}
+use Rattle.model.specs.declared.Id.{Id}
+use Rattle.model.specs.declared.Entry.{Entry}
+use Rattle.model.specs.Lists.{maximum}
+use Rattle.model.proofs.ListedLaws.{listed-ids}
 use Rattle.stations.proofs.Clocks.{Greatest, greatest-start, greatest-more, greatest-end}
 use Rattle.stations.proofs.greatest_entry_clock.Statement.{statement}
 use Rattle.stations.proofs.greatest_entry_clock.Tie as tie
 
+abbrev machineClock : Entry → ℕ
+machineClock e = e .id .clock
+
 abbrev Inv-loop : tie.InvT-loop
-Inv-loop entries most₀ i₀ most i = Greatest entryClock 64 entries i most
+Inv-loop entries most₀ i₀ most i = Greatest machineClock 64 entries i most
 
 abbrev μ-loop : tie.MeasureT-loop
 μ-loop entries most₀ i₀ most i = 64 - i
 
 loop-holds : tie.Need-loop-holds Inv-loop μ-loop
-loop-holds c = greatest-start entryClock 64 (c .args .t1) (search needs)
+loop-holds c = greatest-start machineClock 64 (c .args .t1) (search needs)
 
 mul-e : tie.Need-mul-e Inv-loop μ-loop
 mul-e c = search needs
@@ -32,10 +38,10 @@ loop-less : tie.Need-loop-less Inv-loop μ-loop
 loop-less c = search needs
 
 loop-again : tie.Need-loop-again Inv-loop μ-loop
-loop-again c = greatest-more entryClock 64 _ _ _ entryBeyond _ (c .before .before .before .before .loop .inv) (c .before .before .before .loop-test .taken) (c .greater .ensures)
+loop-again c = greatest-more machineClock 64 _ _ _ _ _ (c .before .before .before .before .loop .inv) (c .before .before .before .loop-test .taken) (c .greater .ensures)
 
 returns : tie.Need-returns Inv-loop μ-loop
-returns c = greatest-end entryClock 64 _ _ _ (c .before .loop .inv) (c .loop-test .left)
+returns c = greatest-end machineClock 64 _ _ _ (c .before .loop .inv) (c .loop-test .left) ∙ sym (ap maximum (listed-ids (λ (i : Id). i .clock) (c .before .before .args .t1)))
 
 pub greatest-entry-clock-spec : {M : Type 1} → statement M
 greatest-entry-clock-spec =

@@ -8,7 +8,7 @@ element-copy-out-entry : tie.Need-element-copy-out-entry
 element-copy-out-entry c = search needs
 
 returns : tie.Need-returns
-returns c = is-live-changed _ _ _ _ (c .before .pre)
+returns c = is-live-changed _ _ _ _ _ (c .before .pre)
 
 pub live-changed-spec : {M : Type 1} → statement M
 live-changed-spec = tie.close (tie.spec element-copy-out-entry returns)

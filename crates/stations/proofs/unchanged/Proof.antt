@@ -11,7 +11,7 @@ element-copy-out-entry : tie.Need-element-copy-out-entry
 element-copy-out-entry c = search needs
 
 returns : tie.Need-returns
-returns c = is-unchanged _ _
+returns c = is-unchanged _ _ _ _
 
 pub unchanged-spec : {M : Type 1} → statement M
 unchanged-spec = tie.close (tie.spec element-copy-out-live element-copy-out-entry returns)

@@ -1,20 +1,27 @@
 -- `storing::collect` meets its contract.
-use Prim.Native.Nat.{ℕ, _*_, _<_}
-use mathlib.Core.Path.{_≡_, sym, ap, _∙_}
+use Prim.Native.Nat.{ℕ, _*_, _<_, _≤_}
+use mathlib.Core.Path.{_≡_, sym, ap, ap₂, subst, _∙_}
 use mathlib.Core.Logic.{_≢_}
 use mathlib.Core.Bool.{true, false}
 use mathlib.Core.List.{List}
-use lib.ListN.{length}
+use lib.ListN.{length, getD}
 use native.Mathlib.Omega.{arith}
 use borrow.Author.Needs.{needs}
 use borrow.Author.Tests.{not-true, not-false}
-use Rattle.model.specs.declared.Station.{Station}
+use Rattle.model.specs.declared.Entry as machine
+use Rattle.model.specs.declared.Answer.the-variants as A
+use Rattle.model.specs.Types.{Entry, Station}
+use Rattle.model.specs.KeySets.{keySet}
+use Rattle.model.specs.Listed.{listedEntry, listed}
 use Rattle.model.specs.Limits.{slots, slotSize, storeSize}
-use Rattle.model.specs.Entries.{carriesEntry}
-use Rattle.model.specs.Stations.{entryAt}
+use Rattle.model.specs.Entries.{keysOf, carriesEntry}
+use Rattle.model.specs.Stations.{entryAt, setEntry}
 use Rattle.model.specs.Records.{zeroRecord, recordAt}
 use Rattle.model.specs.Sound.{sound}
 use Rattle.model.specs.Supersedence.{superseded, isReadBy, isRead}
+use Rattle.model.specs.Effects.{saysStoring}
+use Rattle.model.proofs.ListedLaws.{zeroEntry, listed-any}
+use Rattle.stations.proofs.Callers.{entry-count}
 use Rattle.storing.proofs.CollectRows.{collect-1, collect-2, collect-out, collect-unheld, collect-15, collect-16, collect-17, collect-on}
 use Rattle.model.proofs.RecordLaws.{record-part}
 use Rattle.storing.proofs.Parts.{handed, handed-storing}
@@ -26,13 +33,21 @@ abbrev start : tie.Else2 → tie.Start
 start c = c .before .before .before
 
 abbrev st : tie.Else2 → Station
-st c = start c .args .t1
+st c = listed (start c .args .t1)
 
 abbrev s : tie.Else2 → List ℕ
 s c = start c .args .store .now
 
 abbrev d : tie.Else2 → ℕ
 d c = start c .args .slot
+
+-- the slot's entry
+abbrev entry : tie.Else2 → machine.Entry
+entry c = getD (start c .args .t1 .entries) (d c) zeroEntry
+
+entry-is : (c : tie.Else2) → entryAt (st c) (d c) ≡ listedEntry (entry c)
+unfolding entryAt
+entry-is c = listed-any (start c .args .t1 .entries) (d c)
 
 size : (c : tie.Else2) → length (s c) ≡ storeSize
 size c = c .before .if1 .left
@@ -48,8 +63,7 @@ low : (c : tie.Else4) → d (e₄ c) < slots
 low c = c .before .before .before .before .if3 .left
 
 held : (c : tie.Else4) → entryAt (st (e₄ c)) (d (e₄ c)) .id .txn ≢ 0
-unfolding entryAt
-held c = c .if4 .left
+held c z = c .if4 .left (sym (ap (λ (e : Entry). e .id .txn) (entry-is (e₄ c))) ∙ z)
 
 -- past row 15
 abbrev e₅ : tie.Else5 → tie.Else2
@@ -64,10 +78,9 @@ abbrev e₇ : tie.After-carries-entry → tie.Else2
 e₇ c = e₆ (c .before .before .before)
 
 carried : (c : tie.After-carries-entry) → carriesEntry (recordAt (s (e₇ c)) (d (e₇ c)) 0) (entryAt (st (e₇ c)) (d (e₇ c))) ≡ c .carries-entry .result
-unfolding entryAt
 carried c =
     let e = e₇ c in
-    ap (λ (x : List ℕ). carriesEntry x (entryAt (st e) (d e))) (sym (record-part (s e) (d e) 0 (slotSize * d e) (omega arith))) ∙ sym (c .carries-entry .ensures)
+    ap₂ carriesEntry (sym (record-part (s e) (d e) 0 (slotSize * d e) (omega arith))) (entry-is e) ∙ sym (c .carries-entry .ensures)
 
 -- past row 17
 abbrev f₇ : tie.Else7 → tie.Else4
@@ -80,7 +93,7 @@ returns : tie.Need-returns
 returns c =
     let a = c .before .before .before .args in
     let z = a .store .now in
-    handed _ _ _ _ _ z (collect-1 (a .t1) z (a .slot) (c .before .if1 .taken)) (c .refused .ensures)
+    handed _ _ _ _ _ z (collect-1 (listed (a .t1)) z (a .slot) (c .before .if1 .taken)) (c .refused .ensures)
 
 refused-requires-2 : tie.Need-refused-requires-2
 refused-requires-2 c κs = tt
@@ -90,7 +103,7 @@ returns-2 c =
     let e = c .before .before .before .before in
     let a = e .args in
     let z = a .store .now in
-    handed _ _ _ _ _ z (collect-2 (a .t1) z (a .slot) (c .before .before .if1 .left) (sym (e .pre) ∙ not-true _ (c .before .if2 .taken))) (c .refused2 .ensures)
+    handed _ _ _ _ _ z (collect-2 (listed (a .t1)) z (a .slot) (c .before .before .if1 .left) (sym (e .pre) ∙ not-true _ (c .before .if2 .taken))) (c .refused2 .ensures)
 
 refused-requires-3 : tie.Need-refused-requires-3
 refused-requires-3 c κs = tt
@@ -110,10 +123,9 @@ refused-requires-4 : tie.Need-refused-requires-4
 refused-requires-4 c κs = tt
 
 returns-4 : tie.Need-returns-4
-unfolding entryAt
 returns-4 c =
     let e = c .before .before .before .before .before .before in
-    handed _ _ _ _ _ (s e) (collect-unheld (st e) (s e) (d e) (size e) (right e) (c .before .if4 .taken)) (c .refused4 .ensures)
+    handed _ _ _ _ _ (s e) (collect-unheld (st e) (s e) (d e) (size e) (right e) (ap (λ (x : Entry). x .id .txn) (entry-is e) ∙ c .before .if4 .taken)) (c .refused4 .ensures)
 
 is-superseded-requires : tie.Need-is-superseded-requires
 is-superseded-requires c κs = search needs
@@ -140,17 +152,17 @@ refused-requires-6 : tie.Need-refused-requires-6
 refused-requires-6 c κs = tt
 
 returns-6 : tie.Need-returns-6
-unfolding entryAt isRead isReadBy
+unfolding isRead isReadBy
 returns-6 c =
     let g = c .before .before .before .before in
     let f = g .before .before .before in
     let e = e₄ f in
-    handed _ _ _ _ _ (s e) (collect-16 (st e) (s e) (d e) (size e) (right e) (low f) (held f) (old g) (sym (c .before .before .is-read .ensures) ∙ c .before .if6 .taken)) (c .refused6 .ensures)
+    handed _ _ _ _ _ (s e) (collect-16 (st e) (s e) (d e) (size e) (right e) (low f) (held f) (old g) (ap (λ (x : Entry). isRead (st e) x) (entry-is e) ∙ (sym (c .before .before .is-read .ensures) ∙ c .before .if6 .taken))) (c .refused6 .ensures)
 
 -- nobody read it
 unread : (c : tie.Else6) → isRead (st (e₆ c)) (entryAt (st (e₆ c)) (d (e₆ c))) ≡ false
-unfolding entryAt isRead isReadBy
-unread c = sym (c .before .is-read .ensures) ∙ c .if6 .left
+unfolding isRead isReadBy
+unread c = ap (λ (x : Entry). isRead (st (e₆ c)) x) (entry-is (e₆ c)) ∙ (sym (c .before .is-read .ensures) ∙ c .if6 .left)
 
 mul-at : tie.Need-mul-at
 mul-at c = search needs
@@ -168,7 +180,10 @@ part-carries-entry-end : tie.Need-part-carries-entry-end
 part-carries-entry-end c = search needs
 
 carries-entry-requires : tie.Need-carries-entry-requires
-carries-entry-requires c κs = search needs
+carries-entry-requires c κs =
+    let e = e₆ (c .before .before) in
+    let p : length (keySet (entry e .keys)) ≤ 8 = subst (λ (x : Entry). length (keysOf x) ≤ 8) (entry-is e) (entry-count (st e) (right e) (d e)) in
+    (search needs, p)
 
 refused-requires-7 : tie.Need-refused-requires-7
 refused-requires-7 c κs = tt
@@ -207,7 +222,8 @@ returns-8 c =
     let w = c .before .before .before .before .store-zero in
     let x = c .before .no-entry in
     handed-storing _ _ _ _ _ (d e) 0 zeroRecord (s e) (w .last .0)
-    (collect-on (st e) (s e) (d e) (size e) (right e) (low f) (held f) (old g) (unread h) (x .result) (x .ensures) (carried (k .before) ∙ not-false _ (k .if7 .left)))
+    (collect-on (st e) (s e) (d e) (size e) (right e) (low f) (held f) (old g) (unread h) (listedEntry (x .result)) (x .ensures) (carried (k .before) ∙ not-false _ (k .if7 .left))
+    ∙ ap (λ (y : Entry). saysStoring (A.Collected (y .id)) (setEntry (st e) (d e) (listedEntry (x .result))) (d e) 0 zeroRecord) (entry-is e))
     (c .entry-changed .ensures)
     (w .ensures)
 

@@ -1,22 +1,27 @@
 -- `storing::get` meets its contract.
 use Prim.Native.Nat.{ℕ, _<_, _≤_}
-use mathlib.Core.Path.{_≡_, refl, sym, subst, _∙_}
+use mathlib.Core.Path.{_≡_, refl, sym, ap, subst, _∙_}
 use mathlib.Core.Logic.{_≢_}
 use mathlib.Core.Bool.{true, false}
 use mathlib.Core.List.{List}
-use lib.ListN.{length, length-map}
+use lib.ListN.{length, getD, length-map}
 use native.Mathlib.Omega.{arith}
 use borrow.Author.Needs.{needs}
 use borrow.Author.Tests.{not-true, not-false}
 use Rattle.model.specs.declared.Live.{Live}
-use Rattle.model.specs.declared.Station.{Station}
+use Rattle.model.specs.declared.Entry as machine
+use Rattle.model.specs.declared.Answer.the-variants as A
+use Rattle.model.specs.Types.{Entry, Station}
+use Rattle.model.specs.Listed.{listedEntry, listed}
 use Rattle.model.specs.Limits.{slots, storeSize}
 use Rattle.model.specs.Lives.{readsOf}
-use Rattle.model.specs.Entries.{wrote}
-use Rattle.model.specs.Stations.{liveAt, entryAt}
-use Rattle.model.specs.Records.{carriesVersion}
+use Rattle.model.specs.Entries.{keysOf, wrote, recordOf}
+use Rattle.model.specs.Stations.{liveAt, entryAt, setLive}
+use Rattle.model.specs.Records.{valueIn, carriesVersion, recordAt}
 use Rattle.model.specs.Reading.{Choice, version, choose}
-use Rattle.model.specs.Get.{get, choiceOf, versionAt, noRoom}
+use Rattle.model.specs.Effects.{says}
+use Rattle.model.specs.Get.{get, choiceOf, withRead, versionAt, noRoom}
+use Rattle.model.proofs.ListedLaws.{zeroEntry, listed-any, listed-length}
 use Rattle.model.proofs.GetLaws.{version-entry}
 use Rattle.model.proofs.SoundLaws.{Used, write-limit, read-limit}
 use Rattle.reading.specs.Choosing.{chosenAs, IsReader}
@@ -35,7 +40,7 @@ size : (c : tie.Else2) → length (start c .args .store .now) ≡ storeSize
 size c = c .before .before .before .before .if1 .left
 
 abbrev st : tie.Else2 → Station
-st c = start c .args .t1
+st c = listed (start c .args .t1)
 
 abbrev s : tie.Else2 → List ℕ
 s c = start c .args .store .now
@@ -106,9 +111,17 @@ choice c = asked (g₃ c) ∙ chosen-version (chosen (g₃ c)) (d c) (told (c .b
 entry : (c : tie.After-chosen2) → (d c < slots) × (wrote (entryAt (st (hᵥ c .before)) (d c)) (k (hᵥ c .before)) ≡ true)
 entry c =
     let e = hᵥ c .before in
-    let z : length (st e .entries) ≡ 64 = simp length-map at (start e .good .0 .1 .1 .1 .0 .1 .0 .1) in
+    let z : length (start e .args .t1 .entries) ≡ 64 = simp length-map at (start e .good .0 .1 .1 .1 .0 .1 .0 .1) in
     let f = version-entry (st e) (l (hᵥ c)) (k e) (d c) (choice c) in
-    (omega (arith, f .0, z), f .1)
+    (omega (arith, f .0, z, listed-length (start e .args .t1 .entries)), f .1)
+
+-- that entry, as the machine has it
+abbrev found-entry : tie.After-chosen2 → machine.Entry
+found-entry c = getD (start (hᵥ c .before) .args .t1 .entries) (d c) zeroEntry
+
+entry-is : (c : tie.After-chosen2) → entryAt (st (hᵥ c .before)) (d c) ≡ listedEntry (found-entry c)
+unfolding entryAt
+entry-is c = listed-any (start (hᵥ c .before) .args .t1 .entries) (d c)
 
 -- past row 12: its read set has room
 abbrev v₄ : tie.Else4 → tie.After-chosen2
@@ -123,8 +136,16 @@ abbrev vᵣ : tie.After-read-version → tie.After-chosen2
 vᵣ c = v₄ (c .before .before .before)
 
 carried : (c : tie.After-read-version) → carriesVersion (versionAt (st (hᵥ (vᵣ c) .before)) (s (hᵥ (vᵣ c) .before)) (k (hᵥ (vᵣ c) .before)) (d (vᵣ c))) (k (hᵥ (vᵣ c) .before)) (entryAt (st (hᵥ (vᵣ c) .before)) (d (vᵣ c)) .id) ≡ c .read-version .result .carried
-unfolding entryAt versionAt
-carried c = sym (c .read-version .ensures .0)
+unfolding versionAt
+carried c =
+    let e = hᵥ (vᵣ c) .before in
+    ap (λ (x : Entry). carriesVersion (recordAt (s e) (d (vᵣ c)) (recordOf x (k e))) (k e) (x .id)) (entry-is (vᵣ c)) ∙ sym (c .read-version .ensures .0)
+
+value-read : (c : tie.After-read-version) → c .read-version .result .value ≡ valueIn (versionAt (st (hᵥ (vᵣ c) .before)) (s (hᵥ (vᵣ c) .before)) (k (hᵥ (vᵣ c) .before)) (d (vᵣ c)))
+unfolding versionAt
+value-read c =
+    let e = hᵥ (vᵣ c) .before in
+    c .read-version .ensures .1 ∙ sym (ap (λ (x : Entry). valueIn (recordAt (s e) (d (vᵣ c)) (recordOf x (k e)))) (entry-is (vᵣ c)))
 
 refused-requires : tie.Need-refused-requires
 refused-requires c κs = tt
@@ -132,7 +153,7 @@ refused-requires c κs = tt
 returns : tie.Need-returns
 returns c =
     let a = c .before .before .before .args in
-    as-effect _ _ _ _ (get-1 (a .t1) (a .store .now) (a .txn) (a .key) (c .before .if1 .taken)) (c .refused .ensures)
+    as-effect _ _ _ _ (get-1 (listed (a .t1)) (a .store .now) (a .txn) (a .key) (c .before .if1 .taken)) (c .refused .ensures)
 
 open-at-requires : tie.Need-open-at-requires
 open-at-requires c κs = tt
@@ -222,11 +243,10 @@ element-copy-out-e : tie.Need-element-copy-out-e
 element-copy-out-e c = entry (c .before .before .before) .0
 
 read-version-requires : tie.Need-read-version-requires
-unfolding entryAt
 read-version-requires c κs =
     let f = c .before .before .before .before .before in
     let e = hᵥ f .before in
-    (size e, (entry f .0, (entry-count (st e) (found e .right) (d f), entry f .1)))
+    (size e, (entry f .0, (subst (λ (x : Entry). length (keysOf x) ≤ 8) (entry-is f) (entry-count (st e) (found e .right) (d f)), subst (λ (x : Entry). wrote x (k e) ≡ true) (entry-is f) (entry f .1))))
 
 refused-requires-4 : tie.Need-refused-requires-4
 refused-requires-4 c κs = tt
@@ -250,14 +270,18 @@ live-changed-requires : tie.Need-live-changed-requires
 live-changed-requires c κs = found (hᵥ (v₄ (c .before .before .before .before .before .before)) .before) .low
 
 returns-8 : tie.Need-returns-8
-unfolding entryAt versionAt
 returns-8 c =
     let w = c .before in
     let r = w .before .before .before in
     let g = r .before .before .before in
     let f = v₄ g in
     let h = hᵥ f in
-    as-effect _ _ _ _ (get-version _ _ _ _ _ _ (comes h) (d f) (choice f) (room g) (here h) (r .read-version .result .value) (w .with-read .result) (carried r ∙ not-false _ (w .before .if5 .left)) (r .read-version .ensures .1) (w .with-read .ensures)) (c .live-changed .ensures)
+    let e = h .before in
+    as-effect _ _ _ _
+    (get-version _ _ _ _ _ _ (comes h) (d f) (choice f) (room g) (here h) (r .read-version .result .value) (w .with-read .result) (carried r ∙ not-false _ (w .before .if5 .left)) (value-read r)
+    (w .with-read .ensures ∙ sym (ap (λ (x : Entry). withRead (k e) (x .id) (l h)) (entry-is f)))
+    ∙ ap (λ (x : Entry). says (A.Version (r .read-version .result .value) (x .id)) (setLive (st e) (i e) (w .with-read .result))) (entry-is f))
+    (c .live-changed .ensures)
 
 pub get-spec : {M : Type 1} → statement M
 get-spec =

@@ -5,6 +5,7 @@ use mathlib.Core.List.{List}
 use native.Mathlib.Omega.{arith}
 use borrow.Author.Needs.{needs}
 use Rattle.model.specs.Limits.{recordSize, slotSize}
+use Rattle.model.specs.Listed.{listedEntry}
 use Rattle.model.specs.Records.{valueIn, carriesVersion, recordAt}
 use Rattle.model.proofs.SlotLaws.{record-of-low}
 use Rattle.model.proofs.RecordLaws.{record-part}
@@ -16,7 +17,7 @@ record-number : (c : tie.After-record-of) → c .record-of .result ≤ 8
 record-number c =
     let a = c .before .before .before .args in
     let p = c .before .before .before .pre in
-    omega (arith, c .record-of .ensures, record-of-low (a .e) (a .key) (p .1 .1 .1), p .1 .1 .0)
+    omega (arith, c .record-of .ensures, record-of-low (listedEntry (a .e)) (a .key) (p .1 .1 .1), p .1 .1 .0)
 
 mul-at : tie.Need-mul-at
 mul-at c = search needs

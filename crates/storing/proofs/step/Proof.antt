@@ -1,21 +1,25 @@
 -- `storing::step` meets its contract.
 use Prim.Native.Nat.{ℕ, _≤_}
-use mathlib.Core.Path.{_≡_}
+use mathlib.Core.Path.{_≡_, ap}
 use mathlib.Core.List.{List}
-use lib.ListN.{length}
+use lib.ListN.{length, length-map}
 use native.Mathlib.Omega.{arith}
 use borrow.Author.Needs.{needs}
-use Rattle.model.specs.declared.Station.{Station}
+use Rattle.model.specs.Types.{Entry, Station}
+use Rattle.model.specs.KeySets.{keySet}
+use Rattle.model.specs.Listed.{listedEntry, listed}
+use Rattle.model.specs.Lives.{writesOf, writeCount, writeKey}
+use Rattle.model.specs.Entries.{keysOf, entryFor}
 use Rattle.model.specs.declared.Phase.the-variants.{Closing}
 use Rattle.model.specs.Limits.{storeSize}
 use Rattle.model.specs.Step.{step}
 use Rattle.model.specs.Stations.{liveAt}
 use Rattle.model.proofs.SoundFacts.{IsClosing, closing-facts}
-use Rattle.model.proofs.SoundLaws.{write-limit}
+use Rattle.model.proofs.SoundLaws.{write-limit, writes-length}
 use Rattle.stations.proofs.Changes.{as-outcome}
 use Rattle.stations.proofs.RowLaws.{Placed, named-found}
 use Rattle.storing.proofs.Parts.{handed}
-use Rattle.storing.proofs.StepRows.{not-closing, step-rest, step-1, step-refused, step-open, step-10, step-record, step-done}
+use Rattle.storing.proofs.StepRows.{not-closing, step-rest, step-1, step-refused, step-open, step-10, step-record, step-done, is-done}
 use Rattle.storing.proofs.step.Statement.{statement}
 use Rattle.storing.proofs.step.Tie as tie
 
@@ -27,7 +31,7 @@ size : (c : tie.Else2) → length (start c .args .store .now) ≡ storeSize
 size c = c .before .before .before .before .if1 .left
 
 abbrev st : tie.Else2 → Station
-st c = start c .args .t1
+st c = listed (start c .args .t1)
 
 abbrev s : tie.Else2 → List ℕ
 s c = start c .args .store .now
@@ -69,11 +73,23 @@ facts : (c : tie.After-phase) → IsClosing (st (e₂ c)) (liveAt (st (e₂ c)) 
 facts c = closing-facts (st (e₂ c)) (found (e₂ c) .right) (i (e₂ c)) (d c) (clock c) (n c) (closing c)
 
 -- at the test for the last step
-abbrev p : tie.After-struct-known2 → tie.After-phase
+abbrev p : tie.After-write-count → tie.After-phase
 p c = c .before .before .before
 
-limit : (c : tie.After-phase) → liveAt (st (e₂ c)) (i (e₂ c)) .«write_count» ≤ 8
-limit c = write-limit _ (facts c .used .sets)
+-- how many keys it writes, as counted
+counted : (c : tie.After-write-count) → c .write-count .result ≡ writeCount (liveAt (st (e₂ (p c))) (i (e₂ (p c))))
+unfolding liveAt
+counted c = c .write-count .ensures .1
+
+limit : (c : tie.After-phase) → writeCount (liveAt (st (e₂ c)) (i (e₂ c))) ≤ 8
+limit c = let l = liveAt (st (e₂ c)) (i (e₂ c)) in omega (arith, write-limit l (facts c .used .sets), writes-length l)
+
+-- its entry has as many
+few : (c : tie.After-write-count) → length (keySet (c .before .entry-for .result .keys)) ≤ 8
+unfolding liveAt entryFor
+few c =
+    let l = liveAt (st (e₂ (p c))) (i (e₂ (p c))) in
+    omega (arith, ap (λ (e : Entry). length (keysOf e)) (c .before .entry-for .ensures), length-map (writesOf l) writeKey, limit (p c))
 
 refused-requires : tie.Need-refused-requires
 refused-requires c κs = tt
@@ -82,7 +98,7 @@ returns : tie.Need-returns
 returns c =
     let a = c .before .before .before .args in
     let z = a .store .now in
-    handed _ _ _ _ _ z (step-1 (a .t1) z (a .txn) (c .before .if1 .taken)) (c .refused .ensures)
+    handed _ _ _ _ _ z (step-1 (listed (a .t1)) z (a .txn) (c .before .if1 .taken)) (c .refused .ensures)
 
 named-at-requires : tie.Need-named-at-requires
 named-at-requires c κs = tt
@@ -115,7 +131,11 @@ cast-d : tie.Need-cast-d
 cast-d c = search needs
 
 entry-for-requires : tie.Need-entry-for-requires
-entry-for-requires c κs = tt
+unfolding liveAt
+entry-for-requires c κs = facts (c .before) .used .sets
+
+write-count-requires : tie.Need-write-count-requires
+write-count-requires c κs = tt
 
 no-live-requires : tie.Need-no-live-requires
 no-live-requires c κs = tt
@@ -127,11 +147,13 @@ returns-4 c =
     let f = p k in
     let e = e₂ f in
     let m = k .before .entry-for in
-    step-done (st e) (s e) (t e) (i e) (comes e) (d f) (clock f) (n f) (closing f) (c .no-live .result) (m .result) (c .before .before .if3 .taken) (m .ensures) (c .no-live .ensures) (found e .low) (facts f .low)
+    handed _ _ _ _ _ (s e)
+    (step-done (st e) (s e) (t e) (i e) (comes e) (d f) (clock f) (n f) (closing f) (c .no-live .result) (listedEntry (m .result)) (omega (arith, c .before .before .if3 .taken, counted k)) (m .ensures) (c .no-live .ensures))
+    (is-done (start e .args .t1) _ _ _ _ (m .result) (found e .low) (facts f .low))
 
-add-t29 : tie.Need-add-t29
+add-t28 : tie.Need-add-t28
 unfolding liveAt
-add-t29 c = omega (arith, c .if3 .left, limit (p (c .before)))
+add-t28 c = omega (arith, c .if3 .left, counted (c .before), limit (p (c .before)))
 
 with-phase-requires : tie.Need-with-phase-requires
 with-phase-requires c κs = tt
@@ -139,8 +161,9 @@ with-phase-requires c κs = tt
 store-record-requires : tie.Need-store-record-requires
 unfolding liveAt
 store-record-requires c κs =
-    let f = p (c .before .before .before) in
-    (size (e₂ f), (facts f .low, (c .before .before .if3 .left, limit f)))
+    let k = c .before .before .before in
+    let f = p k in
+    (size (e₂ f), (facts f .low, (omega (arith, c .before .before .if3 .left, counted k), few k)))
 
 live-changed-requires : tie.Need-live-changed-requires
 live-changed-requires c κs = found (e₂ (p (c .before .before .before .before .before .before))) .low
@@ -158,7 +181,7 @@ returns-5 c =
     let e = e₂ f in
     let m = k .before .entry-for in
     let w = c .before .before .before .store-record in
-    let q = step-record (st e) (s e) (t e) (i e) (comes e) (d f) (clock f) (n f) (closing f) (w .result) (o .with-phase .result) (m .result) (w .last .0) (h .if3 .left) (m .ensures) (o .with-phase .ensures) (w .ensures .0) (w .ensures .1) in
+    let q = step-record (st e) (s e) (t e) (i e) (comes e) (d f) (clock f) (n f) (closing f) (w .result) (o .with-phase .result) (listedEntry (m .result)) (w .last .0) (omega (arith, h .if3 .left, counted k)) (m .ensures) (o .with-phase .ensures) (w .ensures .0) (w .ensures .1) in
     (as-outcome _ _ _ _ (q .0) (c .live-changed .ensures), q .1)
 
 pub step-spec : {M : Type 1} → statement M
@@ -177,9 +200,10 @@ step-spec =
     returns-3
     cast-d
     entry-for-requires
+    write-count-requires
     no-live-requires
     returns-4
-    add-t29
+    add-t28
     with-phase-requires
     store-record-requires
     live-changed-requires

@@ -42,6 +42,8 @@ use denote.Triple.Walked.{says, needs, Stays, stay-ref, stay-none, gave-slice, w
 use denote.Exit.{yes}
 use denote.Signature.{plain}
 use Rattle.desk.specs.Acts.{acted, kept}
+use Rattle.model.specs.Types as T
+use Rattle.model.specs.Listed.{listed, listedOutcome}
 use Rattle.model.specs.Sound.{sound}
 use Rattle.model.specs.declared.Station.{Station}
 use Rattle.desk.specs.declared.Request.{Request}
@@ -94,34 +96,34 @@ module _ {M : Type 1} (𝓤 : URA M) (H : Heap 𝓤) (A : Atoms 𝓤) (W : Given
   Post = walkOf 𝓤 H A act-on.ended stayed (act-on.clauses 𝓤 H A at-mem run) .post (((κ, (κ′, tt)), (q, (q′, tt)), tt, a, values), tt)
 
   -- what the definitions give
-  abbrev out : Outcome
-  out = acted h ys n
+  abbrev out : T.Outcome
+  out = acted (listed h) ys n
 
   abbrev left : List ℕ
-  left = kept h ys n
+  left = kept (listed h) ys n
 
   -- what `act`'s triple binds outside: the store at its own lifetime, share and name
   abbrev to-act : Act 𝓤 H A at-mem run .Ghost
   to-act = (((κ′, tt), (q′, tt), tt, (h, (x, (n, tt))), (machS h ∷ [], (s ∷ [], (machL n ∷ [], tt)))), tt)
 
   -- `act` requires of the request what `act_on` does
-  goes : IsS h → n .tested ≡ sound h → ent 𝓤 (sep 𝓤 (sep 𝓤 (A .lft κ′ q′) (sem 𝓤 H A ftrue)) (sem 𝓤 H A (MutSlice (named 0) κ′ u8 .own x (s ∷ [])))) (Act 𝓤 H A at-mem run .pre to-act)
+  goes : IsS h → n .tested ≡ sound (listed h) → ent 𝓤 (sep 𝓤 (sep 𝓤 (A .lft κ′ q′) (sem 𝓤 H A ftrue)) (sem 𝓤 H A (MutSlice (named 0) κ′ u8 .own x (s ∷ [])))) (Act 𝓤 H A at-mem run .pre to-act)
   goes g tested =
       qed W ((‵ (flft κ′ q′) ⊛ ‵ ftrue) ∷ ‵ (MutSlice (named 0) κ′ u8 .own x (s ∷ [])) ∷ []) ∵ says ! tested $ frame ! $ nothing ! $ owned ! L.the-row (Is L.the-row) (LL.makes L.the-type L′.the-plain 𝓤 H A) n _ gl $ fjoin ! $ move ! (1 ∷ 0 ∷ []) $ fjoin ! $
       owned ! S.the-row (Is S.the-row) (LL.makes S.the-type S′.the-plain 𝓤 H A) h _ g $ fjoin ! $ done !
 
-  exits : (r : Outcome) (zs : List ℕ) → (r ≡ out) × (zs ≡ left) → length zs ≡ length ys → IsN (r .answer)
+  exits : (r : Outcome) (zs : List ℕ) → (listedOutcome r ≡ out) × (zs ≡ left) → length zs ≡ length ys → IsN (r .answer)
       → ent 𝓤 (⋆ 𝓤 H A (‵ (fobs γ (S.the-row .coded .code (r .station))) ∷ ‵ (fbor κ (Body (mem S.the-row) b o γ)) ∷ ‵ (flft κ q) ∷ (‵ (flft κ′ q′) ⊛ ‵ ftrue) ∷ ‵ (finally u8 γ′ zs) ∷ [])) (Post (machN (r .answer)))
   exits r zs e l g =
       qed W (‵ (fobs γ (S.the-row .coded .code (r .station))) ∷ ‵ (fbor κ (Body (mem S.the-row) b o γ)) ∷ ‵ (flft κ q) ∷ (‵ (flft κ′ q′) ⊛ ‵ ftrue) ∷ ‵ (finally u8 γ′ zs) ∷ []) ∵
       suffices ! _ (ends-at 𝓤 H A act-on.ended stayed (act-on.clauses 𝓤 H A at-mem run) W (((κ, (κ′, tt)), (q, (q′, tt)), tt, a, values), tt) (machN (r .answer)) (r .answer) (r .station, (zs, (tt, tt))) (tt, (l, (tt, tt)))) $
-      says ! (ap (λ (z : Outcome). z .answer) (e .0), ap (λ (z : Outcome). z .station) (e .0), e .1) $
+      says ! (ap (λ (z : T.Outcome). z .answer) (e .0), ap (λ (z : T.Outcome). z .station) (e .0), e .1) $
       move ! (2 ∷ 3 ∷ []) $ join ! $ frame ! $ feqI ! (List Val) (vptr b o ∷ []) (vptr b o ∷ []) refl $ fjoin3 ! $
       nothing ! $ owned ! L.the-row (Is L.the-row) (LL.makes L.the-type L′.the-plain 𝓤 H A) n _ gl $ fjoin ! $ move ! (2 ∷ 0 ∷ []) $ fjoin ! $ move ! (1 ∷ 0 ∷ []) $ fjoin ! $
       owned ! N.the-row (Is N.the-row) (EL.makes N.the-type N′.the-plain 𝓤 H A) (r .answer) _ g $ move ! (1 ∷ 0 ∷ []) $ done !
 
   module _ (C : Calls 𝓤 H) (Λ : Loops 𝓤 H) (fm : FmC 𝓤 H (W .laws) C) (known : Triple 𝓤 (C #desk·act) (Act 𝓤 H A at-mem run)) where
-    walk : Room u8 (length ys) → n .tested ≡ sound h → ent 𝓤 (onEntry 𝓤 H A act-on.signature (κ, (κ′, tt)) (q, (q′, tt)) a values) (WpFn 𝓤 H C Λ code.function (vptr b o ∷ s ∷ machL n ∷ []) Post)
+    walk : Room u8 (length ys) → n .tested ≡ sound (listed h) → ent 𝓤 (onEntry 𝓤 H A act-on.signature (κ, (κ′, tt)) (q, (q′, tt)) a values) (WpFn 𝓤 H C Λ code.function (vptr b o ∷ s ∷ machL n ∷ []) Post)
     walk room tested =
         qed W ((‵ (flft κ q) ⊛ ‵ (flft κ′ q′) ⊛ ‵ ftrue) ∷ ‵ (owns (MutRef (named 0) κ S.the-row ∷ MutSlice (named 1) κ′ u8 ∷ L.the-row ∷ []) a values) ∷ []) ∵
         enter ! C Λ code.function (vptr b o ∷ s ∷ machL n ∷ []) _ $
@@ -139,8 +141,8 @@ module _ {M : Type 1} (𝓤 : URA M) (H : Heap 𝓤) (A : Atoms 𝓤) (W : Given
         move ! (6 ∷ []) $ fsplit ! $ move ! (7 ∷ 0 ∷ []) $ use2 W (raw (Act 𝓤 H A at-mem run .pre to-act)) (goes g tested) $
         calls-at ! fm (Act 𝓤 H A at-mem run) known to-act (and-then ! (load ! (from ! (stop !)) (look ! 11 refl)) (and-then ! (load ! (from ! (stop !)) (look ! 7 refl)) (and-then ! (load ! (from ! (stop !)) (look ! 15 refl)) (no-more !)))) (λ w.
         use1 W (later (some (λ (r : Outcome). ((‵ (flft κ′ q′) ⊛ ‵ ftrue) ⊛ ‵ (O.the-row .own r (w ∷ []))) ⊛ raw (ensured 𝓤 H A act.ended (act.clauses 𝓤 H A at-mem run) (κ′, tt) (h, (x, (n, tt))) tt r)))) (id⊢ 𝓤 _) $ await ! tt $ pick ! (λ r.
-        split ! $ move ! (1 ∷ []) $ use1 W (some (λ (zs : Unit {0} × (List ℕ × (Unit {0} × Unit {0}))). ‵ (lasts act.ended (κ′, tt) (h, (x, (n, tt))) zs) ⊛ raw (fact 𝓤 ((r ≡ out) × (zs .1 .0 ≡ left))))) (id⊢ 𝓤 _) $ pick ! (λ zs.
-        split ! $ move ! (1 ∷ []) $ heard ! ((r ≡ out) × (zs .1 .0 ≡ left)) (λ e. fsplit ! $ drop ! $ fsplit ! $ fsplit ! $ move ! (1 ∷ []) $ feqL ! (λ l.
+        split ! $ move ! (1 ∷ []) $ use1 W (some (λ (zs : Unit {0} × (List ℕ × (Unit {0} × Unit {0}))). ‵ (lasts act.ended (κ′, tt) (h, (x, (n, tt))) zs) ⊛ raw (fact 𝓤 ((listedOutcome r ≡ out) × (zs .1 .0 ≡ left))))) (id⊢ 𝓤 _) $ pick ! (λ zs.
+        split ! $ move ! (1 ∷ []) $ heard ! ((listedOutcome r ≡ out) × (zs .1 .0 ≡ left)) (λ e. fsplit ! $ drop ! $ fsplit ! $ fsplit ! $ move ! (1 ∷ []) $ feqL ! (λ l.
         -- [the last list; …; the token and the outcome; what the numbers own; the station's cell; …]
         move ! (2 ∷ []) $ split ! $ move ! (1 ∷ []) $ peeks ! O.the-row (Is O.the-row) (shows 𝓤 H A O.the-row) r (w ∷ []) (λ is.
         land ! (from ! (stop !)) (init ! 16 refl (LL.lawful O.the-type O′.the-laws 𝓤 H A W .typed r _ is .0)) $ rewrite ! 16 (λ (u : Val). ‵ (fat fullShare O′.mir l₄ 0 u)) (ap only (LL.tells O.the-type O′.the-laws r _ is)) refl $
@@ -158,7 +160,7 @@ module _ {M : Type 1} (𝓤 : URA M) (H : Heap 𝓤) (A : Atoms 𝓤) (W : Given
   act-on-walks C Λ fm known = walked 𝓤 H A act-on.ended stayed (act-on.clauses 𝓤 H A mem run) (WpFn 𝓤 H C Λ code.function)
       (λ κs. (ptr-vals, (slice-vals, (LL.vals L.the-type L′.the-laws, tt))))
       (λ κs. (mut-tells (named 0) (κs .0) S.the-row, (mut-slice-tells (named 1) (κs .1 .0) u8, (LL.tells L.the-type L′.the-laws, tt))))
-      (λ κs qs bounds a g are. needs 𝓤 (a .1 .1 .0 .tested ≡ sound (a .0 .now)) _
+      (λ κs qs bounds a g are. needs 𝓤 (a .1 .1 .0 .tested ≡ sound (listed (a .0 .now))) _
       (walk 𝓤 H A W mem run (κs .0) (κs .1 .0) (qs .0) (qs .1 .0) (a .0 .ptr .0) (a .0 .ptr .1) (a .0 .name) (a .0 .now) (a .1 .0 .ptr .0) (a .1 .0 .ptr .1) (a .1 .0 .name) (a .1 .0 .now) (a .1 .1 .0)
       (are .1 .1 .0) C Λ fm known (are .1 .0 .0 .1)))
 

@@ -43,6 +43,8 @@ use denote.Triple.Walked.{says, needs, Stays, stay-none, gave-slice, walkOf, goe
 use denote.Exit.{yes}
 use denote.Signature.{plain}
 use Rattle.desk.specs.Acts.{acted, kept}
+use Rattle.model.specs.Types as T
+use Rattle.model.specs.Listed.{listed}
 use Rattle.model.specs.Sound.{sound}
 use Rattle.model.specs.declared.Answer.{Answer}
 use Rattle.model.specs.declared.Station.{Station}
@@ -100,22 +102,22 @@ module _ {M : Type 1} (𝓤 : URA M) (H : Heap 𝓤) (A : Atoms 𝓤) (W : Given
   Post = walkOf 𝓤 H A act-once.ended stayed (act-once.clauses 𝓤 H A at-mem run) .post (((κ, tt), (q, tt), tt, a, values), tt)
 
   -- what the definitions give
-  abbrev out : Outcome
-  out = acted h ys n
+  abbrev out : T.Outcome
+  out = acted (listed h) ys n
 
   abbrev left : List ℕ
-  left = kept h ys n
+  left = kept (listed h) ys n
 
   -- what `act_on` ensures of its answer, of the station and of the store
   abbrev Said : Answer → Station → List ℕ → Type 0
-  Said r z zs = (r ≡ out .answer) × (z ≡ out .station) × (zs ≡ left)
+  Said r z zs = (r ≡ out .answer) × (listed z ≡ out .station) × (zs ≡ left)
 
   -- what `act_on`'s triple binds outside: the local lent for the lifetime ν under the name δ, and the store at its own lifetime, share and name
   abbrev to-act-on : ℕ → ℕ → GName → ActOn 𝓤 H A at-mem run .Ghost
   to-act-on l ν δ = (((ν ∷ [], (κ, tt)), (fullShare, (q, tt)), tt, (to l δ, (x, (n, tt))), (vptr l 0 ∷ [], (s ∷ [], (machL n ∷ [], tt)))), tt)
 
   -- `act_on` requires of the request what `act_once` does
-  goes : n .tested ≡ sound h → (l ν : ℕ) (δ : GName) → ent 𝓤 (sep 𝓤 (sep 𝓤 (A .lft (ν ∷ []) fullShare) (sep 𝓤 (A .lft κ q) (sem 𝓤 H A ftrue))) (sep 𝓤 (sem 𝓤 H A (MutRef (named 0) (ν ∷ []) S.the-row .own (to l δ) (vptr l 0 ∷ []))) (sem 𝓤 H A (MutSlice (named 1) κ u8 .own x (s ∷ []))))) (ActOn 𝓤 H A at-mem run .pre (to-act-on l ν δ))
+  goes : n .tested ≡ sound (listed h) → (l ν : ℕ) (δ : GName) → ent 𝓤 (sep 𝓤 (sep 𝓤 (A .lft (ν ∷ []) fullShare) (sep 𝓤 (A .lft κ q) (sem 𝓤 H A ftrue))) (sep 𝓤 (sem 𝓤 H A (MutRef (named 0) (ν ∷ []) S.the-row .own (to l δ) (vptr l 0 ∷ []))) (sem 𝓤 H A (MutSlice (named 1) κ u8 .own x (s ∷ []))))) (ActOn 𝓤 H A at-mem run .pre (to-act-on l ν δ))
   goes tested l ν δ =
       qed W ((‵ (flft (ν ∷ []) fullShare) ⊛ ‵ (flft κ q) ⊛ ‵ ftrue) ∷ ‵ (MutRef (named 0) (ν ∷ []) S.the-row .own (to l δ) (vptr l 0 ∷ [])) ∷ ‵ (MutSlice (named 1) κ u8 .own x (s ∷ [])) ∷ []) ∵
       says ! tested $ frame ! $ nothing ! $ owned ! L.the-row (Is L.the-row) (LL.makes L.the-type L′.the-plain 𝓤 H A) n _ gl $ fjoin ! $ move ! (2 ∷ 0 ∷ []) $ fjoin ! $ move ! (1 ∷ 0 ∷ []) $ fjoin ! $ done !
@@ -137,7 +139,7 @@ module _ {M : Type 1} (𝓤 : URA M) (H : Heap 𝓤) (A : Atoms 𝓤) (W : Given
       owned ! O.the-row (Is O.the-row) (LL.makes O.the-type O′.the-plain 𝓤 H A) z _ is $ move ! (1 ∷ 0 ∷ []) $ done !
 
   module _ (C : Calls 𝓤 H) (Λ : Loops 𝓤 H) (fm : FmC 𝓤 H (W .laws) C) (known : Triple 𝓤 (C #stream·act-on) (ActOn 𝓤 H A at-mem run)) where
-    walk : Room u8 (length ys) → n .tested ≡ sound h → ent 𝓤 (onEntry 𝓤 H A act-once.signature (κ, tt) (q, tt) a values) (WpFn 𝓤 H C Λ code.function (machS h ∷ s ∷ machL n ∷ []) Post)
+    walk : Room u8 (length ys) → n .tested ≡ sound (listed h) → ent 𝓤 (onEntry 𝓤 H A act-once.signature (κ, tt) (q, tt) a values) (WpFn 𝓤 H C Λ code.function (machS h ∷ s ∷ machL n ∷ []) Post)
     walk room tested =
         qed W ((‵ (flft κ q) ⊛ ‵ ftrue) ∷ ‵ (owns (S.the-row ∷ MutSlice (named 0) κ u8 ∷ L.the-row ∷ []) a values) ∷ []) ∵
         enter ! C Λ code.function (machS h ∷ s ∷ machL n ∷ []) _ $
@@ -178,7 +180,7 @@ module _ {M : Type 1} (𝓤 : URA M) (H : Heap 𝓤) (A : Atoms 𝓤) (W : Given
   act-once-walks C Λ fm known = walked 𝓤 H A act-once.ended stayed (act-once.clauses 𝓤 H A mem run) (WpFn 𝓤 H C Λ code.function)
       (λ κs. (LL.vals S.the-type S′.the-laws, (slice-vals, (LL.vals L.the-type L′.the-laws, tt))))
       (λ κs. (LL.tells S.the-type S′.the-laws, (mut-slice-tells (named 0) (κs .0) u8, (LL.tells L.the-type L′.the-laws, tt))))
-      (λ κs qs bounds a g are. needs 𝓤 (a .1 .1 .0 .tested ≡ sound (a .0)) _
+      (λ κs qs bounds a g are. needs 𝓤 (a .1 .1 .0 .tested ≡ sound (listed (a .0))) _
       (walk 𝓤 H A W mem run (κs .0) (qs .0) (a .0) (a .1 .0 .ptr .0) (a .1 .0 .ptr .1) (a .1 .0 .name) (a .1 .0 .now) (a .1 .1 .0) (are .0)
       (are .1 .1 .0) C Λ fm known (are .1 .0 .0 .1)))
 

@@ -7,6 +7,7 @@ use lib.Seq.{length-take-le}
 use borrow.Author.Needs.{needs}
 use borrow.Rule.Slice.PartMut.{same-len-mid}
 use native.Mathlib.Omega.{arith}
+use Rattle.model.specs.Listed.{listed}
 use Rattle.model.specs.Sound.{sound}
 use Rattle.sheet.specs.Words.{newline}
 use Rattle.stream.specs.Streams.{afterBytes, bytesOutput}
@@ -20,7 +21,7 @@ abbrev Inv-loop : tie.InvT-loop
 Inv-loop tested store₀ part₀ len number input out₀ known₀ s₀ next₀ used₀ n₀ end₀ store part out known s next used n end =
     (end ≤ length input) × (n ≤ 65) × (used ≤ 96 * end) × (next ≤ number + end) × (length part ≡ 65) × (length out ≡ length out₀) × (length store ≡ length store₀)
     × Passed input (afterBytes (drop end₀ input) (streamOf s₀ store₀ next₀ part₀ n₀)) (bytesOutput (drop end₀ input) (streamOf s₀ store₀ next₀ part₀ n₀)) out₀ (streamOf s store next part n) end used out
-    × (end < length input → drop end input ≡ newline ∷ drop (end + 1) input) × (known ≡ sound s)
+    × (end < length input → drop end input ≡ newline ∷ drop (end + 1) input) × (known ≡ sound (listed s))
 
 abbrev μ-loop : tie.MeasureT-loop
 μ-loop tested store₀ part₀ len number input out₀ known₀ s₀ next₀ used₀ n₀ end₀ store part out known s next used n end =

@@ -1,6 +1,6 @@
 -- `sweeping::collect_all` meets its contract.
-use Prim.Native.Nat.{ℕ, _*_, _-_, _<_}
-use mathlib.Core.Path.{_≡_, sym, ap, _∙_}
+use Prim.Native.Nat.{ℕ, _*_, _-_, _<_, _≤_}
+use mathlib.Core.Path.{_≡_, sym, ap, ap₂, subst, _∙_}
 use mathlib.Core.Bool.{false}
 use mathlib.Core.List.{List, []}
 use lib.Dec.{ltb}
@@ -9,21 +9,26 @@ use native.Mathlib.Decide.{ℕ-discrete}
 use native.Mathlib.Omega.{arith}
 use borrow.Author.Needs.{needs}
 use borrow.Author.Tests.{not-true, not-false, ltb-true, ltb-false, lt-ltb}
-use Rattle.model.specs.declared.Station.{Station}
+use Rattle.model.specs.declared as machine
+use Rattle.model.specs.Types.{Entry, Station}
 use Rattle.model.specs.Lists.{_and_}
-use Rattle.model.specs.Limits.{slots, slotSize}
-use Rattle.model.specs.Entries.{carriesEntry}
-use Rattle.model.specs.Stations.{entryAt, setEntry}
+use Rattle.model.specs.Limits.{slotSize, writeLimit}
+use Rattle.model.specs.KeySets.{keySet}
+use Rattle.model.specs.Listed.{listedEntry, listed}
+use Rattle.model.specs.Entries.{keysOf, carriesEntry}
+use Rattle.model.specs.Stations.{entryAt}
 use Rattle.model.specs.Records.{recordAt}
 use Rattle.model.specs.Sweep.{collections}
 use Rattle.model.proofs.Tests.{and-left, and-right, and-second}
 use Rattle.model.proofs.RecordLaws.{record-part}
+use Rattle.model.proofs.ListedLaws.{zeroEntry, listed-any, listed-length}
+use Rattle.stations.proofs.Callers.{entry-count}
 use Rattle.sweeping.proofs.SweepLoop.{last-low, Sweeping, sweeping-start, sweeping-next, sweeping-as, record-ends, none-ends, limit-ends, swept}
 use Rattle.sweeping.proofs.collect_all.Statement.{statement}
 use Rattle.sweeping.proofs.collect_all.Tie as tie
 
 abbrev Inv-loop : tie.InvT-loop
-Inv-loop store₀ limit order next₀ left₀ count₀ store next left count = Sweeping limit next₀ store₀ next store count left (order .slots)
+Inv-loop store₀ limit order next₀ left₀ count₀ store next left count = Sweeping limit (listed next₀) store₀ (listed next) store count left (order .slots)
 
 abbrev μ-loop : tie.MeasureT-loop
 μ-loop store₀ limit order next₀ left₀ count₀ store next left count = left
@@ -32,7 +37,7 @@ loop-holds : tie.Need-loop-holds Inv-loop μ-loop
 loop-holds c =
     let s = c .before in
     let w : length (s .args .station .entries) ≡ 64 = simp length-map at (s .good .0 .1 .1 .1 .0 .1 .0 .1) in
-    sweeping-start _ _ _ _ _ (s .pre .1 .0 .0) w (s .pre .0) (s .pre .1 .1)
+    sweeping-start _ _ _ _ _ (s .pre .1 .0 .0) (listed-length (s .args .station .entries) ∙ w) (s .pre .0) (s .pre .1 .1)
 
 goes-on-requires : tie.Need-goes-on-requires Inv-loop μ-loop
 goes-on-requires c κs = search needs
@@ -62,6 +67,17 @@ low c =
     let u = last-low _ (p .right) (p .long) _ _ (p .slots-left) (going (c .before .before) .0) in
     omega (arith, u, c .wide .ensures)
 
+-- its entry; as the definitions have it; and that it has few keys
+abbrev element : tie.After-wide Inv-loop μ-loop → machine.Entry.Entry
+element c = getD (turn c .loop .next .entries) (c .wide .result) zeroEntry
+
+is-entry : (c : tie.After-wide Inv-loop μ-loop) → entryAt (listed (turn c .loop .next)) (c .wide .result) ≡ listedEntry (element c)
+unfolding entryAt
+is-entry c = listed-any (turn c .loop .next .entries) (c .wide .result)
+
+few : (c : tie.After-wide Inv-loop μ-loop) → length (keySet (element c .keys)) ≤ writeLimit
+few c = subst (λ (e : Entry). length (keysOf e) ≤ writeLimit) (is-entry c) (entry-count (listed (turn c .loop .next)) (turn c .loop .inv .right) (c .wide .result))
+
 mul-e : tie.Need-mul-e Inv-loop μ-loop
 mul-e c = omega (arith, low c)
 
@@ -84,7 +100,7 @@ part-carries-entry-end : tie.Need-part-carries-entry-end Inv-loop μ-loop
 part-carries-entry-end c = let w = c .before .before in omega (arith, low w, turn w .loop .inv .size)
 
 carries-entry-requires : tie.Need-carries-entry-requires Inv-loop μ-loop
-carries-entry-requires c κs = search needs
+carries-entry-requires c κs = (search needs, few (c .before .before .before))
 
 same-length : tie.Need-same-length Inv-loop μ-loop
 same-length c = search needs
@@ -93,14 +109,16 @@ same-length c = search needs
 abbrev wide-at : tie.After-carries-entry Inv-loop μ-loop → tie.After-wide Inv-loop μ-loop
 wide-at c = c .before .before .before .before
 
+abbrev slot : tie.After-wide Inv-loop μ-loop → ℕ
+slot c = getD (turn c .before .before .args .t3 .slots) (turn c .loop .left - 1) 0
+
 carried : (c : tie.After-carries-entry Inv-loop μ-loop)
-    → carriesEntry (recordAt (turn (wide-at c) .loop .store) (getD (turn (wide-at c) .before .before .args .t3 .slots) (turn (wide-at c) .loop .left - 1) 0) 0) (entryAt (turn (wide-at c) .loop .next) (getD (turn (wide-at c) .before .before .args .t3 .slots) (turn (wide-at c) .loop .left - 1) 0)) ≡ c .carries-entry .result
-unfolding entryAt
+    → carriesEntry (recordAt (turn (wide-at c) .loop .store) (slot (wide-at c)) 0) (entryAt (listed (turn (wide-at c) .loop .next)) (slot (wide-at c))) ≡ c .carries-entry .result
 carried c =
     let w = wide-at c .wide in
     let t = turn (wide-at c) in
-    ap (λ (d : ℕ). carriesEntry (recordAt (t .loop .store) d 0) (entryAt (t .loop .next) d)) (sym (w .ensures))
-    ∙ (ap (λ (x : List ℕ). carriesEntry x (entryAt (t .loop .next) (w .result))) (sym (record-part (t .loop .store) (w .result) 0 (slotSize * w .result) (omega arith))) ∙ sym (c .carries-entry .ensures))
+    ap (λ (d : ℕ). carriesEntry (recordAt (t .loop .store) d 0) (entryAt (listed (t .loop .next)) d)) (sym (w .ensures))
+    ∙ (ap₂ (λ (x : List ℕ) (e : Entry). carriesEntry x e) (sym (record-part (t .loop .store) (w .result) 0 (slotSize * w .result) (omega arith))) (is-entry (wide-at c)) ∙ sym (c .carries-entry .ensures))
 
 returns : tie.Need-returns Inv-loop μ-loop
 returns c =
@@ -136,7 +154,6 @@ loop-less : tie.Need-loop-less Inv-loop μ-loop
 loop-less c = omega (arith, going (wide-at (after c) .before .before) .0)
 
 loop-again : tie.Need-loop-again Inv-loop μ-loop
-unfolding setEntry
 loop-again c =
     let w = wide-at (after c) in
     let t = turn w in

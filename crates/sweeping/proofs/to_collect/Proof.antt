@@ -1,7 +1,9 @@
 -- `sweeping::to_collect` meets its contract.
-use mathlib.Core.Path.{_≡_}
+use mathlib.Core.Path.{_≡_, _∙_}
 use lib.ListN.{length}
 use borrow.Author.Needs.{needs}
+use Rattle.model.specs.Listed.{listedEntries}
+use Rattle.model.proofs.ListedLaws.{listed-length}
 use Rattle.sweeping.proofs.ToCollect.{to-collect}
 use Rattle.sweeping.proofs.to_collect.Statement.{statement}
 use Rattle.sweeping.proofs.to_collect.Tie as tie
@@ -28,7 +30,7 @@ returns : tie.Need-returns
 returns c =
     let s = c .before .before .before .before .before .before .before .before .before .before .before in
     let order = c .before .before .before .before .newest-first in
-    let l : length (s .args .entries) ≡ 64 = s .good .1 .0 .1 .0 .1 in
+    let l : length (listedEntries (s .args .entries)) ≡ 64 = listed-length (s .args .entries) ∙ s .good .1 .0 .1 .0 .1 in
     let x : length (order .result .slots) ≡ 64 = search needs in
     to-collect _ _ _ _ _ _ _
     (record { right = s .pre; long = l; held = c .before .before .before .before .before .before .before .before .held-of .ensures; clocks = c .before .before .before .before .before .before .before .before .before .before .clocks-of .ensures; txns = c .before .before .before .before .before .before .before .before .before .txns-of .ensures; rows = x; order = order .ensures; read-by = c .before .read-of .ensures })

@@ -4,6 +4,7 @@ use mathlib.Core.Logic.{inl, inr, ⊎-elim}
 use borrow.Author.Needs.{needs}
 use borrow.Author.Tests.{not-true, not-false}
 use Rattle.model.specs.declared.Answer.the-variants as A
+use Rattle.model.specs.Listed.{listed}
 use Rattle.model.specs.Stations.{liveAt}
 use Rattle.model.proofs.SoundLaws.{Used, write-limit}
 use Rattle.stations.proofs.Changes.{as-effect}
@@ -13,12 +14,12 @@ use Rattle.transactions.proofs.put.Statement.{statement}
 use Rattle.transactions.proofs.put.Tie as tie
 
 -- past rows 2, 3, 4, 8 and 9
-found : (c : tie.Else1) → Placed (c .before .before .before .before .args .station) (c .before .before .before .before .args .txn) (c .before .before .before .before .args .key) (c .before .before .open-at .result .place)
+found : (c : tie.Else1) → Placed (listed (c .before .before .before .before .args .station)) (c .before .before .before .before .args .txn) (c .before .before .before .before .args .key) (c .before .before .open-at .result .place)
 found c =
     let a = c .before .before .open-at .ensures in
     open-found _ _ _ _ (a .1) (a .2 (c .if1 .left)) _ (c .before .before .before .before .pre) _ (c .if1 .left) (a .0)
 
-used : (c : tie.After-live-at) → Used (c .before .before .before .before .before .args .station .entries) (c .live-at .result)
+used : (c : tie.After-live-at) → Used (listed (c .before .before .before .before .before .args .station) .entries) (c .live-at .result)
 unfolding liveAt
 used c = subst (Used _) (sym (c .live-at .ensures)) (place-used _ _ _ _ (found (c .before)))
 

@@ -7,7 +7,9 @@ use native.Mathlib.Omega.{arith}
 use borrow.Author.Needs.{needs}
 use borrow.Author.Tests.{not-true, not-false}
 use Rattle.model.specs.declared.Answer.the-variants as A
+use Rattle.model.specs.Listed.{listed}
 use Rattle.model.specs.Sound.{sound}
+use Rattle.model.proofs.ListedLaws.{listed-length}
 use Rattle.stations.proofs.Callers.{place-eq, place-live, place-none, slot-held}
 use Rattle.stations.proofs.Changes.{as-effect}
 use Rattle.transactions.proofs.Rows.{Sought, placed, start-2, start-3, start-6, start-7, start-done}
@@ -17,10 +19,10 @@ use Rattle.transactions.proofs.start.Tie as tie
 live8 : (c : tie.Start) → length (c .args .station .live) ≡ 8
 live8 c = simp length-map at (c .good .0 .1 .1 .0 .1 .0 .1)
 
-entries64 : (c : tie.Start) → length (c .args .station .entries) ≡ 64
-entries64 c = simp length-map at (c .good .0 .1 .1 .1 .0 .1 .0 .1)
+entries64 : (c : tie.Start) → length (listed (c .args .station) .entries) ≡ 64
+entries64 c = listed-length (c .args .station .entries) ∙ (simp length-map at (c .good .0 .1 .1 .1 .0 .1 .0 .1))
 
-sound-known : (c : tie.Else1) → sound (c .before .args .station) ≡ true
+sound-known : (c : tie.Else1) → sound (listed (c .before .args .station)) ≡ true
 sound-known c = sym (c .before .pre) ∙ not-false _ (c .if1 .left)
 
 refused-requires : tie.Need-refused-requires
@@ -64,7 +66,7 @@ returns-4 c =
     (c .refused4 .ensures)
 
 -- what the searches have found
-sought : (c : tie.After-slot-of) → Sought (c .before .before .before .before .before .before .before .args .station) (c .before .before .before .before .before .before .before .args .txn) (c .slot-of .result) (c .before .before .before .place-of .result)
+sought : (c : tie.After-slot-of) → Sought (listed (c .before .before .before .before .before .before .before .args .station)) (c .before .before .before .before .before .before .before .args .txn) (c .slot-of .result) (c .before .before .before .place-of .result)
 sought c = record { slotAt = c .slot-of .ensures; placeAt = c .before .before .before .place-of .ensures; entries64 = entries64 (c .before .before .before .before .before .before .before); live8 = live8 (c .before .before .before .before .before .before .before) }
 
 place-of-requires-2 : tie.Need-place-of-requires-2

@@ -1,0 +1,70 @@
+-- 02 §5: "Prove the two equal in every answer, sound stations translated both ways.": the functions, which work on write sets that are numbers, against the
+-- definitions, which work on lists.
+use Prim.Native.Nat.{ℕ}
+use mathlib.Core.Path.{_≡_, refl, sym, ap, ap₂, subst, _∙_}
+use mathlib.Core.Bool.{true}
+use mathlib.Core.List.{List, [], _∷_, map}
+use Rattle.model.specs.declared as machine
+use Rattle.model.specs.Types.{Entry, Station, Outcome}
+use Rattle.model.specs.Lists.{all}
+use Rattle.model.specs.Listed.{listedEntries, listed, numberedEntry, numbered}
+use Rattle.model.specs.Ranges.{Every, IsByte, StationFits, ListsFit}
+use Rattle.model.specs.Sound.{entryRight, sound}
+use Rattle.model.specs.Effects.{Effect, outcomeOf, stored}
+use Rattle.model.specs.Calls.{Call, does, IsTyped}
+use Rattle.model.proofs.Tests.{and-left}
+use Rattle.model.proofs.ListLaws.{all-head, all-tail}
+use Rattle.model.proofs.KeySetLaws.{number-set}
+use Rattle.model.proofs.InsideLaws.{right-ascending}
+use Rattle.model.proofs.ListedLaws.{station-back, station-there, numbered-fits}
+use Rattle.model.proofs.SoundKept.{sound-kept}
+use Rattle.history.specs.Contracts.{Returned, Functions, Meets, returned}
+use Rattle.history.proofs.Carried.{returned-is}
+
+-- ── a station translated there and back is itself ──
+entries-there : (es : List Entry) → all entryRight es ≡ true → listedEntries (map numberedEntry es) ≡ es
+entries-there [] h = refl
+entries-there (e ∷ es) h = ap₂ (λ (x : Entry) (xs : List Entry). x ∷ xs)
+    (λ z. record { id = e .id; keys = number-set (e .keys) (right-ascending e (all-head entryRight e es h)) z })
+    (entries-there es (all-tail entryRight e es h))
+
+-- a sound station of the definitions: its key lists ascend
+pub sound-there : (st : Station) → sound st ≡ true → listed (numbered st) ≡ st
+unfolding sound
+sound-there st h = λ z. record { live = st .live; entries = entries-there (st .entries) (and-left _ _ (and-left _ _ (and-left _ _ h))) z }
+
+-- every station of the machine, the sound ones among them
+pub sound-back : (st : machine.Station.Station) → StationFits st → numbered (listed st) ≡ st
+sound-back st f = station-back st f
+
+-- what a function hands back is what the definition has: the answer, the store, and the station in either form
+pub record Same (r : Returned) (e : Effect) (s : List ℕ) : Type 0 where
+  pub answer : r .outcome .answer ≡ e .answer
+  pub store : r .store ≡ stored (e .stores) s
+  pub station : r .outcome .station ≡ numbered (e .station)
+  pub station-listed : listed (r .outcome .station) ≡ e .station
+
+module _ (f : Functions) (m : Meets f) (c : Call) (s : List ℕ) (typed : IsTyped c) (bytes : Every IsByte s) where
+  -- ── the same answers, from any station, sound or not ──
+  pub same-answers-from-numbers : (st : machine.Station.Station) → StationFits st → Same (returned f c st s) (does c (listed st) s) s
+  unfolding outcomeOf
+  same-answers-from-numbers st o =
+      let p = returned-is f m c st s typed o bytes in
+      let there : listed (returned f c st s .outcome .station) ≡ does c (listed st) s .station = ap (λ (x : Outcome). x .station) (p .0) in
+      record {
+        answer = ap (λ (x : Outcome). x .answer) (p .0);
+        store = p .1;
+        station = sym (station-back _ (m .fits c st s typed o bytes)) ∙ ap numbered there;
+        station-listed = there;
+      }
+
+  pub same-answers-from-lists : (st : Station) → ListsFit st → Same (returned f c (numbered st) s) (does c st s) s
+  same-answers-from-lists st o = subst (λ (x : Station). Same (returned f c (numbered st) s) (does c x s) s) (station-there st o) (same-answers-from-numbers (numbered st) (numbered-fits st o))
+
+  -- ── soundness is kept both ways ──
+  pub sound-both-ways : ((st : Station) → ListsFit st → sound st ≡ true → sound (listed (returned f c (numbered st) s .outcome .station)) ≡ true)
+      × ((st : machine.Station.Station) → StationFits st → sound (listed st) ≡ true → sound (listed (returned f c st s .outcome .station)) ≡ true)
+  sound-both-ways = (
+    λ st o h. ap sound (same-answers-from-lists st o .station-listed) ∙ sound-kept c st s h,
+    λ st o h. ap sound (same-answers-from-numbers st o .station-listed) ∙ sound-kept c (listed st) s h,
+  )

@@ -1,0 +1,21 @@
+-- What the definitions speak of: 01's entry and station, and what a call hands back beside the store. The machine keeps them in a form of its own
+-- (src/lib.rt), which Listed translates.
+use Prim.Native.Nat.{ℕ}
+use mathlib.Core.List.{List}
+use Rattle.model.specs.declared.Id.{Id}
+use Rattle.model.specs.declared.Live.{Live}
+use Rattle.model.specs.declared.Answer.{Answer}
+
+-- 01 'Words': "An entry (a held drawer) is a committed transaction: its id and write set.": the keys ascend
+pub record Entry : Type 0 where
+  pub id : Id
+  pub keys : List ℕ
+
+-- 01 'Words': "A station holds eight live places and 64 drawer entries."
+pub record Station : Type 0 where
+  pub live : List Live
+  pub entries : List Entry
+
+pub record Outcome : Type 0 where
+  pub answer : Answer
+  pub station : Station
