@@ -16,7 +16,7 @@ use Rattle.model.specs.KeySets.{keySet, setNumber}
 use Rattle.model.proofs.Tests.{and-intro, and-none-left, and-none-right, not-of-false, not-of-true}
 use Rattle.model.proofs.ListLaws.{member-yes, member-no}
 use Rattle.model.proofs.InsertLaws.{ascending-from, ascending-tail}
-use Rattle.model.proofs.KeySetLaws.{keys-count, key-below, key-beyond, one-key, ones-below, lowest-first, ascending-same, set-and, set-or, set-none, set-ascends, set-number, number-set}
+use Rattle.model.proofs.KeySetLaws.{key-below, key-beyond, one-key, ones-below, lowest-first, ascending-same, set-and, set-or, set-none, set-ascends, set-number, set-ones, number-set}
 use Rattle.keysets.specs.Parts.{IsLowest, IsRest}
 
 -- ── the number of one key ──
@@ -87,8 +87,7 @@ key-added n k h j = set-or n (2 ^ k) j ∙ (or-swap _ _ ∙ ap (λ (b : Bool). b
 
 -- ── keys counted ──
 pub count-is : (n : ℕ) → n < numberRange → ones n ≡ length (keySet n)
-unfolding keySet
-count-is n h = sym (keys-count 64 n h)
+count-is n h = sym (set-ones n h)
 
 pub count-most : (n mask : ℕ) → n < numberRange → ones (bitAnd n mask) ≤ 64
 count-most n mask h = ones-le 64 (bitAnd n mask) (omega (arith, h, and-le-l n mask))

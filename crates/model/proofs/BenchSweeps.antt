@@ -15,7 +15,7 @@ use Rattle.model.specs.Limits.{slots, slotSize, storeSize}
 use Rattle.model.specs.Ids.{older, sameId}
 use Rattle.model.specs.Bytes.{bytes, number, idIn, headBytes}
 use Rattle.model.specs.Lives.{blank, writesOf, readsOf, slotMark, withReads}
-use Rattle.model.specs.Entries.{carriesKeys, noEntry, keysOf, wrote, wroteAs, markIn, entryIn, commitRecord, entryRules, carriesEntry, isNoEntry}
+use Rattle.model.specs.Entries.{carriesKeys, noEntry, wrote, wroteAs, markIn, entryIn, commitRecord, entryRules, carriesEntry, isNoEntry}
 use Rattle.model.specs.Stations.{idleStation, liveAt, entryAt, setLive, setEntry, liveTxns, heldTxns, holds, closingSlots}
 use Rattle.model.specs.Records.{zeroRecord, recordAt, withRecord}
 use Rattle.model.specs.Sound.{isNoWrite, isNoRead, isNoLive, zeroPastCounts, setsRight, names, inUse, placeRight, entryRight, sound}

@@ -5,7 +5,7 @@ use Prim.Native.Nat.{ℕ}
 use mathlib.Core.Path.{_≡_, refl}
 use mathlib.Core.List.{List, [], _∷_, _++_, map}
 use mathlib.Core.Option.{Option·elim}
-use lib.ListN.{length, replicate}
+use lib.ListN.{replicate}
 use Rattle.model.specs.declared.Id.{Id}
 use Rattle.model.specs.declared.Write.{Write}
 use Rattle.model.specs.declared.Read.{Read}
@@ -18,7 +18,7 @@ use Rattle.model.specs.Limits.{slots, storeSize, lastClock}
 use Rattle.model.specs.Ids.{older, sameId, newerOf, greatest}
 use Rattle.model.specs.Bytes.{bytes, number, idIn, headBytes}
 use Rattle.model.specs.Lives.{blank, writesOf, readsOf, hasWritten, hasRead, valueUnder, isClosing, closingSlot, closingClock, recordsStored, slotMark, withWrites, withReads, withPhase}
-use Rattle.model.specs.Entries.{carriesKeys, noEntry, keysOf, wrote, wroteAs, markIn, entryIn, commitRecord, entryRules, commitRules, carriesEntry, recordOf, isNoEntry, entryFor}
+use Rattle.model.specs.Entries.{carriesKeys, noEntry, wrote, wroteAs, markIn, entryIn, commitRecord, entryRules, commitRules, carriesEntry, recordOf, isNoEntry, entryFor}
 use Rattle.model.specs.Stations.{idleStation, emptyStation, liveAt, entryAt, setLive, setEntry, liveTxns, heldTxns, isLive, isHeld, placeOf, slotOf, holds, closingSlots, isFree}
 use Rattle.model.specs.Records.{valueIn, versionRecord, zeroRecord, carriesVersion, recordAt, withRecord}
 use Rattle.model.specs.Slots.{versionsCarry, judged, seen}

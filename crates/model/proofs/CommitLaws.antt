@@ -11,7 +11,7 @@ use Rattle.model.specs.declared.Phase.the-variants.{Closing}
 use Rattle.model.specs.declared.Answer.the-variants as A
 use Rattle.model.specs.Lists.{all, member}
 use Rattle.model.specs.Limits.{numberRange, lastClock}
-use Rattle.model.specs.Lives.{withPhase, writeCount, writesOf}
+use Rattle.model.specs.Lives.{withPhase, writeCount}
 use Rattle.model.specs.Stations.{liveAt, setLive, isHeld, placeOf}
 use Rattle.model.specs.Ranges.{ListsFit}
 use Rattle.model.specs.Clocks.{clocks, clockAbove}

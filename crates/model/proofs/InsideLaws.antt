@@ -6,7 +6,7 @@ use mathlib.Core.Logic.{_≢_, ⊎-elim}
 use mathlib.Core.Bool.{Bool, true, false}
 use mathlib.Core.List.{List, [], _∷_, map}
 use lib.Dec.{eqb, leb}
-use lib.ListN.{length, take, drop, getD, length-take}
+use lib.ListN.{length, take, getD, length-take}
 use lib.Seq.{getD-take}
 use native.Mathlib.Nat.{lt-irrefl, suc-ne-zero}
 use native.Mathlib.Omega.{arith}
@@ -18,14 +18,14 @@ use Rattle.model.specs.declared.Live.{Live}
 use Rattle.model.specs.Types.{Entry}
 use Rattle.model.specs.declared.Phase.{Phase}
 use Rattle.model.specs.declared.Phase.the-variants.{Unused, Open, Closing}
-use Rattle.model.specs.Lists.{_and_, _or_, all, any, member, ascending}
+use Rattle.model.specs.Lists.{_and_, _or_, any, member, ascending}
 use Rattle.model.specs.Limits.{keys, writeLimit, readLimit}
 use Rattle.model.specs.Ids.{sameId, noId}
 use Rattle.model.specs.Lives.{writeKey, readsOf, closingClock, slotMark, withPhase, writeCount, writesOf}
 use Rattle.model.specs.Entries.{keysOf, wrote, noEntry, entryRules, isNoEntry, entryFor, noEntry}
 use Rattle.model.specs.Sound.{entryRight}
-use Rattle.model.proofs.Tests.{and-left, and-right, and-assoc, or-cases}
-use Rattle.model.proofs.ListLaws.{any-at, any-none-of, member-finds, below-more}
+use Rattle.model.proofs.Tests.{and-left, and-right, and-true, or-cases}
+use Rattle.model.proofs.ListLaws.{any-at, member-finds}
 use Rattle.model.proofs.IdLaws.{same-id}
 
 -- ── the first n of an array ──
@@ -98,11 +98,6 @@ no-one : (a r : Bool) → ((a and false) or r) ≡ r
 unfolding _and_ _or_
 no-one true r = refl
 no-one false r = refl
-
-and-true : (a : Bool) → (a and true) ≡ a
-unfolding _and_
-and-true true = refl
-and-true false = refl
 
 module _ (e : Entry) where
   pub right-none : length (keysOf e) ≡ 0 → entryRight e ≡ sameId (e .id) noId

@@ -420,6 +420,10 @@ pub number-set : (ks : List ℕ) → ascending 0 keys ks ≡ true → keySet (se
 unfolding keySet
 number-set ks h = keys-of-number 64 ks h
 
+pub set-ones : (n : ℕ) → n < numberRange → length (keySet n) ≡ ones n
+unfolding keySet
+set-ones n h = keys-count 64 n h
+
 -- at most as many keys as there are
 keys-few : (d n : ℕ) → length (keysBelow d n) ≤ d
 unfolding keysBelow withLowest

@@ -1,23 +1,26 @@
 -- The machine's station and the definitions' are each other's (specs/Listed), and what stands at a slot, is set there and is counted is the same of both.
 use Prim.Native.Nat.{ℕ, zero, suc, _<_}
 use mathlib.Core.Path.{_≡_, refl, sym, ap, ap₂, _∙_}
-use mathlib.Core.Bool.{true}
+use mathlib.Core.Bool.{Bool}
 use mathlib.Core.List.{List, [], _∷_, map}
+use lib.Dec.{eqb, leb}
 use lib.ListN.{length, getD, set, length-map, List·getD-map}
+use lib.Count.{ones}
 use native.Mathlib.Omega.{arith}
 use Rattle.model.specs.declared as machine
 use Rattle.model.specs.declared.Id.{Id}
 use Rattle.model.specs.Types.{Entry, Station}
-use Rattle.model.specs.Lists.{ascending}
-use Rattle.model.specs.Ids.{noId}
-use Rattle.model.specs.Limits.{keys, numberRange}
-use Rattle.model.specs.KeySets.{keySet, setNumber}
+use Rattle.model.specs.Lists.{_and_, _or_}
+use Rattle.model.specs.Ids.{noId, sameId}
+use Rattle.model.specs.Limits.{keys, writeLimit}
+use Rattle.model.specs.KeySets.{keySet}
 use Rattle.model.specs.Listed.{listedEntry, listedEntries, listed, numberedEntry, numbered}
-use Rattle.model.specs.Entries.{noEntry}
-use Rattle.model.specs.Stations.{entryAt, setLive, setEntry, heldTxns}
+use Rattle.model.specs.Entries.{noEntry, isNoEntry, entryRules}
+use Rattle.model.specs.Sound.{entryRight}
 use Rattle.model.specs.Ranges.{Every, EntryFits, StationFits, ListFits, ListsFit}
+use Rattle.model.proofs.Tests.{and-true}
 use Rattle.model.proofs.ListLaws.{every-map}
-use Rattle.model.proofs.KeySetLaws.{number-below, set-none, set-ascends, set-number, number-set}
+use Rattle.model.proofs.KeySetLaws.{number-below, set-none, set-ascends, set-number, number-set, set-ones}
 
 -- ── each is the other's inverse ──
 pub entry-back : (e : machine.Entry.Entry) → EntryFits e → numberedEntry (listedEntry e) ≡ e
@@ -101,3 +104,18 @@ listed-length es = length-map es listedEntry
 pub listed-ids : {A : Type 0} (f : Id → A) (es : List machine.Entry.Entry) → map (λ (e : Entry). f (e .id)) (listedEntries es) ≡ map (λ (e : machine.Entry.Entry). f (e .id)) es
 listed-ids {A = A} f [] = refl
 listed-ids {A = A} f (e ∷ es) = ap (λ (xs : List A). f (e .id) ∷ xs) (listed-ids f es)
+
+-- ── "(2 now reads: 1 to 8 ones for an entry.)" ──
+pub right-by-ones : (e : machine.Entry.Entry) → EntryFits e
+    → entryRight (listedEntry e)
+    ≡ ((sameId (e .id) noId and eqb (ones (e .keys)) 0) or (leb 1 (ones (e .keys)) and leb (ones (e .keys)) writeLimit and leb 1 (e .id .txn) and leb 1 (e .id .clock)))
+unfolding entryRight isNoEntry entryRules
+right-by-ones e f =
+    ap₂ (λ (n : ℕ) (b : Bool). unused n or (counted n and b)) (set-ones (e .keys) (f .keys64)) (set-ascends (e .keys))
+    ∙ ap (λ (b : Bool). unused (ones (e .keys)) or b) (and-true (counted (ones (e .keys))))
+  where
+    unused : ℕ → Bool
+    unused n = sameId (e .id) noId and eqb n 0
+
+    counted : ℕ → Bool
+    counted n = leb 1 n and leb n writeLimit and leb 1 (e .id .txn) and leb 1 (e .id .clock)

@@ -1,7 +1,7 @@
 -- Laws of a record's bytes (specs/Records): numbers and their bytes, the fields of a record as it is written, what a record carries,
 -- and that a record written into a store changes only itself.
 use Prim.Native.Nat.{ℕ, zero, suc, _+_, _*_, _-_, _/_, _%_, _^_, _<_, _≤_, suc-le-suc}
-use mathlib.Core.Path.{_≡_, refl, sym, ap, ap₂, subst, _∙_}
+use mathlib.Core.Path.{_≡_, refl, sym, ap, ap₂, _∙_}
 use mathlib.Core.Logic.{_≢_}
 use mathlib.Core.Bool.{Bool, true, false, false≢true}
 use mathlib.Core.List.{List, [], _∷_, _++_, append-assoc}
@@ -17,7 +17,6 @@ use Rattle.model.specs.declared.Id.{Id}
 use Rattle.model.specs.Types.{Entry}
 use Rattle.model.specs.Lists.{_and_, padded, same}
 use Rattle.model.specs.Limits.{slots, writeLimit, recordSize, slotSize, width, storeSize, txnRange, numberRange, byteRange}
-use Rattle.model.specs.Ids.{sameId}
 use Rattle.model.specs.Bytes.{bytes, number, idIn, headBytes}
 use Rattle.model.specs.Entries.{keysOf, markIn, countIn, keyBytes, entryIn, freeMark, committedMark, commitRecord, entryRules, carriesKeys, commitRules, carriesEntry}
 use Rattle.model.specs.Records.{valueIn, versionRecord, zeroRecord, carriesVersion, recordPlace, recordAt, withRecord}

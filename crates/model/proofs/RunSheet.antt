@@ -11,7 +11,7 @@ use Rattle.model.specs.Limits.{storeSize}
 use Rattle.model.specs.Ids.{older, sameId, newerOf, greatest}
 use Rattle.model.specs.Bytes.{bytes, number, idIn, headBytes}
 use Rattle.model.specs.Lives.{writesOf, readsOf, hasWritten, hasRead, valueUnder, isClosing, closingSlot, closingClock, recordsStored, slotMark, withWrites, withReads, withPhase}
-use Rattle.model.specs.Entries.{carriesKeys, keysOf, wrote, wroteAs, markIn, entryIn, commitRecord, entryRules, commitRules, carriesEntry, recordOf, isNoEntry, entryFor}
+use Rattle.model.specs.Entries.{carriesKeys, wrote, wroteAs, markIn, entryIn, commitRecord, entryRules, commitRules, carriesEntry, recordOf, isNoEntry, entryFor}
 use Rattle.model.specs.Stations.{emptyStation, liveAt, entryAt, setLive, setEntry, liveTxns, heldTxns, isLive, isHeld, placeOf, slotOf, holds, closingSlots, isFree}
 use Rattle.model.specs.Records.{valueIn, versionRecord, zeroRecord, carriesVersion, recordAt, withRecord}
 use Rattle.model.specs.Slots.{versionsCarry, judged, seen}

@@ -12,7 +12,7 @@ use Rattle.model.specs.Types.{Station}
 use Rattle.model.specs.declared.Phase.{Phase}
 use Rattle.model.specs.declared.Phase.the-variants.{Unused, Open, Closing}
 use Rattle.model.specs.Limits.{slots}
-use Rattle.model.specs.Lives.{readsOf, isClosing, closingSlot, closingClock, recordsStored, writeCount, writesOf}
+use Rattle.model.specs.Lives.{readsOf, isClosing, closingSlot, closingClock, recordsStored, writeCount}
 use Rattle.model.specs.Entries.{wrote}
 use Rattle.model.specs.Stations.{liveAt, entryAt, isLive, isHeld, placeOf, slotOf, holds}
 use Rattle.model.specs.Sound.{isNoLive, placeRight, sound}

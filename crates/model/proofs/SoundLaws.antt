@@ -5,12 +5,12 @@ use mathlib.Core.Logic.{_≢_, ⊎-elim}
 use mathlib.Core.Bool.{true, false, not, true≢false, false≢true}
 use mathlib.Core.List.{List, _++_, map, List·Memᴰ}
 use mathlib.Core.Option.{none}
-use lib.Dec.{eqb, leb}
+use lib.Dec.{leb}
 use lib.ListN.{length-map, length, drop, length-take}
 use lib.Seq.{set-out}
 use native.Mathlib.Nat.{lt-irrefl}
 use native.Mathlib.Omega.{arith}
-use borrow.Author.Tests.{ltb-true, leb-true, eqb-true, not-true, lt-ltb, le-leb, eq-eqb}
+use borrow.Author.Tests.{ltb-true, leb-true, eqb-true, not-true, lt-ltb, le-leb}
 use Rattle.model.specs.declared.Id.{Id}
 use Rattle.model.specs.declared.Write.{Write}
 use Rattle.model.specs.declared.Read.{Read}
@@ -28,7 +28,7 @@ use Rattle.model.specs.Sound.{isNoWrite, isNoRead, isNoLive, zeroPastCou
 use Rattle.model.specs.Put.{withWrite}
 use Rattle.model.specs.Get.{withRead}
 use Rattle.model.proofs.Tests.{and-left, and-right, and-intro, or-intro-right, or-cases, not-of-false}
-use Rattle.model.proofs.ListLaws.{all-of, all-by, all-replicate, all-everywhere, any-set, take-map, drop-map, all-map}
+use Rattle.model.proofs.ListLaws.{all-of, all-by, all-replicate, all-everywhere, any-set}
 use Rattle.model.proofs.DistinctLaws.{Once, once-by, once-set, once-at, once-of, once-left, once-right, once-apart, distinct-append}
 use Rattle.model.proofs.InsertLaws.{insert-ascending, insert-fits, insert-all, padded-take, padded-drop}
 use Rattle.model.proofs.StationLaws.{txn-at, held-at, mark-at, setLive-at, liveAt-same, liveAt-other, setLive-entry, setEntry-at, entryAt-same, entryAt-other, setEntry-live}

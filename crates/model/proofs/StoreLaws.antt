@@ -16,7 +16,7 @@ use Rattle.model.specs.Get.{answered, get}
 use Rattle.model.specs.Commit.{commit}
 use Rattle.model.specs.Abort.{abort}
 use Rattle.model.specs.Scan.{slotsSeen, lowestBroken, scanned, scan}
-use Rattle.model.specs.Lives.{writeCount, writesOf}
+use Rattle.model.specs.Lives.{writeCount}
 
 unfoldable pub StoresNothing : Effect → Type 0
 StoresNothing e = e .stores ≡ []

@@ -20,6 +20,11 @@ unfolding _and_
 and-intro true b ea eb = eb
 and-intro false b ea eb = absurd (false≢true ea)
 
+pub and-true : (a : Bool) → (a and true) ≡ a
+unfolding _and_
+and-true true = refl
+and-true false = refl
+
 -- a conjunction fails, and its first part holds
 pub and-second : (a b : Bool) → (a and b) ≡ false → a ≡ true → b ≡ false
 unfolding _and_

@@ -20,6 +20,10 @@ use Rattle.records.specs.Fields.{fieldsIn, firstKeys, fieldRules}
 
 -- ── the rules of the fields ──
 module _ (f : Fields) (h : fieldRules f ≡ true) where
+  pub fields-some : 1 ≤ f .count
+  unfolding fieldRules
+  fields-some = leb-true 1 (f .count) (and-left _ _ (and-left _ _ (and-left _ _ (and-left _ _ (and-left _ _ h)))))
+
   pub fields-few : f .count ≤ writeLimit
   unfolding fieldRules
   fields-few = leb-true (f .count) writeLimit (and-right _ _ (and-left _ _ (and-left _ _ (and-left _ _ (and-left _ _ h)))))

@@ -110,8 +110,8 @@ module _ (w : List ℕ) where
       slot-no-versions h = slot-damaged (and-none-right _ _ (versions-are ∙ h))
 
       pub slot-committed : head (take recordSize w) ≡ true → fieldRules f ≡ true → versionsCarry (recordAt w 0) (f .id) 1 (firstKeys f) ≡ true
-          → (set : ℕ) → keySet set ≡ take (f .count) (f .keys) → seenAs (Committed (record { id = f .id; keys = set })) ≡ seen w 0
-      unfolding seenAs judged recordAt firstKeys
+          → (set : ℕ) → keySet set ≡ firstKeys f → seenAs (Committed (record { id = f .id; keys = set })) ≡ seen w 0
+      unfolding seenAs judged recordAt
       slot-committed h k v set e =
           ap committed (ap (λ (ks : List ℕ). record { id = f .id; keys = ks }) e ∙ sym entry-is)
           ∙ sym (slot-is false true mark-set (and-intro _ _ (rules-are ∙ and-intro _ _ h (ap fieldRules (sym q) ∙ k)) (versions-are ∙ v)))

@@ -7,7 +7,7 @@ use model::Id;
 use model::Station;
 use model::same_id;
 ghost use mathlib.Core.Path.{_≡_};
-ghost use mathlib.Core.Bool.{true};
+ghost use mathlib.Core.Bool.{true, false};
 ghost use Prim.Native.Nat.{_≤_, _<_, _^_};
 ghost use mathlib.Core.List.{_++_};
 ghost use lib.Dec.{eqb};
@@ -217,37 +217,24 @@ fn keeps_rules(f: Fields) -> bool
     rest_zero(keys, count)
 }
 
-// A slot's version records carry the commit record's keys and its id; records above its count are leftovers and are not read.
-fn versions_carry(w: &[u8], f: Fields) -> bool
+// The set of the commit record's keys, or 0, which is no write set, where a version record does not carry its key and the id. Records above the count are leftovers and are not read.
+fn carried_set(w: &[u8], f: Fields) -> u64
     requires { ⌜ length (now w) ≡ slotSize ⌝ }
-    requires { ⌜ f .count ≤ writeLimit ⌝ }
-    ensures { λ r. ⌜ r ≡ versionsCarry (recordAt (now (w .entry)) 0) (f .id) 1 (firstKeys f) ⌝ }
+    requires { ⌜ fieldRules f ≡ true ⌝ }
+    ensures { λ r. ⌜ (r ≡ 0 → versionsCarry (recordAt (now (w .entry)) 0) (f .id) 1 (firstKeys f) ≡ false) × (0 < r → (versionsCarry (recordAt (now (w .entry)) 0) (f .id) 1 (firstKeys f) ≡ true) × (keySet r ≡ firstKeys f)) ⌝ }
 {
     let keys = f.keys;
     let count = f.count as usize;
     let id = f.id;
+    let mut set = 0u64;
     let mut n = 0;
     while n < count {
         let at = Station::RECORD * (n + 1);
         if !carries_version(&w[at..at + Station::RECORD], keys[n], id) {
-            return false;
+            return 0;
         }
+        set = with_key(set, keys[n]);
         n += 1;
-    }
-    true
-}
-
-// The first `count` keys as one number.
-fn set_of(ks: [u8; Station::WRITES], count: usize) -> u64
-    requires { ⌜ count ≤ writeLimit ⌝ }
-    requires { ⌜ ascending 0 keys (take count ks) ≡ true ⌝ }
-    ensures { λ r. ⌜ keySet r ≡ take count ks ⌝ }
-{
-    let mut set = 0u64;
-    let mut i = 0;
-    while i < count {
-        set = with_key(set, ks[i]);
-        i += 1;
     }
     set
 }
@@ -267,12 +254,11 @@ pub fn read_slot(w: &[u8]) -> Slot
     if !keeps_rules(f) {
         return Slot::Damaged;
     }
-    if !versions_carry(w, f) {
+    let set = carried_set(w, f);
+    if set == 0 {
         return Slot::Damaged;
     }
     let id = f.id;
-    let keys = f.keys;
-    let set = set_of(keys, f.count as usize);
     Slot::Committed(Entry { id, keys: set })
 }
 

@@ -13,13 +13,8 @@ use Rattle.model.specs.declared.Read.{Read}
 use Rattle.model.specs.Lists.{_and_, all}
 use Rattle.model.specs.Ids.{sameId}
 use Rattle.model.specs.Sound.{isNoWrite, isNoRead}
-use Rattle.model.proofs.Tests.{and-left, and-right, and-intro, and-assoc, same-test}
+use Rattle.model.proofs.Tests.{and-left, and-right, and-intro, and-true, and-assoc, same-test}
 use Rattle.model.proofs.RestLaws.{all-split, all-end}
-
-and-true : (a : Bool) → (a and true) ≡ a
-unfolding _and_
-and-true true = refl
-and-true false = refl
 
 crossed : (a b c d : Bool) → ((a and b) and (c and d)) ≡ ((a and c) and (b and d))
 unfolding _and_

@@ -10,13 +10,13 @@ use native.Mathlib.Nat.{lt-irrefl}
 use native.Mathlib.Omega.{arith}
 use borrow.Author.Tests.{eqb-true}
 use Rattle.model.specs.Types.{Station}
-use Rattle.model.specs.Lists.{first, count, anyBelow, greatestBelow}
+use Rattle.model.specs.Lists.{first, anyBelow, greatestBelow}
 use Rattle.model.specs.Limits.{slots}
 use Rattle.model.specs.Entries.{keysOf, entryRules, isNoEntry}
 use Rattle.model.specs.Stations.{entryAt, liveTxns, heldTxns, isLive, isHeld, placeOf, slotOf, isFree}
 use Rattle.model.specs.Sound.{entryRight, sound}
 use Rattle.model.specs.Commit.{highestFree}
-use Rattle.model.proofs.Tests.{and-left, and-right, or-cases}
+use Rattle.model.proofs.Tests.{and-right, or-cases}
 use Rattle.model.proofs.ListLaws.{greatest-below}
 use Rattle.model.proofs.SlotLaws.{rules-count}
 use Rattle.model.proofs.SoundLaws.{sound-at}

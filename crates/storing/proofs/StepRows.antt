@@ -32,7 +32,7 @@ use Rattle.stations.specs.Changes.{changedBy, IsChange}
 use Rattle.stations.specs.Found.{stationOf, firstRow, namedRows}
 use Rattle.stations.proofs.RowLaws.{rows-refused, rows-passed, named-numbered}
 use Rattle.storing.specs.Parts.{recordAnswer, recordStored}
-use Rattle.storing.proofs.Parts.{handed, length-right}
+use Rattle.storing.proofs.Parts.{length-right}
 
 -- a step that stores a record, of either kind
 module _ (st : Station) (s : List ℕ) (i d c n : ℕ) where

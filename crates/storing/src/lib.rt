@@ -42,7 +42,6 @@ use stations::entry_changed;
 use stations::entry_for;
 use stations::has_read;
 use stations::has_written;
-use stations::live_at;
 use stations::live_changed;
 use stations::named_at;
 use stations::no_entry;
@@ -134,7 +133,8 @@ pub fn get(station: Station, tested: bool, store: &[u8], txn: u32, key: u8) -> C
         return refused(station, at.row);
     }
     let place = at.place;
-    let l = live_at(live, place);
+    // Measured: here too an index costs less.
+    let l = station.live[place];
     if has_written(l, key) {
         return unchanged(station, Answer::Own(value_under(l, key)));
     }

@@ -24,9 +24,10 @@ same-length c = search needs
 returns-2 : tie.Need-returns-2
 unfolding imageOf
 returns-2 c =
-    let w = c .before .before .write-image in
-    (w .ensures .0 ∙ sym (ap stationBytes (w .ensures .1 .1)) ∙ cond-yes (c .before .before .before .before .before .before .before .before .args .last .whole) _ _ (not-false _ (c .before .before .before .before .before .if1 .left)),
-    λ _. (w .ensures .1 .0 .0, ap listed (w .ensures .1 .0 .1)))
+    let w = c .before .before .write-image in (
+      w .ensures .0 ∙ sym (ap stationBytes (w .ensures .1 .1)) ∙ cond-yes (c .before .before .before .before .before .before .before .before .args .last .whole) _ _ (not-false _ (c .before .before .before .before .before .if1 .left)),
+      λ _. (w .ensures .1 .0 .0, ap listed (w .ensures .1 .0 .1)),
+    )
 
 pub keep-spec : {M : Type 1} → statement M
 keep-spec = tie.close (tie.spec returns write-image-requires same-length returns-2)

@@ -1,10 +1,10 @@
 -- `records::read_slot` meets its contract.
 use mathlib.Core.Path.{_≡_, sym, _∙_}
 use mathlib.Core.Bool.{true}
+use native.Mathlib.Omega.{arith}
 use borrow.Author.Needs.{needs}
 use borrow.Author.Tests.{not-true, not-false}
 use Rattle.records.specs.Fields.{fieldRules}
-use Rattle.records.proofs.FieldLaws.{fields-few, fields-ascend}
 use Rattle.records.proofs.SlotSteps.{slot-free, slot-no-commit, slot-no-rules, slot-no-versions, slot-committed}
 use Rattle.records.proofs.read_slot.Statement.{statement}
 use Rattle.records.proofs.read_slot.Tie as tie
@@ -63,39 +63,30 @@ returns-3 c =
     let o = not-free p in
     slot-no-rules (start o .args .w .now) (start o .pre) (o .if1 .left) (p .fields-in .result) (p .fields-in .ensures) (sym (c .before .keeps-rules .ensures) ∙ not-true _ (c .if3 .taken))
 
-versions-carry-requires : tie.Need-versions-carry-requires
-versions-carry-requires c κs =
-    let p = c .before .before in
-    (start (not-free p) .pre, fields-few (p .fields-in .result) (rules c))
+carried-set-requires : tie.Need-carried-set-requires
+carried-set-requires c κs = (start (not-free (c .before .before)) .pre, rules c)
 
 returns-4 : tie.Need-returns-4
 returns-4 c =
-    let p = c .before .before .before .before in
+    let v = c .before in
+    let p = v .before .before .before in
     let o = not-free p in
-    slot-no-versions (start o .args .w .now) (start o .pre) (o .if1 .left) (p .fields-in .result) (p .fields-in .ensures) (sym (c .before .versions-carry .ensures) ∙ not-true _ (c .if4 .taken))
-
-cast-set-of : tie.Need-cast-set-of
-cast-set-of c = search needs
-
-set-of-requires : tie.Need-set-of-requires
-set-of-requires c κs =
-    let q = c .before .before .before .before .before in
-    let f = q .before .before .fields-in .result in
-    (fields-few f (rules q), fields-ascend f (rules q))
+    slot-no-versions (start o .args .w .now) (start o .pre) (o .if1 .left) (p .fields-in .result) (p .fields-in .ensures) (v .carried-set .ensures .0 (c .if4 .taken))
 
 returns-5 : tie.Need-returns-5
 returns-5 c =
-    let v = c .before .before .before .before in
-    let q = v .before .before in
+    let v = c .before .before in
+    let q = v .before in
     let p = q .before .before in
     let o = not-free p in
     let i = p .before .before in
+    let e = v .carried-set .ensures .1 (omega (arith, c .before .if4 .left)) in
     slot-committed (start o .args .w .now) (start o .pre) (o .if1 .left) (p .fields-in .result) (p .fields-in .ensures)
     (sym (i .before .is-commit .ensures) ∙ not-false _ (i .if2 .left))
     (rules q)
-    (sym (v .before .versions-carry .ensures) ∙ not-false _ (v .if4 .left))
-    (c .set-of .result)
-    (c .set-of .ensures)
+    (e .0)
+    (v .carried-set .result)
+    (e .1)
 
 pub read-slot-spec : {M : Type 1} → statement M
 read-slot-spec =
@@ -114,8 +105,6 @@ read-slot-spec =
     fields-in-requires
     keeps-rules-requires
     returns-3
-    versions-carry-requires
+    carried-set-requires
     returns-4
-    cast-set-of
-    set-of-requires
     returns-5)

@@ -14,7 +14,7 @@ use Rattle.model.specs.declared.Answer.the-variants as A
 use Rattle.model.specs.Types.{Entry, Station}
 use Rattle.model.specs.Listed.{listedEntry, listed}
 use Rattle.model.specs.Limits.{slots, storeSize}
-use Rattle.model.specs.Lives.{readsOf}
+use Rattle.model.specs.Lives.{liveBeyond, readsOf}
 use Rattle.model.specs.Entries.{keysOf, wrote, recordOf}
 use Rattle.model.specs.Stations.{liveAt, entryAt, setLive}
 use Rattle.model.specs.Records.{valueIn, carriesVersion, recordAt}
@@ -60,30 +60,30 @@ found c =
     open-found _ _ _ _ (a .1) (a .2 (c .if2 .left)) _ (start c .pre) _ (c .if2 .left) (a .0)
 
 -- the transaction, as read from its place
-abbrev l : tie.After-live-at → Live
-l c = c .live-at .result
+abbrev l : tie.After-l → Live
+l c = getD (start (c .before) .args .t1 .live) (i (c .before)) liveBeyond
 
-here : (c : tie.After-live-at) → l c ≡ liveAt (st (c .before)) (i (c .before))
+here : (c : tie.After-l) → l c ≡ liveAt (st (c .before)) (i (c .before))
 unfolding liveAt
-here c = c .live-at .ensures
+here c = refl
 
-comes : (c : tie.After-live-at) → get (st (c .before)) (s (c .before)) (t (c .before)) (k (c .before)) ≡ get-rest (st (c .before)) (s (c .before)) (t (c .before)) (k (c .before)) (i (c .before)) (l c)
+comes : (c : tie.After-l) → get (st (c .before)) (s (c .before)) (t (c .before)) (k (c .before)) ≡ get-rest (st (c .before)) (s (c .before)) (t (c .before)) (k (c .before)) (i (c .before)) (l c)
 comes c =
     let e = c .before in
     let a = e .before .before .open-at .ensures in
     get-open _ _ _ _ (size e) _ (start e .pre) _ (a .0) (e .if2 .left) _ (a .1) _ (here c)
 
-used : (c : tie.After-live-at) → Used (st (c .before) .entries) (l c)
+used : (c : tie.After-l) → Used (st (c .before) .entries) (l c)
 used c = subst (Used _) (sym (here c)) (place-used _ _ _ _ (found (c .before)))
 
-writes : (c : tie.After-live-at) → l c .«write_count» ≤ 8
+writes : (c : tie.After-l) → l c .«write_count» ≤ 8
 writes c = write-limit (l c) (used c .sets)
 
-numbered : (c : tie.After-live-at) → l c .txn ≢ 0
+numbered : (c : tie.After-l) → l c .txn ≢ 0
 numbered c = subst (λ (x : Live). x .txn ≢ 0) (sym (here c)) (place-numbered _ _ _ _ (found (c .before)))
 
 -- past an own value: Algorithm 1 is asked
-abbrev h₃ : tie.Else3 → tie.After-live-at
+abbrev h₃ : tie.Else3 → tie.After-l
 h₃ c = c .before .before
 
 abbrev chosen : tie.Else3 → Choice
@@ -99,7 +99,7 @@ told c = sym (c .choose-version .ensures)
 abbrev g₃ : tie.After-chosen2 → tie.Else3
 g₃ c = c .before .before .before .before
 
-abbrev hᵥ : tie.After-chosen2 → tie.After-live-at
+abbrev hᵥ : tie.After-chosen2 → tie.After-l
 hᵥ c = h₃ (g₃ c)
 
 abbrev d : tie.After-chosen2 → ℕ
@@ -164,8 +164,11 @@ refused-requires-2 c κs = tt
 returns-2 : tie.Need-returns-2
 returns-2 c = as-effect _ _ _ _ (get-refused _ _ _ _ (c .before .before .before .before .before .if1 .left) _ (c .before .before .before .before .before .before .before .pre) _ (c .before .before .before .open-at .ensures .0) (c .before .if2 .taken)) (c .refused2 .ensures)
 
-live-at-requires : tie.Need-live-at-requires
-live-at-requires c κs = found c .low
+mul-l : tie.Need-mul-l
+mul-l c = omega (arith, found c .low)
+
+element-copy-out-l : tie.Need-element-copy-out-l
+element-copy-out-l c = found c .low
 
 has-written-requires : tie.Need-has-written-requires
 has-written-requires c κs = writes c
@@ -292,7 +295,8 @@ get-spec =
     open-at-requires
     refused-requires-2
     returns-2
-    live-at-requires
+    mul-l
+    element-copy-out-l
     has-written-requires
     value-under-requires
     unchanged-requires
