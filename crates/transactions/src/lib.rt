@@ -75,8 +75,7 @@ pub fn put(station: Station, tested: bool, txn: u32, key: u8, value: u64) -> Cha
         return refused(station, at.row);
     }
     let place = at.place;
-    // Measured: from the station this costs less than live_at.
-    let l = station.live[place];
+    let l = live_at(live, place);
     if l.write_count >= Station::WRITES_U8 {
         if !has_written(l, key) {
             return refused(station, 11);

@@ -1,12 +1,9 @@
 -- `transactions::put` meets its contract. Assumes nothing.
-use mathlib.Core.Path.{refl, sym, _∙_}
-use lib.ListN.{getD}
-use native.Mathlib.Omega.{arith}
+use mathlib.Core.Path.{refl, sym, subst, _∙_}
 use mathlib.Core.Logic.{inl, inr, ⊎-elim}
 use borrow.Author.Needs.{needs}
 use borrow.Author.Tests.{not-true, not-false}
 use Rattle.model.specs.declared.Answer.the-variants as A
-use Rattle.model.specs.Lives.{liveBeyond}
 use Rattle.model.specs.Listed.{listed}
 use Rattle.model.specs.Stations.{liveAt}
 use Rattle.model.proofs.SoundLaws.{Used, write-limit}
@@ -17,14 +14,14 @@ use Rattle.transactions.proofs.put.Statement.{statement}
 use Rattle.transactions.proofs.put.Tie as tie
 
 -- past rows 2, 3, 4, 8 and 9
-found : (c : tie.Else1) → Placed (listed (c .before .before .before .before .args .t1)) (c .before .before .before .before .args .txn) (c .before .before .before .before .args .key) (c .before .before .open-at .result .place)
+found : (c : tie.Else1) → Placed (listed (c .before .before .before .before .args .station)) (c .before .before .before .before .args .txn) (c .before .before .before .before .args .key) (c .before .before .open-at .result .place)
 found c =
     let a = c .before .before .open-at .ensures in
     open-found _ _ _ _ (a .1) (a .2 (c .if1 .left)) _ (c .before .before .before .before .pre) _ (c .if1 .left) (a .0)
 
-used : (c : tie.After-l) → Used (listed (c .before .before .before .before .before .args .t1) .entries) (getD (c .before .before .before .before .before .args .t1 .live) (c .before .before .before .open-at .result .place) liveBeyond)
+used : (c : tie.After-live-at) → Used (listed (c .before .before .before .before .before .args .station) .entries) (c .live-at .result)
 unfolding liveAt
-used c = place-used _ _ _ _ (found (c .before))
+used c = subst (Used _) (sym (c .live-at .ensures)) (place-used _ _ _ _ (found (c .before)))
 
 open-at-requires : tie.Need-open-at-requires
 open-at-requires c κs = search needs
@@ -35,11 +32,8 @@ refused-requires c κs = search needs
 returns : tie.Need-returns
 returns c = as-effect _ _ _ _ (put-refused _ _ _ _ _ (c .before .before .before .before .before .pre) _ (c .before .before .before .open-at .ensures .0) (c .before .if1 .taken)) (c .refused .ensures)
 
-mul-l : tie.Need-mul-l
-mul-l c = omega (arith, found c .low)
-
-element-copy-out-l : tie.Need-element-copy-out-l
-element-copy-out-l c = found c .low
+live-at-requires : tie.Need-live-at-requires
+live-at-requires c κs = found c .low
 
 has-written-requires : tie.Need-has-written-requires
 has-written-requires c κs = write-limit _ (used (c .before .before) .sets)
@@ -48,11 +42,10 @@ refused-requires-2 : tie.Need-refused-requires-2
 refused-requires-2 c κs = search needs
 
 returns-2 : tie.Need-returns-2
-unfolding liveAt
 returns-2 c =
     let a = c .before .before .before .before .before .before .before .before .open-at .ensures in
     as-effect _ _ _ _
-    (put-11 _ _ _ _ _ (c .before .before .before .before .before .before .before .before .before .before .pre) _ (a .0) (c .before .before .before .before .before .before .if1 .left) _ (a .1) _ refl (c .before .before .before .if2 .taken) (sym (c .before .before .has-written .ensures) ∙ not-true _ (c .before .if3 .taken)))
+    (put-11 _ _ _ _ _ (c .before .before .before .before .before .before .before .before .before .before .pre) _ (a .0) (c .before .before .before .before .before .before .if1 .left) _ (a .1) _ (c .before .before .before .before .before .live-at .ensures) (c .before .before .before .if2 .taken) (sym (c .before .before .has-written .ensures) ∙ not-true _ (c .before .if3 .taken)))
     (c .refused2 .ensures)
 
 with-write-requires : tie.Need-with-write-requires
@@ -64,12 +57,11 @@ live-changed-requires : tie.Need-live-changed-requires
 live-changed-requires c κs = found (c .before .before .before .before) .low
 
 returns-3 : tie.Need-returns-3
-unfolding liveAt
 returns-3 c =
     let a = c .before .before .before .before .before .before .before .open-at .ensures in
     as-effect _ _ _ _
     (placed A.Kept _ _ _ _ _ _ refl (c .before .with-write .ensures)
-    (put-done _ _ _ _ _ (c .before .before .before .before .before .before .before .before .before .pre) _ (a .0) (c .before .before .before .before .before .if1 .left) _ (a .1) _ refl
+    (put-done _ _ _ _ _ (c .before .before .before .before .before .before .before .before .before .pre) _ (a .0) (c .before .before .before .before .before .if1 .left) _ (a .1) _ (c .before .before .before .before .live-at .ensures)
     (room _ _ (⊎-elim (λ w. inr (sym (w .1 .ensures) ∙ not-false _ (w .2 .left))) (λ w. inl (w .left)) (c .before .before .if2 .came)))))
     (c .live-changed .ensures)
 
@@ -80,8 +72,7 @@ put-spec =
     open-at-requires
     refused-requires
     returns
-    mul-l
-    element-copy-out-l
+    live-at-requires
     has-written-requires
     refused-requires-2
     returns-2
