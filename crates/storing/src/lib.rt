@@ -133,7 +133,7 @@ pub fn get(station: Station, tested: bool, store: &[u8], txn: u32, key: u8) -> C
         return refused(station, at.row);
     }
     let place = at.place;
-    // Measured: here too an index costs less.
+    // Measured: here an index costs less than live_at.
     let l = station.live[place];
     if has_written(l, key) {
         return unchanged(station, Answer::Own(value_under(l, key)));
@@ -192,7 +192,7 @@ pub fn step(station: Station, tested: bool, store: &mut [u8], txn: u32) -> Chang
         return refused(station, at.row);
     }
     let place = at.place;
-    // Measured: here an index costs less than live_at.
+    // Measured: here too an index costs less.
     let l = station.live[place];
     let phase = l.phase;
     let Phase::Closing(slot, clock, n) = phase else {
