@@ -3,5 +3,4 @@ pub mod PartLaws
 pub mod RowLaws
 pub mod PlaceLaws
 pub mod Round
-pub mod Handed
 pub mod Example

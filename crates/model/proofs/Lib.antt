@@ -24,6 +24,7 @@ pub mod SoundLaws
 pub mod SoundFacts
 pub mod SoundKept
 pub mod SweepLaws
+pub mod Handed
 pub mod RangesKept
 pub mod CommitLaws
 pub mod ReadYourWrites

@@ -1,4 +1,4 @@
--- Values within their types: numbers in their ranges, arrays of their lengths. Every station that a function is handed is (image's proofs/Handed).
+-- Values within their types: numbers in their ranges, arrays of their lengths. Every station that a function is handed is (proofs/Handed).
 use Prim.Native.Nat.{ℕ, _<_}
 use mathlib.Core.Path.{_≡_}
 use mathlib.Core.Bool.{true}

@@ -1,6 +1,6 @@
 -- Laws of the loops of soundness: a set tested element by element, a column filled, a sum that may not fit.
 use Prim.Native.Nat.{ℕ, suc, _+_, _-_, _<_, _≤_}
-use mathlib.Core.Path.{_≡_, sym, ap, _∙_}
+use mathlib.Core.Path.{_≡_, sym, ap, ap₂, _∙_}
 use mathlib.Core.Logic.{_⊎_, inl, inr}
 use mathlib.Core.Bool.{Bool, true, false}
 use mathlib.Core.List.{List, [], _∷_, _++_, append-assoc}
@@ -16,36 +16,42 @@ use Rattle.model.proofs.Tests.{and-right, bool-cases}
 use Rattle.soundness.specs.Parts.{fits, setRight}
 
 -- ── sets: ascending keys, then zeros ──
-module _ {A : Type 0} (key : A → ℕ) (isZero : A → Bool) (lo n : ℕ) (xs : List A) (j : ℕ) (d : A) (h : j < length xs) where
-  in-is : j < n → setRight key isZero lo (n - j) (drop j xs) ≡ (fits lo (key (getD xs j d)) and setRight key isZero (key (getD xs j d) + 1) (n - (j + 1)) (drop (j + 1) xs))
+module _ {A : Type 0} (key : A → ℕ) (good isZero : A → Bool) (lo n : ℕ) (xs : List A) (j : ℕ) (d : A) (h : j < length xs) where
+  in-is : j < n
+      → setRight key good isZero lo (n - j) (drop j xs) ≡ (fits lo (key (getD xs j d)) and good (getD xs j d) and setRight key good isZero (key (getD xs j d) + 1) (n - (j + 1)) (drop (j + 1) xs))
   unfolding setRight
   in-is m = let e : n - j ≡ suc (n - (j + 1)) = omega arith in rw (e, drop-cons xs j d h, add-one j, add-one (key (getD xs j d)))
 
-  past-is : n ≤ j → setRight key isZero lo (n - j) (drop j xs) ≡ (isZero (getD xs j d) and setRight key isZero lo (n - (j + 1)) (drop (j + 1) xs))
+  past-is : n ≤ j → setRight key good isZero lo (n - j) (drop j xs) ≡ (isZero (getD xs j d) and setRight key good isZero lo (n - (j + 1)) (drop (j + 1) xs))
   unfolding setRight
   past-is m =
       let e : n - j ≡ 0 = omega arith in
       let f : n - (j + 1) ≡ 0 = omega arith in
       rw (f, e, drop-cons xs j d h, add-one j)
 
-  pub key-more : j < n → fits lo (key (getD xs j d)) ≡ true → setRight key isZero lo (n - j) (drop j xs) ≡ setRight key isZero (key (getD xs j d) + 1) (n - (j + 1)) (drop (j + 1) xs)
+  pub key-more : j < n → fits lo (key (getD xs j d)) ≡ true → good (getD xs j d) ≡ true
+      → setRight key good isZero lo (n - j) (drop j xs) ≡ setRight key good isZero (key (getD xs j d) + 1) (n - (j + 1)) (drop (j + 1) xs)
   unfolding _and_
-  key-more m e = in-is m ∙ ap (λ (b : Bool). b and setRight key isZero (key (getD xs j d) + 1) (n - (j + 1)) (drop (j + 1) xs)) e
+  key-more m e g = in-is m ∙ ap₂ (λ (a b : Bool). a and b and setRight key good isZero (key (getD xs j d) + 1) (n - (j + 1)) (drop (j + 1) xs)) e g
 
-  pub key-stop : j < n → fits lo (key (getD xs j d)) ≡ false → setRight key isZero lo (n - j) (drop j xs) ≡ false
+  pub key-stop : j < n → fits lo (key (getD xs j d)) ≡ false → setRight key good isZero lo (n - j) (drop j xs) ≡ false
   unfolding _and_
-  key-stop m e = in-is m ∙ ap (λ (b : Bool). b and setRight key isZero (key (getD xs j d) + 1) (n - (j + 1)) (drop (j + 1) xs)) e
+  key-stop m e = in-is m ∙ ap (λ (a : Bool). a and good (getD xs j d) and setRight key good isZero (key (getD xs j d) + 1) (n - (j + 1)) (drop (j + 1) xs)) e
 
-  pub zero-more : n ≤ j → isZero (getD xs j d) ≡ true → setRight key isZero lo (n - j) (drop j xs) ≡ setRight key isZero lo (n - (j + 1)) (drop (j + 1) xs)
+  pub good-stop : j < n → fits lo (key (getD xs j d)) ≡ true → good (getD xs j d) ≡ false → setRight key good isZero lo (n - j) (drop j xs) ≡ false
   unfolding _and_
-  zero-more m e = past-is m ∙ ap (λ (b : Bool). b and setRight key isZero lo (n - (j + 1)) (drop (j + 1) xs)) e
+  good-stop m e g = in-is m ∙ ap₂ (λ (a b : Bool). a and b and setRight key good isZero (key (getD xs j d) + 1) (n - (j + 1)) (drop (j + 1) xs)) e g
 
-  pub zero-stop : n ≤ j → isZero (getD xs j d) ≡ false → setRight key isZero lo (n - j) (drop j xs) ≡ false
+  pub zero-more : n ≤ j → isZero (getD xs j d) ≡ true → setRight key good isZero lo (n - j) (drop j xs) ≡ setRight key good isZero lo (n - (j + 1)) (drop (j + 1) xs)
   unfolding _and_
-  zero-stop m e = past-is m ∙ ap (λ (b : Bool). b and setRight key isZero lo (n - (j + 1)) (drop (j + 1) xs)) e
+  zero-more m e = past-is m ∙ ap (λ (b : Bool). b and setRight key good isZero lo (n - (j + 1)) (drop (j + 1) xs)) e
 
-module _ {A : Type 0} (key : A → ℕ) (isZero : A → Bool) (lo n : ℕ) (xs : List A) (j : ℕ) where
-  pub set-end : length xs ≤ j → setRight key isZero lo (n - j) (drop j xs) ≡ true
+  pub zero-stop : n ≤ j → isZero (getD xs j d) ≡ false → setRight key good isZero lo (n - j) (drop j xs) ≡ false
+  unfolding _and_
+  zero-stop m e = past-is m ∙ ap (λ (b : Bool). b and setRight key good isZero lo (n - (j + 1)) (drop (j + 1) xs)) e
+
+module _ {A : Type 0} (key : A → ℕ) (good isZero : A → Bool) (lo n : ℕ) (xs : List A) (j : ℕ) where
+  pub set-end : length xs ≤ j → setRight key good isZero lo (n - j) (drop j xs) ≡ true
   unfolding setRight
   set-end h = rw (drop-of-length-le xs h)
 

@@ -23,33 +23,25 @@ use Rattle.model.proofs.ListedLaws.{zeroEntry, listed-any}
 use Rattle.model.specs.Lists.{_and_, _or_, all, ascending}
 use Rattle.model.specs.Limits.{keys}
 use Rattle.model.specs.Ids.{sameId}
-use Rattle.model.specs.Lives.{noRead, readsOf, writeKey, readKey, slotMark, liveBeyond}
+use Rattle.model.specs.Lives.{writeKey, slotMark, liveBeyond}
 use Rattle.model.specs.Entries.{noEntry}
-use Rattle.model.proofs.Tests.{and-assoc}
-use Rattle.model.proofs.InsideLaws.{read-nth, right-none, right-some}
-use Rattle.model.specs.Sound.{isNoWrite, isNoRead, isNoLive, entryRight}
-use Rattle.soundness.specs.Parts.{fits, setRight, writesRight, readsRight, liveColumn, heldColumn, txnColumn, markColumn, slotIn}
+use Rattle.model.proofs.Tests.{and-true}
+use Rattle.model.proofs.InsideLaws.{right-none, right-some}
+use Rattle.model.specs.Sound.{isNoWrite, isNoLive, entryRight}
+use Rattle.soundness.specs.Parts.{fits, anyWrite, setRight, writesRight, readsRight, liveColumn, heldColumn, txnColumn, markColumn, slotIn}
 use Rattle.soundness.specs.Parts.{isUnused, shapeRight, shape, isNamed, namedBy, placeFits, slotFree}
 use Rattle.soundness.proofs.Loops.{column-more, column-end}
-use Rattle.model.proofs.RestLaws.{all-more, all-stop, all-end, all-split}
+use Rattle.model.proofs.RestLaws.{all-split}
 
--- ── sets within their limits ──
+-- ── a write set within its limit ──
 module _ (l : Live) (n : ℕ) where
-  pub writes-is : n ≡ l .«write_count» → n ≤ 8 → writesRight l ≡ setRight writeKey isNoWrite 0 n (l .writes)
+  pub writes-is : n ≡ l .«write_count» → n ≤ 8 → writesRight l ≡ (setRight writeKey anyWrite isNoWrite 0 n (l .writes) and true)
   unfolding writesRight _and_
-  writes-is e h = rw (← e, le-leb n 8 h)
+  writes-is e h = rw (← e, le-leb n 8 h) (sym (and-true _))
 
   pub writes-long : n ≡ l .«write_count» → 8 < n → writesRight l ≡ false
   unfolding writesRight _and_
   writes-long e h = rw (← e, lt-leb n 8 h)
-
-  pub reads-is : n ≡ l .«read_count» → n ≤ 16 → readsRight l ≡ setRight readKey isNoRead 0 n (l .reads)
-  unfolding readsRight _and_
-  reads-is e h = rw (← e, le-leb n 16 h)
-
-  pub reads-long : n ≡ l .«read_count» → 16 < n → readsRight l ≡ false
-  unfolding readsRight _and_
-  reads-long e h = rw (← e, lt-leb n 16 h)
 
 -- ── slots ──
 module _ (ts : List ℕ) (m : ℕ) where
@@ -65,47 +57,29 @@ module _ (ts : List ℕ) (m : ℕ) where
   unfolding slotFree _or_ _and_
   free-is n h = rw (ne-eqb m 0 n, le-leb m 64 h)
 
--- ── named reads: the rest of a place's reads from place j on, and the places after it ──
-module _ (es : List Entry) (ts : List ℕ) (l : Live) (j : ℕ) (rest whole : Bool) (v : whole ≡ (all (namedBy es ts) (drop j (readsOf l)) and rest)) where
-  module _ (d : ℕ) (e : d ≡ slotIn ts (getD (l .reads) j noRead .id .txn)) (o : j < length (readsOf l)) where
-    named-is : d ≤ 63 → namedBy es ts (getD (readsOf l) j noRead) ≡ isNamed (getD es d noEntry) (getD (l .reads) j noRead)
-    unfolding namedBy _and_
-    named-is h = rw (read-nth l j noRead o, ← e, lt-ltb d 64 (omega arith))
+-- ── a read, by the slot of its transaction ──
+module _ (es : List Entry) (ts : List ℕ) (r : Read) (d : ℕ) (e : d ≡ slotIn ts (r .id .txn)) where
+  pub unnamed : 63 < d → namedBy es ts r ≡ false
+  unfolding namedBy _and_
+  unnamed h = rw (← e, le-ltb d 64 (omega arith))
 
-    pub unnamed : 63 < d → whole ≡ false
-    unfolding namedBy _and_
-    unnamed h =
-        let q : namedBy es ts (getD (readsOf l) j noRead) ≡ false = rw (read-nth l j noRead o, ← e, le-ltb d 64 (omega arith)) in
-        v ∙ rw (all-stop (namedBy es ts) (readsOf l) j noRead o q)
-
-    pub named-stop : d ≤ 63 → isNamed (getD es d noEntry) (getD (l .reads) j noRead) ≡ false → whole ≡ false
-    unfolding _and_
-    named-stop h n = v ∙ rw (all-stop (namedBy es ts) (readsOf l) j noRead o (named-is h ∙ n))
-
-    pub named-more : d ≤ 63 → isNamed (getD es d noEntry) (getD (l .reads) j noRead) ≡ true
-        → whole ≡ (all (namedBy es ts) (drop (j + 1) (readsOf l)) and rest)
-    named-more h n = v ∙ rw (all-more (namedBy es ts) (readsOf l) j noRead o (named-is h ∙ n))
-
-  pub named-end : length (readsOf l) ≤ j → whole ≡ rest
-  unfolding _and_
-  named-end h = v ∙ rw (all-end (namedBy es ts) (readsOf l) j h)
+  pub named-is : d ≤ 63 → namedBy es ts r ≡ isNamed (getD es d noEntry) r
+  unfolding namedBy _and_
+  named-is h = rw (← e, lt-ltb d 64 (omega arith))
 
 -- the entry at a slot, as the machine has it
 pub named-listed : (es : List machine.Entry.Entry) (d : ℕ) (r : Read) → isNamed (getD (listedEntries es) d noEntry) r ≡ isNamed (listedEntry (getD es d zeroEntry)) r
 named-listed es d r = ap (λ (e : Entry). isNamed e r) (listed-any es d)
 
--- a place that is wrong by itself; a place that is right, by its reads
+-- a place that is wrong but for its reads; a place that is right so
 module _ (es : List Entry) (ts : List ℕ) (l : Live) where
   pub place-wrong : shape l ≡ false → placeFits es ts l ≡ false
   unfolding placeFits _and_
   place-wrong e = rw e
 
-  pub place-reads : shape l ≡ true → placeFits es ts l ≡ all (namedBy es ts) (readsOf l)
+  pub place-reads : shape l ≡ true → placeFits es ts l ≡ readsRight (namedBy es ts) l
   unfolding placeFits _and_
   place-reads e = rw e
-
-  pub place-unread : shape l ≡ true → length (readsOf l) ≤ 0 → placeFits es ts l ≡ true
-  place-unread e h = place-reads e ∙ all-end (namedBy es ts) (readsOf l) 0 h
 
 -- by the phase
 pub unused-shape : (p : Phase) (l : Live) → isUnused p ≡ true → shapeRight p l ≡ isNoLive l
@@ -155,10 +129,18 @@ marks-more xs ls k m hx hl o q e = column-more [] xs (markColumn ls) k k m (omeg
 pub marks-end : (xs : List ℕ) (ls : List Live) (k : ℕ) → length xs ≡ 8 → length ls ≡ 8 → 8 ≤ k → take k xs ≡ take k (markColumn ls) → xs ≡ markColumn ls
 marks-end xs ls k hx hl o e = column-end xs (markColumn ls) 8 k hx (omega (arith, length-map ls (λ (l : Live). slotMark (l .phase)))) o e
 
--- ── a set is right: model's two tests of it ──
-module _ {A : Type 0} (key : A → ℕ) (isZero : A → Bool) where
-  all-cons-is : (x : A) (xs : List A) → all isZero (x ∷ xs) ≡ (isZero x and all isZero xs)
-  all-cons-is x xs = all-split isZero (x ∷ xs) 0 x (zero-lt-suc _)
+-- ── a set is right: model's tests of it ──
+-- two pairs, the firsts together and the seconds together
+both : (f g a b z : Bool) → (f and g and (a and b and z)) ≡ (f and a and (g and b) and z)
+unfolding _and_
+both false g a b z = refl
+both true false true b z = refl
+both true false false b z = refl
+both true true a b z = refl
+
+module _ {A : Type 0} (key : A → ℕ) (good isZero : A → Bool) where
+  all-cons-is : (p : A → Bool) (x : A) (xs : List A) → all p (x ∷ xs) ≡ (p x and all p xs)
+  all-cons-is p x xs = all-split p (x ∷ xs) 0 x (zero-lt-suc _)
 
   ascending-cons-is : (lo hi n : ℕ) (ns : List ℕ) → ascending lo hi (n ∷ ns) ≡ (leb lo n and ltb n hi and ascending (suc n) hi ns)
   unfolding ascending _and_
@@ -168,15 +150,15 @@ module _ {A : Type 0} (key : A → ℕ) (isZero : A → Bool) where
       go true e = rw (e, ascending)
       go false e = rw (e, ascending)
 
-  pub set-is : (lo n : ℕ) (xs : List A) → setRight key isZero lo n xs ≡ (ascending lo keys (map key (take n xs)) and all isZero (drop n xs))
+  pub set-is : (lo n : ℕ) (xs : List A) → setRight key good isZero lo n xs ≡ (ascending lo keys (map key (take n xs)) and all good (take n xs) and all isZero (drop n xs))
   unfolding setRight fits all ascending _and_
   set-is lo zero [] = refl
   set-is lo (suc n) [] = refl
-  set-is lo zero (x ∷ xs) = ap (λ (b : Bool). isZero x and b) (set-is lo zero xs) ∙ sym (all-cons-is x xs)
+  set-is lo zero (x ∷ xs) = ap (λ (b : Bool). isZero x and b) (set-is lo zero xs) ∙ sym (all-cons-is isZero x xs)
   set-is lo (suc n) (x ∷ xs) =
-      ap (λ (b : Bool). fits lo (key x) and b) (set-is (suc (key x)) n xs)
-      ∙ and-assoc (fits lo (key x)) (ascending (suc (key x)) keys (map key (take n xs))) (all isZero (drop n xs))
-      ∙ ap (λ (b : Bool). b and all isZero (drop n xs)) (sym (ascending-cons-is lo keys (key x) (map key (take n xs))))
+      ap (λ (b : Bool). fits lo (key x) and good x and b) (set-is (suc (key x)) n xs)
+      ∙ both (fits lo (key x)) (good x) (ascending (suc (key x)) keys (map key (take n xs))) (all good (take n xs)) (all isZero (drop n xs))
+      ∙ ap₂ (λ (a b : Bool). a and b and all isZero (drop n xs)) (sym (ascending-cons-is lo keys (key x) (map key (take n xs)))) (sym (all-cons-is good x (take n xs)))
 
 -- ── entries: the machine's, by how many keys it has ──
 module _ (e : machine.Entry.Entry) (n : ℕ) (q : n ≡ length (keySet (e .keys))) where

@@ -5,18 +5,19 @@ use mathlib.Core.Logic.{_⊎_, inl, inr}
 use mathlib.Core.Bool.{Bool, true, false, true≢false}
 use mathlib.Core.List.{List, [], _∷_, map}
 use lib.Dec.{eqb, leb}
-use lib.ListN.{length, getD, length-map}
+use lib.ListN.{length, take, getD, length-map}
 use lib.Seq.{getD-append-add, drop-at}
 use native.Mathlib.Nat.{suc-ne-zero}
 use native.Mathlib.Omega.{arith}
 use borrow.Author.Tests.{ltb-true, leb-true, leb-false, eqb-true, lt-ltb, le-leb, eq-eqb}
 use Rattle.model.specs.declared.Id.{Id}
+use Rattle.model.specs.declared.Write.{Write}
 use Rattle.model.specs.declared.Read.{Read}
 use Rattle.model.specs.declared.Live.{Live}
 use Rattle.model.specs.Types.{Entry, Station}
 use Rattle.model.specs.declared.Phase.{Phase}
 use Rattle.model.specs.declared.Phase.the-variants.{Unused, Open, Closing}
-use Rattle.model.specs.Lists.{_and_, all, any, first, distinct, same}
+use Rattle.model.specs.Lists.{_and_, all, any, first, distinct, ascending, same}
 use Rattle.model.specs.Lives.{writesOf, readsOf, writeCount, writeKey, readKey, closingSlot, closingClock, recordsStored, slotMark}
 use Rattle.model.specs.Entries.{wroteAs, noEntry}
 use Rattle.model.specs.Stations.{entryAt, liveTxns, heldTxns, holds, closingSlots}
@@ -28,40 +29,57 @@ use Rattle.model.proofs.IdLaws.{same-id}
 use Rattle.model.proofs.StationLaws.{unheld-txn, unheld-of}
 use Rattle.model.proofs.SoundLaws.{Used, used-at, used-of, write-limit, read-limit, writes-ascending, reads-ascending, sets-of, writes-zero}
 use Rattle.model.proofs.SoundLaws.{reads-zero, zeros-of, Shut, shut-at, shut-of, unheld-wrote}
-use Rattle.soundness.specs.Parts.{writesRight, readsRight, listsRight, countsRight, shapeRight, liveColumn, heldColumn, txnColumn}
+use Rattle.soundness.specs.Parts.{anyWrite, setRight, writesRight, readsRight, listsRight, countsRight, shapeRight, liveColumn, heldColumn, txnColumn}
 use Rattle.soundness.specs.Parts.{markColumn, slotIn, isNamed, namedBy, placeFits, slotFree, parts}
 use Rattle.soundness.proofs.PartLaws.{free-none, free-high, free-is, held-txn-at, set-is}
 
 -- ── a place of a station, by its phase ──
+all-any : (ws : List Write) → all anyWrite ws ≡ true
+unfolding all
+all-any [] = refl
+all-any (w ∷ ws) = all-any ws
+
 module _ (es : List Entry) (l : Live) where
   pub lists-of : Used es l → listsRight l ≡ true
-  unfolding listsRight writesRight readsRight writesOf readsOf
+  unfolding listsRight writesRight writesOf
   lists-of u =
       and-intro _ _
-      (and-intro _ _ (le-leb 1 (l .txn) (omega (arith, u .numbered)))
+      (and-intro _ _ (le-leb 1 (l .txn) (omega (arith, u .numbered))) (le-leb (l .«read_count») 16 (read-limit l (u .sets))))
       (and-intro _ _ (le-leb (l .«write_count») 8 (write-limit l (u .sets)))
-      (set-is writeKey isNoWrite 0 (l .«write_count») (l .writes) ∙ and-intro _ _ (writes-ascending l (u .sets)) (writes-zero l (u .zeros)))))
-      (and-intro _ _ (le-leb (l .«read_count») 16 (read-limit l (u .sets)))
-      (set-is readKey isNoRead 0 (l .«read_count») (l .reads) ∙ and-intro _ _ (reads-ascending l (u .sets)) (reads-zero l (u .zeros))))
+      (set-is writeKey anyWrite isNoWrite 0 (l .«write_count») (l .writes) ∙ and-intro _ _ (and-intro _ _ (writes-ascending l (u .sets)) (all-any (writesOf l))) (writes-zero l (u .zeros))))
 
-  pub used-lists : listsRight l ≡ true → all (names es) (readsOf l) ≡ true → Used es l
-  unfolding listsRight writesRight readsRight writesOf readsOf
-  used-lists h n =
-      let w : writesRight l ≡ true = and-right _ _ (and-left _ _ h) in
-      let r : readsRight l ≡ true = and-right _ _ h in
-      let x = sym (set-is writeKey isNoWrite 0 (l .«write_count») (l .writes)) ∙ and-right _ _ w in
-      let y = sym (set-is readKey isNoRead 0 (l .«read_count») (l .reads)) ∙ and-right _ _ r in
+  pub reads-of : Used es l → readsRight (names es) l ≡ true
+  unfolding readsOf
+  reads-of u = set-is readKey (names es) isNoRead 0 (l .«read_count») (l .reads) ∙ and-intro _ _ (and-intro _ _ (reads-ascending l (u .sets)) (u .named)) (reads-zero l (u .zeros))
+
+  pub used-lists : listsRight l ≡ true → readsRight (names es) l ≡ true → Used es l
+  unfolding listsRight writesRight writesOf readsOf
+  used-lists h r =
+      let w : writesRight l ≡ true = and-right _ _ h in
+      let x = sym (set-is writeKey anyWrite isNoWrite 0 (l .«write_count») (l .writes)) ∙ and-right _ _ w in
+      let y = sym (set-is readKey (names es) isNoRead 0 (l .«read_count») (l .reads)) ∙ r in
       record {
         numbered = λ (z : l .txn ≡ 0). omega (arith, leb-true 1 (l .txn) (and-left _ _ (and-left _ _ h)));
-        sets = sets-of l (leb-true (l .«write_count») 8 (and-left _ _ w)) (leb-true (l .«read_count») 16 (and-left _ _ r)) (and-left _ _ x) (and-left _ _ y);
-        named = n;
+        sets = sets-of l (leb-true (l .«write_count») 8 (and-left _ _ w)) (leb-true (l .«read_count») 16 (and-right _ _ (and-left _ _ h))) (and-left _ _ (and-left _ _ x)) (and-left _ _ (and-left _ _ y));
+        named = and-right _ _ (and-left _ _ y);
         zeros = zeros-of l (and-right _ _ x) (and-right _ _ y);
       }
 
 -- an unused place has read nothing
-pub unused-names : (p : Read → Bool) (l : Live) → isNoLive l ≡ true → all p (readsOf l) ≡ true
-unfolding isNoLive readsOf all
-unused-names p l h = let e : l .«read_count» ≡ 0 = eqb-true (l .«read_count») 0 (and-right _ _ (and-left _ _ (and-left _ _ h))) in rw e
+none-read : (good : Read → Bool) (rs : List Read) (n : ℕ) → n ≡ 0 → all isNoRead rs ≡ true → setRight readKey good isNoRead 0 n rs ≡ true
+unfolding ascending all _and_
+none-read good rs n e h = set-is readKey good isNoRead 0 n rs ∙ rw e h
+
+pub unused-reads : (good : Read → Bool) (l : Live) → isNoLive l ≡ true → readsRight good l ≡ true
+unfolding isNoLive
+unused-reads good l h = none-read good (l .reads) (l .«read_count») (eqb-true (l .«read_count») 0 (and-right _ _ (and-left _ _ (and-left _ _ h)))) (and-right _ _ h)
+
+-- reads that are right are so by any test that their own one gives
+pub reads-by : (p q : Read → Bool) (l : Live) → ((r : Read) → p r ≡ true → q r ≡ true) → readsRight p l ≡ true → readsRight q l ≡ true
+reads-by p q l f h =
+    let x = sym (set-is readKey p isNoRead 0 (l .«read_count») (l .reads)) ∙ h in
+    set-is readKey q isNoRead 0 (l .«read_count») (l .reads)
+    ∙ and-intro _ _ (and-intro _ _ (and-left _ _ (and-left _ _ x)) (all-by p q (take (l .«read_count») (l .reads)) (λ r _ z. f r z) (and-right _ _ (and-left _ _ x)))) (and-right _ _ x)
 
 -- a closing transaction's write set, clock and records
 module _ (st : Station) (l : Live) (d c n : ℕ) (e : l .phase ≡ Closing d c n) where
@@ -99,19 +117,19 @@ module _ (st : Station) (ts : List ℕ) (at-slot : (d : ℕ) → d < 64 → getD
   -- what is right of a place: its shape, its reads, its slot
   module _ (l : Live) where
     pub place-parts : (p : Phase) → l .phase ≡ p → placeRight st p l ≡ true
-        → (shapeRight p l ≡ true) × (all (names (st .entries)) (readsOf l) ≡ true) × (slotFree ts (slotMark p) ≡ true)
+        → (shapeRight p l ≡ true) × (readsRight (names (st .entries)) l ≡ true) × (slotFree ts (slotMark p) ≡ true)
     unfolding placeRight shapeRight slotMark closingSlot
-    place-parts Unused e h = (h, unused-names (names (st .entries)) l h, free-none ts 0 refl)
-    place-parts Open e h = let u = used-at (st .entries) l h in (lists-of (st .entries) l u, u .named, free-none ts 0 refl)
+    place-parts Unused e h = (h, unused-reads (names (st .entries)) l h, free-none ts 0 refl)
+    place-parts Open e h = let u = used-at (st .entries) l h in (lists-of (st .entries) l u, reads-of (st .entries) l u, free-none ts 0 refl)
     place-parts (Closing d c n) e h =
         let u = used-at (st .entries) l (and-left _ _ h) in
         let s = shut-at st l (and-right _ _ h) in (
           and-intro _ _ (counts-of st l d c n e s) (lists-of (st .entries) l u),
-          u .named,
+          reads-of (st .entries) l u,
           slot-free d (subst (λ (p : Phase). closingSlot p < 64) e (s .low)) (subst (λ (p : Phase). holds st (closingSlot p) ≡ false) e (s .unheld)),
         )
 
-    pub parts-place : (p : Phase) → l .phase ≡ p → shapeRight p l ≡ true → all (names (st .entries)) (readsOf l) ≡ true → slotFree ts (slotMark p) ≡ true → placeRight st p l ≡ true
+    pub parts-place : (p : Phase) → l .phase ≡ p → shapeRight p l ≡ true → readsRight (names (st .entries)) l ≡ true → slotFree ts (slotMark p) ≡ true → placeRight st p l ≡ true
     unfolding placeRight shapeRight slotMark
     parts-place Unused e h n f = h
     parts-place Open e h n f = used-of (st .entries) l (used-lists (st .entries) l h n)
@@ -171,7 +189,7 @@ module _ (st : Station) (hl : length (st .live) ≡ 8) (he : length (st .entries
       let b : all (λ l. placeRight st (l .phase) l) (st .live) ≡ true = and-right _ _ (and-left _ _ (and-left _ _ h)) in
       let u : distinct (txnColumn (st .live) (st .entries)) ≡ true = and-right _ _ (and-left _ _ h) in
       let m : distinct (markColumn (st .live)) ≡ true = and-right _ _ h in
-      let at : (l : Live) → placeRight st (l .phase) l ≡ true → (shapeRight (l .phase) l ≡ true) × (all (names (st .entries)) (readsOf l) ≡ true) × (slotFree (txnColumn (st .live) (st .entries)) (slotMark (l .phase)) ≡ true) =
+      let at : (l : Live) → placeRight st (l .phase) l ≡ true → (shapeRight (l .phase) l ≡ true) × (readsRight (names (st .entries)) l ≡ true) × (slotFree (txnColumn (st .live) (st .entries)) (slotMark (l .phase)) ≡ true) =
       λ l q. place-parts st (txnColumn (st .live) (st .entries)) slot-at l (l .phase) refl q in
       and-intro _ _
       (and-intro _ _
@@ -179,7 +197,7 @@ module _ (st : Station) (hl : length (st .live) ≡ 8) (he : length (st .entries
       (all-by (λ l. placeRight st (l .phase) l) (placeFits (st .entries) (txnColumn (st .live) (st .entries))) (st .live)
       (λ l _ q.
       and-intro _ _ (at l q .0)
-      (all-by (names (st .entries)) (namedBy (st .entries) (txnColumn (st .live) (st .entries))) (readsOf l) (λ r _ z. names-named (st .live) (st .entries) hl he a u r z) (at l q .1))) b))
+      (reads-by (names (st .entries)) (namedBy (st .entries) (txnColumn (st .live) (st .entries))) l (λ r z. names-named (st .live) (st .entries) hl he a u r z) (at l q .1))) b))
       m)
       (all-map (λ (l : Live). slotMark (l .phase)) (λ l. placeRight st (l .phase) l) (slotFree (txnColumn (st .live) (st .entries))) (λ l q. at l q .2) (st .live) b)
 
@@ -198,7 +216,7 @@ module _ (st : Station) (hl : length (st .live) ≡ 8) (he : length (st .entries
       (all-by (placeFits (st .entries) (txnColumn (st .live) (st .entries))) (λ l. placeRight st (l .phase) l) (st .live)
       (λ l e q.
       parts-place st (txnColumn (st .live) (st .entries)) slot-at l (l .phase) refl (and-left _ _ q)
-      (all-by (namedBy (st .entries) (txnColumn (st .live) (st .entries))) (names (st .entries)) (readsOf l) (λ r _ z. named-names (st .live) (st .entries) hl he r z) (and-right _ _ q))
+      (reads-by (namedBy (st .entries) (txnColumn (st .live) (st .entries))) (names (st .entries)) l (λ r z. named-names (st .live) (st .entries) hl he r z) (and-right _ _ q))
       (all-mem (λ (x : Live). slotFree (txnColumn (st .live) (st .entries)) (slotMark (x .phase))) (st .live) f′ l e)) p))
       u)
       m

@@ -4,6 +4,7 @@ use mathlib.Core.Bool.{Bool, true, false}
 use mathlib.Core.List.{List, [], _∷_, _++_, map}
 use lib.Dec.{eqb, ltb, leb}
 use lib.ListN.{drop, getD}
+use Rattle.model.specs.declared.Write.{Write}
 use Rattle.model.specs.declared.Read.{Read}
 use Rattle.model.specs.declared.Live.{Live}
 use Rattle.model.specs.Types.{Entry}
@@ -12,7 +13,7 @@ use Rattle.model.specs.declared.Phase.the-variants.{Unused, Open, Closing}
 use Rattle.model.specs.Lists.{_and_, _or_, all, first, distinct}
 use Rattle.model.specs.Limits.{keys, livePlaces, slots, writeLimit, readLimit}
 use Rattle.model.specs.Ids.{sameId}
-use Rattle.model.specs.Lives.{readsOf, writeCount, writeKey, readKey, slotMark}
+use Rattle.model.specs.Lives.{writeCount, writeKey, readKey, slotMark}
 use Rattle.model.specs.Entries.{wrote, noEntry}
 use Rattle.model.specs.Sound.{isNoWrite, isNoRead, isNoLive, entryRight}
 
@@ -20,18 +21,23 @@ use Rattle.model.specs.Sound.{isNoWrite, isNoRead, isNoLive, entryRight}
 unfoldable pub fits : ℕ → ℕ → Bool
 fits lo k = leb lo k and ltb k keys
 
--- the keys of the first n ascend from lo on below the limit, the others are zero
-module _ {A : Type 0} (key : A → ℕ) (isZero : A → Bool) where
+-- the keys of the first n ascend from lo on below the limit, and these are good; the others are zero
+module _ {A : Type 0} (key : A → ℕ) (good isZero : A → Bool) where
   unfoldable pub setRight : ℕ → ℕ → List A → Bool
   setRight lo n [] = true
   setRight lo zero (x ∷ xs) = isZero x and setRight lo zero xs
-  setRight lo (suc n) (x ∷ xs) = fits lo (key x) and setRight (suc (key x)) n xs
+  setRight lo (suc n) (x ∷ xs) = fits lo (key x) and good x and setRight (suc (key x)) n xs
+
+-- of a write no more is asked than its key
+abbrev pub anyWrite : Write → Bool
+anyWrite w = true
 
 unfoldable pub writesRight : Live → Bool
-writesRight l = leb (l .«write_count») writeLimit and setRight writeKey isNoWrite 0 (l .«write_count») (l .writes)
+writesRight l = leb (l .«write_count») writeLimit and setRight writeKey anyWrite isNoWrite 0 (l .«write_count») (l .writes)
 
-unfoldable pub readsRight : Live → Bool
-readsRight l = leb (l .«read_count») readLimit and setRight readKey isNoRead 0 (l .«read_count») (l .reads)
+-- its reads, each of them good
+abbrev pub readsRight : (Read → Bool) → Live → Bool
+readsRight good l = setRight readKey good isNoRead 0 (l .«read_count») (l .reads)
 
 abbrev pub noWrites : Live → Bool
 noWrites l = all isNoWrite (l .writes)
@@ -39,8 +45,9 @@ noWrites l = all isNoWrite (l .writes)
 abbrev pub noReads : Live → Bool
 noReads l = all isNoRead (l .reads)
 
+-- a transaction in use: its number, its write set, how many reads
 unfoldable pub listsRight : Live → Bool
-listsRight l = leb 1 (l .txn) and writesRight l and readsRight l
+listsRight l = leb 1 (l .txn) and leb (l .«read_count») readLimit and writesRight l
 
 -- a closing transaction's write set, clock and records stored
 unfoldable pub countsRight : ℕ → ℕ → ℕ → Bool
@@ -51,7 +58,7 @@ isUnused Unused = true
 isUnused Open = false
 isUnused (Closing d c n) = false
 
--- a live place by itself
+-- a live place but for its reads
 unfoldable pub shapeRight : Phase → Live → Bool
 shapeRight Unused l = isNoLive l
 shapeRight Open l = listsRight l
@@ -84,12 +91,9 @@ isNamed e r = sameId (e .id) (r .id) and wrote e (r .key)
 unfoldable pub namedBy : List Entry → List ℕ → Read → Bool
 namedBy es ts r = ltb (slotIn ts (r .id .txn)) slots and isNamed (getD es (slotIn ts (r .id .txn)) noEntry) r
 
-abbrev pub allNamed : List Entry → List ℕ → Live → Bool
-allNamed es ts l = all (namedBy es ts) (readsOf l)
-
--- a live place: right by itself, and all its reads named
+-- a live place: right but for its reads, and these right and named
 unfoldable pub placeFits : List Entry → List ℕ → Live → Bool
-placeFits es ts l = shape l and allNamed es ts l
+placeFits es ts l = shape l and readsRight (namedBy es ts) l
 
 -- a closing transaction's slot, counted from 1, is there and not held
 unfoldable pub slotFree : List ℕ → ℕ → Bool

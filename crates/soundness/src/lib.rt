@@ -7,7 +7,6 @@ use model::Phase;
 use model::Read;
 use model::Station;
 use model::Write;
-use model::read_count;
 use model::wide;
 use model::write_count;
 ghost use mathlib.Core.Path.{_≡_};
@@ -20,7 +19,7 @@ ghost use Rattle.model.specs.Lists.{all, count, distinct};
 ghost use Rattle.model.specs.Listed.{listedEntry, listed};
 ghost use Rattle.model.specs.Lives.{slotMark};
 ghost use Rattle.model.specs.Sound.{isNoWrite, isNoRead, isNoLive, entryRight, sound};
-ghost use Rattle.soundness.specs.Parts.{fits, writesRight, readsRight, noWrites, noReads, listsRight, countsRight, isUnused, shape, slotIn, isNamed, slotFree};
+ghost use Rattle.soundness.specs.Parts.{fits, writesRight, noWrites, noReads, listsRight, countsRight, isUnused, shape, slotIn, isNamed, slotFree};
 
 // Transactions, live and held, at most.
 const TXNS: usize = Station::LIVE + Station::SLOTS;
@@ -109,33 +108,6 @@ fn writes_right(l: Live) -> bool
     true
 }
 
-// The read set, likewise.
-fn reads_right(l: Live) -> bool
-    ensures { λ r. ⌜ r ≡ readsRight l ⌝ }
-{
-    let n = wide(l.read_count);
-    if Station::READS < n {
-        return false;
-    }
-    let mut low = 0u8;
-    let mut j = 0;
-    while j < Station::READS {
-        let read = l.reads[j];
-        if j < n {
-            if !key_fits(low, read.key) {
-                return false;
-            }
-            low = read.key + 1;
-        } else {
-            if !no_read(read) {
-                return false;
-            }
-        }
-        j += 1;
-    }
-    true
-}
-
 // All writes are zero, all reads are: their fields are or-ed and tested once.
 fn no_writes(l: Live) -> bool
     ensures { λ r. ⌜ r ≡ noWrites l ⌝ }
@@ -197,16 +169,17 @@ fn unused_right(l: Live) -> bool
     no_reads(l)
 }
 
+// A place in use but for its phase and its reads: these are tested with the entries that they name.
 fn lists_right(l: Live) -> bool
     ensures { λ r. ⌜ r ≡ listsRight l ⌝ }
 {
     if l.txn == 0 {
         return false;
     }
-    if !writes_right(l) {
+    if Station::READS_U8 < l.read_count {
         return false;
     }
-    reads_right(l)
+    writes_right(l)
 }
 
 // A closing transaction's clock, records stored and keys written.
@@ -356,8 +329,9 @@ fn named(e: Entry, read: Read) -> bool
 }
 
 // ---- the station ----
-// Its loops stand here, so that no part of it is handed over whole. A place is read anew for each use: only one with reads is then copied whole.
-// Reads are tested after the entries and the transactions: where those are right, only the entry found by its transaction can be the one named.
+// Its loops stand here, so that no part of it is handed over whole. A place is read anew for each use: only one in use is then copied, once, for
+// its reads. These are tested after the entries and the transactions: where those are right, only the entry found by its transaction can be the one
+// named.
 pub fn is_sound(station: Station) -> bool
     ensures { λ r. ⌜ r ≡ sound (listed station) ⌝ }
 {
@@ -400,16 +374,23 @@ pub fn is_sound(station: Station) -> bool
         if !used_right(used) {
             return false;
         }
-        let counted = station.live[i];
-        let n = read_count(counted);
-        if n == 0 {
-            i += 1;
-            continue;
-        }
         let reader = station.live[i];
+        let n = wide(reader.read_count);
+        let mut low = 0u8;
         let mut j = 0;
-        while j < n {
+        while j < Station::READS {
             let read = reader.reads[j];
+            j += 1;
+            if n < j {
+                if !no_read(read) {
+                    return false;
+                }
+                continue;
+            }
+            if !key_fits(low, read.key) {
+                return false;
+            }
+            low = read.key + 1;
             let id = read.id;
             let at = slot_of(&txns, id.txn);
             if Station::LAST_SLOT < at {
@@ -419,7 +400,6 @@ pub fn is_sound(station: Station) -> bool
             if !named(held, read) {
                 return false;
             }
-            j += 1;
         }
         i += 1;
     }

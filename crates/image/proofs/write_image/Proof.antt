@@ -3,7 +3,7 @@ use Rattle.image.proofs.Names.{refl, _++_, putMid, placesSize, entriesS
 use Rattle.image.proofs.PartLaws.{put-none, put-next, put-last}
 use Rattle.image.proofs.Round.{image-of}
 use Rattle.model.proofs.ListedLaws.{station-back}
-use Rattle.image.proofs.Handed.{station-handed}
+use Rattle.model.proofs.Handed.{station-handed}
 use Rattle.image.proofs.write_image.Statement.{statement}
 use Rattle.image.proofs.write_image.Tie as tie
 

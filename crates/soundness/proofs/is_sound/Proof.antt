@@ -8,20 +8,27 @@ use lib.ListN.{length, take, drop, getD, length-map, length-set}
 use lib.Seq.{drop-set-lt}
 use borrow.Author.Needs.{needs}
 use borrow.Author.Tests.{not-true, not-false}
+use Rattle.model.specs.declared.Read.{Read}
 use Rattle.model.specs.declared.Live.{Live}
 use Rattle.model.specs.Types.{Entry}
 use Rattle.model.specs.Lists.{_and_, all, distinct}
-use Rattle.model.specs.Lives.{noRead, readsOf, liveBeyond}
+use Rattle.model.specs.Lives.{noRead, readKey, liveBeyond}
 use Rattle.model.specs.Entries.{noEntry}
 use Rattle.model.specs.Listed.{listedEntries, listed}
-use Rattle.model.specs.Sound.{isNoLive, entryRight, sound}
+use Rattle.model.specs.Ranges.{LiveFits}
+use Rattle.model.specs.Sound.{isNoRead, isNoLive, entryRight, sound}
 use Rattle.model.proofs.RestLaws.{all-split}
+use Rattle.model.proofs.ListLaws.{every-at}
+use Rattle.model.proofs.Handed.{station-handed}
 use Rattle.model.proofs.ListedLaws.{listed-length}
-use Rattle.soundness.specs.Parts.{shape, liveColumn, heldColumn, txnColumn, markColumn, namedBy, placeFits, slotFree, parts}
+use Rattle.soundness.specs.Parts as Parts
+use Rattle.soundness.specs.Parts.{setRight, shape, liveColumn, heldColumn, txnColumn, markColumn, namedBy, placeFits, slotFree, parts}
 use Rattle.soundness.proofs.AllLoop.{AllPassed, all-start, all-wrong, all-next, all-done}
-use Rattle.soundness.proofs.PartLaws.{place-wrong, place-reads, place-unread, unnamed, named-stop, named-more, named-end, named-listed, right-listed}
+use Rattle.soundness.proofs.SetLoop.{SetPassed, set-start, key-wrong, not-good, zero-wrong, key-next, zero-next, set-done}
+use Rattle.soundness.proofs.Loops.{fits-low}
+use Rattle.soundness.proofs.PartLaws.{place-wrong, place-reads, unnamed, named-is, named-listed, right-listed}
 use Rattle.soundness.proofs.PartLaws.{unused-shape, held-more, held-end, live-more, txns-end, marks-more, marks-end}
-use Rattle.soundness.proofs.Whole.{unused-names, sound-is}
+use Rattle.soundness.proofs.Whole.{unused-reads, sound-is}
 use Rattle.soundness.proofs.is_sound.Statement.{statement}
 use Rattle.soundness.proofs.is_sound.Tie as tie
 
@@ -43,15 +50,14 @@ Inv-loop2 station txns₀ d marks₀ k₀ txns marks k =
 abbrev μ-loop2 : tie.MeasureT-loop2
 μ-loop2 station txns₀ d marks₀ k₀ txns marks k = 8 - k
 
--- a place's reads
+-- a place's reads, and then the places after it
 abbrev Inv-loop4 : tie.InvT-loop4
-Inv-loop4 station txns d marks k i n reader j₀ j =
-    (j ≤ n)
-    × (all (placeFits (listedEntries (station .entries)) txns) (station .live)
-    ≡ (all (namedBy (listedEntries (station .entries)) txns) (drop j (readsOf reader)) and all (placeFits (listedEntries (station .entries)) txns) (drop (i + 1) (station .live))))
+Inv-loop4 station txns d marks k i reader n low₀ j₀ low j =
+    SetPassed readKey (namedBy (listedEntries (station .entries)) txns) isNoRead n (reader .reads) 16 (all (placeFits (listedEntries (station .entries)) txns) (station .live))
+    (all (placeFits (listedEntries (station .entries)) txns) (drop (i + 1) (station .live))) low j
 
 abbrev μ-loop4 : tie.MeasureT-loop4
-μ-loop4 station txns d marks k i n reader j₀ j = n - j
+μ-loop4 station txns d marks k i reader n low₀ j₀ low j = 16 - j
 
 -- the places
 abbrev Inv-loop3 : tie.InvT-loop3
@@ -141,14 +147,30 @@ used-as : (a : tie.After-used-right Inv-loop μ-loop Inv-loop2 μ-loop2 Inv-loop
 used-as a b e = let t = a .before .before in sym (a .used-right .ensures (sym (t .before .is-unused .ensures) ∙ t .if3 .left)) ∙ e
 
 -- ── its reads ──
-abbrev outer : tie.After-reader Inv-loop μ-loop Inv-loop2 μ-loop2 Inv-loop4 μ-loop4 Inv-loop3 μ-loop3 → tie.At-loop3 Inv-loop μ-loop Inv-loop2 μ-loop2 Inv-loop4 μ-loop4 Inv-loop3 μ-loop3
-outer r = r .before .before .before .before .before .before .before .before .before .before .before
+abbrev outer : tie.After-wide Inv-loop μ-loop Inv-loop2 μ-loop2 Inv-loop4 μ-loop4 Inv-loop3 μ-loop3 → tie.At-loop3 Inv-loop μ-loop Inv-loop2 μ-loop2 Inv-loop4 μ-loop4 Inv-loop3 μ-loop3
+outer w = w .before .before .before .before .before .before .before .before .before
 
 shaped : (r : tie.Else5 Inv-loop μ-loop Inv-loop2 μ-loop2 Inv-loop4 μ-loop4 Inv-loop3 μ-loop3) → shape (live (r .before .before .before .before .before .before .before)) ≡ true
 shaped r = used-as (r .before) true (not-false _ (r .if5 .left))
 
-read-count : (r : tie.After-reader Inv-loop μ-loop Inv-loop2 μ-loop2 Inv-loop4 μ-loop4 Inv-loop3 μ-loop3) → r .before .before .read-count .result ≡ length (readsOf (live (outer r)))
-read-count r = r .before .before .read-count .ensures .1
+abbrev isNamedBy : tie.At-loop3 Inv-loop μ-loop Inv-loop2 μ-loop2 Inv-loop4 μ-loop4 Inv-loop3 μ-loop3 → Read → Bool
+isNamedBy a = namedBy (entries (start3 a)) (txns a)
+
+reads-long : (w : tie.After-wide Inv-loop μ-loop Inv-loop2 μ-loop2 Inv-loop4 μ-loop4 Inv-loop3 μ-loop3) → length (live (outer w) .reads) ≡ 16
+reads-long w =
+    let a = outer w in
+    let s = start3 a in
+    every-at LiveFits (lives s) (station-handed (s .args .t1) _ (s .good .0) .live) (a .loop3 .i) liveBeyond (omega (arith, lives-long s)) .read-places
+
+-- the read at hand
+abbrev at-hand : tie.At-loop4 Inv-loop μ-loop Inv-loop2 μ-loop2 Inv-loop4 μ-loop4 Inv-loop3 μ-loop3 → Read
+at-hand m = getD (live (outer (m .before)) .reads) (m .loop4 .j) noRead
+
+abbrev reads-at : tie.After-slot-of Inv-loop μ-loop Inv-loop2 μ-loop2 Inv-loop4 μ-loop4 Inv-loop3 μ-loop3 → tie.At-loop4 Inv-loop μ-loop Inv-loop2 μ-loop2 Inv-loop4 μ-loop4 Inv-loop3 μ-loop3
+reads-at s = s .before .before .before .before .before .before .before .before .before
+
+fits-at : (s : tie.After-slot-of Inv-loop μ-loop Inv-loop2 μ-loop2 Inv-loop4 μ-loop4 Inv-loop3 μ-loop3) → Parts.fits (reads-at s .loop4 .low) (at-hand (reads-at s) .key) ≡ true
+fits-at s = let e = s .before .before .before .before in sym (e .before .key-fits .ensures) ∙ not-false _ (e .if8 .left)
 
 -- ── the marks ──
 places-hold : (e : tie.After-loop3 Inv-loop μ-loop Inv-loop2 μ-loop2 Inv-loop4 μ-loop4 Inv-loop3 μ-loop3) → all (placeFits (entries (start3 (e .before))) (txnColumn (lives (start3 (e .before))) (entries (start3 (e .before))))) (lives (start3 (e .before))) ≡ true
@@ -220,67 +242,89 @@ loop3-again c =
     let a = u .before .before .before .before .before .before in
     let t = not-false _ (c .if4 .left) in
     all-next (fits a) (lives (start3 a)) 8 (lives-long (start3 a)) (a .loop3 .i) (a .loop3 .inv) liveBeyond (omega arith)
-    (place-reads (entries (start3 a)) (txns a) (live a) (unused-as u true t) ∙ unused-names (namedBy (entries (start3 a)) (txns a)) (live a) (unused u true t))
+    (place-reads (entries (start3 a)) (txns a) (live a) (unused-as u true t) ∙ unused-reads (isNamedBy a) (live a) (unused u true t))
 
 returns-4 : tie.Need-returns-4 Inv-loop μ-loop Inv-loop2 μ-loop2 Inv-loop4 μ-loop4 Inv-loop3 μ-loop3
 returns-4 c = wrong (c .before .before .before .before .before .before) (used-as (c .before) false (not-true _ (c .if5 .taken)))
-
-loop3-again-2 : tie.Need-loop3-again-2 Inv-loop μ-loop Inv-loop2 μ-loop2 Inv-loop4 μ-loop4 Inv-loop3 μ-loop3
-loop3-again-2 c =
-    let e = c .before .before .before in
-    let a = e .before .before .before .before .before .before .before in
-    all-next (fits a) (lives (start3 a)) 8 (lives-long (start3 a)) (a .loop3 .i) (a .loop3 .inv) liveBeyond (omega arith)
-    (place-unread (entries (start3 a)) (txns a) (live a) (shaped e) (omega (arith, c .before .read-count .ensures .1, c .if6 .taken)))
 
 loop4-holds : tie.Need-loop4-holds Inv-loop μ-loop Inv-loop2 μ-loop2 Inv-loop4 μ-loop4 Inv-loop3 μ-loop3
 loop4-holds c =
     let a = outer c in
     let ls = lives (start3 a) in
-    let h = lives-long (start3 a) in (
-      omega arith,
-      a .loop3 .inv .1 ∙ all-split (fits a) ls (a .loop3 .i) liveBeyond (omega arith)
-          ∙ ap (λ (b : Bool). b and all (fits a) (drop (a .loop3 .i + 1) ls)) (place-reads (entries (start3 a)) (txns a) (live a) (shaped (c .before .before .before .before))),
-    )
-
-slice-aggregate-slot-of : tie.Need-slice-aggregate-slot-of Inv-loop μ-loop Inv-loop2 μ-loop2 Inv-loop4 μ-loop4 Inv-loop3 μ-loop3
-slice-aggregate-slot-of c = let l = columns (outer (c .before .before .before .before .before)) in sym (l .loop2 .inv .1)
+    let h = lives-long (start3 a) in
+    set-start readKey (isNamedBy a) isNoRead (c .wide .result) (live a .reads) 16 _ _
+    (a .loop3 .inv .1 ∙ all-split (fits a) ls (a .loop3 .i) liveBeyond (omega arith)
+    ∙ ap (λ (b : Bool). b and all (fits a) (drop (a .loop3 .i + 1) ls))
+    (place-reads (entries (start3 a)) (txns a) (live a) (shaped (c .before .before)) ∙ ap (λ (n : ℕ). setRight readKey (isNamedBy a) isNoRead 0 n (live a .reads)) (sym (c .wide .ensures))))
 
 returns-5 : tie.Need-returns-5 Inv-loop μ-loop Inv-loop2 μ-loop2 Inv-loop4 μ-loop4 Inv-loop3 μ-loop3
 returns-5 c =
-    let s = c .before in
-    let m = s .before .before .before .before .before in
-    let r = m .before in
-    let a = outer r in
-    misfit a (unnamed (entries (start3 a)) (txns a) (live a) (m .loop4 .j) _ _ (m .loop4 .inv .1) (s .slot-of .result) (s .slot-of .ensures) (omega (arith, read-count r)) (c .if7 .taken))
-
-returns-6 : tie.Need-returns-6 Inv-loop μ-loop Inv-loop2 μ-loop2 Inv-loop4 μ-loop4 Inv-loop3 μ-loop3
-returns-6 c =
-    let e = c .before .before .before in
-    let s = e .before in
-    let m = s .before .before .before .before .before in
-    let r = m .before in
-    let a = outer r in
+    let m = c .before .before .before .before .before in
+    let a = outer (m .before) in
     misfit a
-    (named-stop (entries (start3 a)) (txns a) (live a) (m .loop4 .j) _ _ (m .loop4 .inv .1) (s .slot-of .result) (s .slot-of .ensures) (omega (arith, read-count r)) (e .if7 .left)
-    (named-listed (start3 a .args .t1 .entries) (s .slot-of .result) (getD (live a .reads) (m .loop4 .j) noRead) ∙ sym (c .before .named .ensures) ∙ not-true _ (c .if8 .taken)))
+    (zero-wrong readKey (isNamedBy a) isNoRead _ (live a .reads) 16 _ _ (reads-long (m .before)) (m .loop4 .low) (m .loop4 .j) (m .loop4 .inv) noRead (omega arith) (omega (arith, c .before .before .if6 .taken))
+    (sym (c .before .no-read .ensures) ∙ not-true _ (c .if7 .taken)))
 
 loop4-again : tie.Need-loop4-again Inv-loop μ-loop Inv-loop2 μ-loop2 Inv-loop4 μ-loop4 Inv-loop3 μ-loop3
 loop4-again c =
-    let e = c .before .before .before in
-    let s = e .before in
-    let m = s .before .before .before .before .before in
-    let r = m .before in
-    let a = outer r in (
-      omega arith,
-      named-more (entries (start3 a)) (txns a) (live a) (m .loop4 .j) _ _ (m .loop4 .inv .1) (s .slot-of .result) (s .slot-of .ensures) (omega (arith, read-count r)) (e .if7 .left)
-          (named-listed (start3 a .args .t1 .entries) (s .slot-of .result) (getD (live a .reads) (m .loop4 .j) noRead) ∙ sym (c .before .named .ensures) ∙ not-false _ (c .if8 .left)),
-    )
+    let m = c .before .before .before .before .before in
+    let a = outer (m .before) in
+    zero-next readKey (isNamedBy a) isNoRead _ (live a .reads) 16 _ _ (reads-long (m .before)) (m .loop4 .low) (m .loop4 .j) (m .loop4 .inv) noRead _ (omega arith) (omega (arith, c .before .before .if6 .taken))
+    (sym (c .before .no-read .ensures) ∙ not-false _ (c .if7 .left)) refl
 
-loop3-again-3 : tie.Need-loop3-again-3 Inv-loop μ-loop Inv-loop2 μ-loop2 Inv-loop4 μ-loop4 Inv-loop3 μ-loop3
-loop3-again-3 c =
+returns-6 : tie.Need-returns-6 Inv-loop μ-loop Inv-loop2 μ-loop2 Inv-loop4 μ-loop4 Inv-loop3 μ-loop3
+returns-6 c =
+    let m = c .before .before .before .before .before in
+    let a = outer (m .before) in
+    misfit a
+    (key-wrong readKey (isNamedBy a) isNoRead _ (live a .reads) 16 _ _ (reads-long (m .before)) (m .loop4 .low) (m .loop4 .j) (m .loop4 .inv) noRead (omega arith) (omega (arith, c .before .before .if6 .left))
+    (sym (c .before .key-fits .ensures) ∙ not-true _ (c .if8 .taken)))
+
+add-low : tie.Need-add-low Inv-loop μ-loop Inv-loop2 μ-loop2 Inv-loop4 μ-loop4 Inv-loop3 μ-loop3
+add-low c = omega (arith, fits-low _ _ (sym (c .before .before .key-fits .ensures) ∙ not-false _ (c .before .if8 .left)))
+
+slice-aggregate-slot-of : tie.Need-slice-aggregate-slot-of Inv-loop μ-loop Inv-loop2 μ-loop2 Inv-loop4 μ-loop4 Inv-loop3 μ-loop3
+slice-aggregate-slot-of c = let m = c .before .before .before .before .before .before .before .before in sym (columns (outer (m .before)) .loop2 .inv .1)
+
+-- a read that is not good: no entry is named, or another
+ungood : (s : tie.After-slot-of Inv-loop μ-loop Inv-loop2 μ-loop2 Inv-loop4 μ-loop4 Inv-loop3 μ-loop3) → isNamedBy (outer (reads-at s .before)) (at-hand (reads-at s)) ≡ false → false ≡ sound (listed (start3 (outer (reads-at s .before)) .args .t1))
+ungood s e =
+    let m = reads-at s in
+    let a = outer (m .before) in
+    misfit a
+    (not-good readKey (isNamedBy a) isNoRead _ (live a .reads) 16 _ _ (reads-long (m .before)) (m .loop4 .low) (m .loop4 .j) (m .loop4 .inv) noRead (omega arith) (omega (arith, s .before .before .before .before .before .before .if6 .left)) (fits-at s) e)
+
+returns-7 : tie.Need-returns-7 Inv-loop μ-loop Inv-loop2 μ-loop2 Inv-loop4 μ-loop4 Inv-loop3 μ-loop3
+returns-7 c =
+    let s = c .before in
+    let a = outer (reads-at s .before) in
+    ungood s (unnamed (entries (start3 a)) (txns a) (at-hand (reads-at s)) (s .slot-of .result) (s .slot-of .ensures) (c .if9 .taken))
+
+-- the entry found, by the test of it
+found : (n : tie.After-named Inv-loop μ-loop Inv-loop2 μ-loop2 Inv-loop4 μ-loop4 Inv-loop3 μ-loop3) (b : Bool) → n .named .result ≡ b → isNamedBy (outer (reads-at (n .before .before .before) .before)) (at-hand (reads-at (n .before .before .before))) ≡ b
+found n b e =
+    let f = n .before .before in
+    let s = f .before in
+    let a = outer (reads-at s .before) in
+    named-is (entries (start3 a)) (txns a) (at-hand (reads-at s)) (s .slot-of .result) (s .slot-of .ensures) (f .if9 .left)
+    ∙ named-listed (start3 a .args .t1 .entries) (s .slot-of .result) (at-hand (reads-at s)) ∙ sym (n .named .ensures) ∙ e
+
+returns-8 : tie.Need-returns-8 Inv-loop μ-loop Inv-loop2 μ-loop2 Inv-loop4 μ-loop4 Inv-loop3 μ-loop3
+returns-8 c = ungood (c .before .before .before .before) (found (c .before) false (not-true _ (c .if10 .taken)))
+
+loop4-again-2 : tie.Need-loop4-again-2 Inv-loop μ-loop Inv-loop2 μ-loop2 Inv-loop4 μ-loop4 Inv-loop3 μ-loop3
+loop4-again-2 c =
+    let s = c .before .before .before .before in
+    let m = reads-at s in
+    let a = outer (m .before) in
+    key-next readKey (isNamedBy a) isNoRead _ (live a .reads) 16 _ _ (reads-long (m .before)) (m .loop4 .low) (m .loop4 .j) (m .loop4 .inv) noRead _ (omega arith) (omega (arith, s .before .before .before .before .before .before .if6 .left)) (fits-at s)
+    (found (c .before) true (not-false _ (c .if10 .left))) refl
+
+loop3-again-2 : tie.Need-loop3-again-2 Inv-loop μ-loop Inv-loop2 μ-loop2 Inv-loop4 μ-loop4 Inv-loop3 μ-loop3
+loop3-again-2 c =
     let m = c .before in
     let a = outer (m .before) in
-    (omega arith, named-end (entries (start3 a)) (txns a) (live a) (m .loop4 .j) _ _ (m .loop4 .inv .1) (omega (arith, read-count (m .before))))
+    (omega arith, set-done readKey (isNamedBy a) isNoRead _ (live a .reads) 16 _ _ (reads-long (m .before)) (m .loop4 .low) (m .loop4 .j) (m .loop4 .inv) (omega arith))
 
 slice-aggregate-differ-2 : tie.Need-slice-aggregate-differ-2 Inv-loop μ-loop Inv-loop2 μ-loop2 Inv-loop4 μ-loop4 Inv-loop3 μ-loop3
 slice-aggregate-differ-2 c = sym (columns (c .before .before) .loop2 .inv .2)
@@ -288,25 +332,25 @@ slice-aggregate-differ-2 c = sym (columns (c .before .before) .loop2 .inv .2)
 differ-requires-2 : tie.Need-differ-requires-2 Inv-loop μ-loop Inv-loop2 μ-loop2 Inv-loop4 μ-loop4 Inv-loop3 μ-loop3
 differ-requires-2 c κs = omega (arith, columns (c .before .before) .loop2 .inv .2)
 
-returns-7 : tie.Need-returns-7 Inv-loop μ-loop Inv-loop2 μ-loop2 Inv-loop4 μ-loop4 Inv-loop3 μ-loop3
+returns-9 : tie.Need-returns-9 Inv-loop μ-loop Inv-loop2 μ-loop2 Inv-loop4 μ-loop4 Inv-loop3 μ-loop3
 unfolding parts _and_
-returns-7 c =
+returns-9 c =
     let e = c .before .before .before in
     let a = e .before in
-    sym (whole (start3 a) ∙ rw (entries-hold (columns a .before), txns-differ a, places-hold e, marks-as (c .before) false (not-true _ (c .if9 .taken))))
+    sym (whole (start3 a) ∙ rw (entries-hold (columns a .before), txns-differ a, places-hold e, marks-as (c .before) false (not-true _ (c .if11 .taken))))
 
 slice-aggregate-slots-free : tie.Need-slice-aggregate-slots-free Inv-loop μ-loop Inv-loop2 μ-loop2 Inv-loop4 μ-loop4 Inv-loop3 μ-loop3
 slice-aggregate-slots-free c = sym (columns (c .before .before .before .before .before .before) .loop2 .inv .2)
 
-returns-8 : tie.Need-returns-8 Inv-loop μ-loop Inv-loop2 μ-loop2 Inv-loop4 μ-loop4 Inv-loop3 μ-loop3
+returns-10 : tie.Need-returns-10 Inv-loop μ-loop Inv-loop2 μ-loop2 Inv-loop4 μ-loop4 Inv-loop3 μ-loop3
 unfolding parts _and_
-returns-8 c =
+returns-10 c =
     let f = c .before .before .before in
     let e = f .before .before .before in
     let a = e .before in
     let ts = txnColumn (lives (start3 a)) (entries (start3 a)) in
     let q : parts (lives (start3 a)) (entries (start3 a)) ≡ all (slotFree ts) (markColumn (lives (start3 a))) =
-    rw (entries-hold (columns a .before), txns-differ a, places-hold e, marks-as (f .before) true (not-false _ (f .if9 .left))) in
+    rw (entries-hold (columns a .before), txns-differ a, places-hold e, marks-as (f .before) true (not-false _ (f .if11 .left))) in
     let b = a .before .before .before .before in
     c .slots-free .ensures ∙ ap₂ (λ (x y : List ℕ). all (slotFree x) y) (txns-are b) (marks-are b) ∙ sym (whole (start3 a) ∙ q)
 
@@ -365,30 +409,32 @@ is-sound-spec =
     (λ c. search needs)
     (λ c. search needs)
     (λ c κs. tt)
-    (λ c. search needs)
-    (λ c. search needs)
-    loop3-again-2
-    (λ c. search needs)
-    (λ c. search needs)
     loop4-holds
     (λ c. search needs)
     (λ c. search needs)
-    slice-aggregate-slot-of
+    (λ c. search needs)
     (λ c κs. tt)
     returns-5
     (λ c. search needs)
-    (λ c. search needs)
+    loop4-again
     (λ c κs. tt)
     returns-6
+    add-low
+    slice-aggregate-slot-of
+    (λ c κs. tt)
+    returns-7
     (λ c. search needs)
     (λ c. search needs)
-    loop4-again
+    (λ c κs. tt)
+    returns-8
+    (λ c. search needs)
+    loop4-again-2
     (λ c. search needs)
     (λ c. search needs)
-    loop3-again-3
+    loop3-again-2
     slice-aggregate-differ-2
     differ-requires-2
-    returns-7
+    returns-9
     slice-aggregate-slots-free
     (λ c κs. tt)
-    returns-8)
+    returns-10)
