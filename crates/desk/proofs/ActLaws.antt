@@ -148,11 +148,11 @@ sweep-acts st s q n c o e s′ k =
     let j : callOf (q .command) ≡ some (Sweep n) = ap callOf c in
     (e ∙ ap outcomeOf (is-call st s q (Sweep n) j), call-kept st s q (Sweep n) j s′ k)
 
-pub scan-acts : (st : Station) (s : List ℕ) (q : Request) → asksScan (callOf (q .command)) ≡ true → (o : Outcome) → o ≡ outcomeOf (scan s) → (o ≡ acted st s q) × (s ≡ kept st s q)
+pub scan-acts : (st : Station) (s : List ℕ) (q : Request) → asksScan (callOf (q .command)) ≡ true → (o : Outcome) → o ≡ outcomeOf (scan (st .kind) s) → (o ≡ acted st s q) × (s ≡ kept st s q)
 unfolding acted does
 scan-acts st s q h o e =
     let k = scan-asked (callOf (q .command)) h in
-    (e ∙ ap outcomeOf (is-call st s q Scan k), quiet-kept st s q Scan k (scan-stores-nothing s))
+    (e ∙ ap outcomeOf (is-call st s q Scan k), quiet-kept st s q Scan k (scan-stores-nothing (st .kind) s))
 
 -- ── a call but a scan, on a station that is not sound: row 1 or 2 ──
 pub record Barred (st : Station) (e : Effect) : Type 0 where
@@ -184,7 +184,7 @@ module _ (st : Station) (u : sound st ≡ false) where
 module _ (st : Station) (s : List ℕ) where
   scan-tested : (c : Call) → isScan c ≡ true → sound (does c st s .station) ≡ true
   unfolding does
-  scan-tested c h = ap (λ (x : Call). sound (does x st s .station)) (scan-only c h) ∙ sound-scan s
+  scan-tested c h = ap (λ (x : Call). sound (does x st s .station)) (scan-only c h) ∙ sound-scan (st .kind) s
 
   call-tested : (c : Call) → isScan c ≡ false → sound (does c st s .station) ≡ sound st
   call-tested c n = by-test (sound st) refl

@@ -33,15 +33,15 @@ use Rattle.history.proofs.Theorem.{State}
 -- ── a standing transaction with no draft is an entry, and an entry's has none ──
 module _ (st : Station) (s : List ℕ) (b : Ledger) (inv : Inv st s b) (h : sound st ≡ true) where
   pub entered-one : (j : Committed) → List·Memᴰ j (b .standing) → draftOf (j .id .txn) (b .drafts) ≡ none
-      → (d : ℕ) × (entryAt st d .id .txn ≢ 0) × (j ≡ committedIn s d (entryAt st d))
+      → (d : ℕ) × (entryAt st d .id .txn ≢ 0) × (j ≡ committedIn (st .kind) s d (entryAt st d))
   entered-one j m e =
-      let r = stands-in s (b .standing) (inv .core .found) j m in
+      let r = stands-in (st .kind) s (b .standing) (inv .core .found) j m in
       go (r .0) (r .2) (r .4) (owner st s (inv .slots) (r .0) (r .2) (r .1) (r .3))
     where
-      go : (d : ℕ) (x : Entry) → j ≡ committedIn s d x → Owner st d x → (c : ℕ) × (entryAt st c .id .txn ≢ 0) × (j ≡ committedIn s c (entryAt st c))
-      go d x q (by-entry n y) = (d, n, q ∙ ap (committedIn s d) y)
+      go : (d : ℕ) (x : Entry) → j ≡ committedIn (st .kind) s d x → Owner st d x → (c : ℕ) × (entryAt st c .id .txn ≢ 0) × (j ≡ committedIn (st .kind) s c (entryAt st c))
+      go d x q (by-entry n y) = (d, n, q ∙ ap (committedIn (st .kind) s d) y)
       go d x q (by-live i c n y o w) =
-          let same : j .id .txn ≡ liveAt st i .txn = ap (λ (u : Committed). u .id .txn) q ∙ (ap (λ (u : Id). u .txn) (committed-id s d x) ∙ (ap (λ (u : Entry). u .id .txn) w ∙ entryFor-txn (liveAt st i))) in
+          let same : j .id .txn ≡ liveAt st i .txn = ap (λ (u : Committed). u .id .txn) q ∙ (ap (λ (u : Id). u .txn) (committed-id (st .kind) s d x) ∙ (ap (λ (u : Entry). u .id .txn) w ∙ entryFor-txn (liveAt st i))) in
           let p = inv .drafts .drafted i (closing-facts st h i d c n y .used .numbered) in
           absurd (Option·none-ne-some (p .0) (sym e ∙ (ap (λ (u : ℕ). draftOf u (b .drafts)) same ∙ p .1)))
 
@@ -98,11 +98,11 @@ module _ (J : Committed) (k : ℕ) (wrote-k : Wrote J k) where
   -- ── each call ──
   module _ (st : Station) (s : List ℕ) (b : Ledger) (inv : Inv st s b) (h : sound st ≡ true) (sh : Shown J k b) where
     -- it is an entry
-    here : (d : ℕ) × (entryAt st d .id .txn ≢ 0) × (sh .by ≡ committedIn s d (entryAt st d))
+    here : (d : ℕ) × (entryAt st d .id .txn ≢ 0) × (sh .by ≡ committedIn (st .kind) s d (entryAt st d))
     here = entered-one st s b inv h (sh .by) (sh .stands) (sh .ended)
 
     by-txn : sh .by .id .txn ≡ entryAt st (here .0) .id .txn
-    by-txn = ap (λ (j : Committed). j .id .txn) (here .2) ∙ ap (λ (i : Id). i .txn) (committed-id s (here .0) (entryAt st (here .0)))
+    by-txn = ap (λ (j : Committed). j .id .txn) (here .2) ∙ ap (λ (i : Id). i .txn) (committed-id (st .kind) s (here .0) (entryAt st (here .0)))
 
     -- a transaction that is started is none that is held
     started : (t : ℕ) → isHeld t st ≡ false → Shown J k (withDrafts (blankDraft t ∷ without t (b .drafts)) b)
@@ -119,20 +119,20 @@ module _ (J : Committed) (k : ℕ) (wrote-k : Wrote J k) where
         go : Dec (sh .by .id .txn ≡ entryAt st d .id .txn) → Shown J k (record { drafts = b .drafts; standing = strike (entryAt st d .id .txn) (b .standing); past = b .past })
         go (no n) = record { by = sh .by; stands = strike-keeps _ (b .standing) (sh .by) (sh .stands) n; ended = sh .ended; newest = sh .newest }
         go (yes e) = record {
-          by = committedIn s c (entryAt st c);
-          stands = strike-keeps _ (b .standing) _ (entry-stands st s b inv h c held) (λ y. other (sym (ap (λ (i : Id). i .txn) (committed-id s c (entryAt st c))) ∙ y));
-          ended = ap (λ (i : Id). draftOf (i .txn) (b .drafts)) (committed-id s c (entryAt st c)) ∙ undrafted st s b inv h c held;
-          newest = inr ((_, wrote-committed s c (entryAt st c) k (w .2)), rw (committed-id s c (entryAt st c)) above);
+          by = committedIn (st .kind) s c (entryAt st c);
+          stands = strike-keeps _ (b .standing) _ (entry-stands st s b inv h c held) (λ y. other (sym (ap (λ (i : Id). i .txn) (committed-id (st .kind) s c (entryAt st c))) ∙ y));
+          ended = ap (λ (i : Id). draftOf (i .txn) (b .drafts)) (committed-id (st .kind) s c (entryAt st c)) ∙ undrafted st s b inv h c held;
+          newest = inr ((_, wrote-committed (st .kind) s c (entryAt st c) k (w .2)), rw (committed-id (st .kind) s c (entryAt st c)) above);
         }
           where
-            at-d : sh .by ≡ committedIn s d (entryAt st d)
-            at-d = here .2 ∙ ap (λ (x : ℕ). committedIn s x (entryAt st x)) (one-slot st h (here .0) d (sym by-txn ∙ e) (here .1))
+            at-d : sh .by ≡ committedIn (st .kind) s d (entryAt st d)
+            at-d = here .2 ∙ ap (λ (x : ℕ). committedIn (st .kind) s x (entryAt st x)) (one-slot st h (here .0) d (sym by-txn ∙ e) (here .1))
 
             at-id : sh .by .id ≡ entryAt st d .id
-            at-id = ap (λ (j : Committed). j .id) at-d ∙ committed-id s d (entryAt st d)
+            at-id = ap (λ (j : Committed). j .id) at-d ∙ committed-id (st .kind) s d (entryAt st d)
 
             wrote-d : wrote (entryAt st d) k ≡ true
-            wrote-d = committed-wrote s d (entryAt st d) k (subst (λ (j : Committed). Wrote j k) at-d (⊎-elim (λ y. subst (λ (j : Committed). Wrote j k) (sym y) wrote-k) (λ y. y .0) (sh .newest)))
+            wrote-d = committed-wrote (st .kind) s d (entryAt st d) k (subst (λ (j : Committed). Wrote j k) at-d (⊎-elim (λ y. subst (λ (j : Committed). Wrote j k) (sym y) wrote-k) (λ y. y .0) (sh .newest)))
 
             w : (c : ℕ) × (c < length (st .entries)) × (wrote (entryAt st c) k ≡ true) × (older (entryAt st d .id) (entryAt st c .id) ≡ true)
             w = newer-entry st (entryAt st d) sup k wrote-d

@@ -4,6 +4,7 @@ use Prim.Native.Nat.{ℕ}
 use mathlib.Core.Path.{_≡_, refl}
 use mathlib.Core.List.{List, [], _∷_, List·Memᴰ·not-nil}
 use native.Mathlib.Omega.{arith}
+use Rattle.model.specs.Kinds.{narrowKind, slotStart}
 use Rattle.model.specs.Lists.{_and_, _or_, all, any, first, insert, padded, from, member, maximum, ascending, distinct, anyBelow, greatestBelow}
 use Rattle.model.specs.Ids.{sameId}
 use Rattle.model.specs.Bytes.{bytes, headBytes}
@@ -35,8 +36,8 @@ later = called (Start 1) ∷ []
 no-start : Step 9 ≡ Start 9 → ⊥
 no-start e = let z : _≡_ {A = ℕ} 0 1 = cc in absurd (omega arith)
 
-pub is-booking : Booking before closing later 9 50 1 11 8 (record { clock = 101; txn = 9 })
-unfolding before closing later emptyLedger draftOf without revised withDrafts at committedFrom clocksIn feed begin handed reports fed afterCall next run callIn isSweep txnOf keyOf numberOf _and_ _or_ all any first insert padded from member ascending distinct anyBelow greatestBelow sameId emptyStation writesOf readsOf hasWritten isClosing closingSlot closingClock recordsStored liveAt entryAt setLive setEntry liveTxns heldTxns isLive isHeld placeOf slotOf holds slotMark closingSlots isFree bytes headBytes commitRecord versionRecord entryRules withRecord isNoWrite isNoRead isNoEntry isNoLive zeroPastCounts setsRight names inUse closingRight placeRight entryRight sound stored says saysStoring refusals wrongLength unsound opened start withWrites withWrite put withPhase highestFree maximum clocks clockAbove commit entryFor oneMore stepped step does
+pub is-booking : Booking narrowKind before closing later 9 50 1 11 8 (record { clock = 101; txn = 9 })
+unfolding before closing later emptyLedger draftOf without revised withDrafts at committedFrom clocksIn feed begin handed reports fed afterCall next run callIn isSweep txnOf keyOf numberOf _and_ _or_ all any first insert padded from member ascending distinct anyBelow greatestBelow sameId emptyStation writesOf readsOf hasWritten isClosing closingSlot closingClock recordsStored liveAt entryAt setLive setEntry liveTxns heldTxns isLive isHeld placeOf slotOf holds slotMark closingSlots isFree bytes headBytes commitRecord versionRecord entryRules slotStart withRecord isNoWrite isNoRead isNoEntry isNoLive zeroPastCounts setsRight names inUse closingRight placeRight entryRight sound stored says saysStoring refusals wrongLength unsound opened start withWrites withWrite put withPhase highestFree maximum clocks clockAbove commit entryFor oneMore stepped step does
 is-booking = record {
   slot = 62;
   closes = (_, refl, refl);

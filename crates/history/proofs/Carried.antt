@@ -7,12 +7,13 @@ use mathlib.Core.List.{List, [], _∷_}
 use mathlib.Core.Option.{Option, some, none}
 use Rattle.model.specs.declared as machine
 use Rattle.model.specs.Types.{Station}
-use Rattle.model.specs.Limits.{storeSize}
+use Rattle.model.specs.Kinds.{Kind, narrowKind, storeSize, KindFits}
 use Rattle.model.specs.Listed.{listed, listedOutcome, numbered}
 use Rattle.model.specs.Stations.{emptyStation}
 use Rattle.model.specs.Ranges.{Every, IsByte, StationFits, ListsFit}
 use Rattle.model.specs.Effects.{RecordWrite, outcomeOf, stored}
 use Rattle.model.specs.Calls.{Call, Start, Put, Get, Commit, Step, Abort, Collect, Scan, Sweep, does, isScan, txnOf, keyOf, numberOf, IsTyped}
+use Rattle.model.proofs.KindLaws.{narrow-fits}
 use Rattle.model.proofs.ListedLaws.{station-there, listed-fits, numbered-fits}
 use Rattle.model.proofs.StoreLaws.{start-stores-nothing, put-stores-nothing, get-stores-nothing, commit-stores-nothing, abort-stores-nothing, scan-stores-nothing}
 use Rattle.model.proofs.RangesKept.{fits-empty, bytes-zeros, fits-kept, bytes-kept, bytes-kept-all}
@@ -21,7 +22,7 @@ use Rattle.history.specs.Histories.{Event, called, cut, Node, running, d
 use Rattle.history.specs.CutRule.{CutRule}
 use Rattle.history.specs.Contracts.{Functions, Meets, returned, Host, hostBegin, listedNode, listedHost, lent, afterReturn, nextBy, runBy, AllTyped}
 use Rattle.history.proofs.DraftLaws.{some-inj}
-use Rattle.history.proofs.Theorem.{only-scan, cut-rule}
+use Rattle.history.proofs.Theorem.{only-scan, next-kind, cut-rule}
 
 -- ── a history stays within the types ──
 abbrev pub TypedNode : Node Station → Type 0
@@ -29,35 +30,36 @@ TypedNode (running st) = ListsFit st
 TypedNode down = Unit {0}
 
 pub record Typed (w : World) : Type 0 where
+  pub kind : KindFits (w .kind)
   pub node : TypedNode (w .node)
   pub store : Every IsByte (w .store)
 
-handed-fits : (c : Call) (k : Node Station) (st : Station) → TypedNode k → handed c k ≡ some st → ListsFit st
+handed-fits : (κ : Kind) → KindFits κ → (c : Call) (k : Node Station) (st : Station) → TypedNode k → handed κ c k ≡ some st → ListsFit st
 unfolding handed isScan
-handed-fits c (running st₀) st f e = subst ListsFit (some-inj e) f
-handed-fits c down st f e = scan-fits (subst (λ (x : Call). handed x down ≡ some st) (only-scan c st e) e)
+handed-fits κ φ c (running st₀) st f e = subst ListsFit (some-inj e) f
+handed-fits κ φ c down st f e = scan-fits (subst (λ (x : Call). handed κ x down ≡ some st) (only-scan κ c st e) e)
   where
-    scan-fits : handed Scan down ≡ some st → ListsFit st
-    scan-fits q = subst ListsFit (some-inj q) fits-empty
+    scan-fits : handed κ Scan down ≡ some st → ListsFit st
+    scan-fits q = subst ListsFit (some-inj q) (fits-empty κ φ)
 
 typed-next : (v : Event) (w : World) → IsTyped (callIn v) → Typed w → Typed (next v w)
 unfolding next callIn
-typed-next (called c) w r tw = go (handed c (w .node)) refl
+typed-next (called c) w r tw = go (handed (w .kind) c (w .node)) refl
   where
-    go : (x : Option Station) → handed c (w .node) ≡ x → Typed (afterCall x c w)
+    go : (x : Option Station) → handed (w .kind) c (w .node) ≡ x → Typed (afterCall x c w)
     go none e = unfold afterCall in tw
     go (some st) e =
-        let f = handed-fits c (w .node) st (tw .node) e in
-        unfold afterCall in record { node = fits-kept c st (w .store) r f (tw .store); store = bytes-kept-all c st (w .store) r f (tw .store) }
-typed-next (cut c n) w r tw = go (handed c (w .node)) refl
+        let f = handed-fits (w .kind) (tw .kind) c (w .node) st (tw .node) e in
+        unfold afterCall in record { kind = tw .kind; node = fits-kept c st (w .store) r f (tw .store); store = bytes-kept-all c st (w .store) r f (tw .store) }
+typed-next (cut c n) w r tw = go (handed (w .kind) c (w .node)) refl
   where
-    go : (x : Option Station) → handed c (w .node) ≡ x → Typed (afterCut x c n w)
+    go : (x : Option Station) → handed (w .kind) c (w .node) ≡ x → Typed (afterCut x c n w)
     go none e = unfold afterCut in tw
-    go (some st) e = unfold afterCut in record { node = tt; store = bytes-kept c st (w .store) r (handed-fits c (w .node) st (tw .node) e) (tw .store) n }
+    go (some st) e = unfold afterCut in record { kind = tw .kind; node = tt; store = bytes-kept c st (w .store) r (handed-fits (w .kind) (tw .kind) c (w .node) st (tw .node) e) (tw .store) n }
 
-pub typed-begin : Typed begin
+pub typed-begin : (κ : Kind) → KindFits κ → Typed (begin κ)
 unfolding begin
-typed-begin = record { node = fits-empty; store = bytes-zeros storeSize }
+typed-begin κ φ = record { kind = φ; node = fits-empty κ φ; store = bytes-zeros (storeSize κ) }
 
 pub typed-run : (vs : List Event) (w : World) → AllTyped vs → Typed w → Typed (run vs w)
 unfolding run AllTyped
@@ -79,7 +81,7 @@ record HostFits (h : Host) : Type 0 where
   pub store : Every IsByte (h .store)
 
 listed-typed : (h : Host) → HostFits h → Typed (listedHost h)
-listed-typed h t = record { node = go (h .node) (t .node); store = t .store }
+listed-typed h t = record { kind = narrow-fits; node = go (h .node) (t .node); store = t .store }
   where
     go : (k : Node machine.Station.Station) → NodeFits k → TypedNode (listedNode k)
     go (running st) f = listed-fits st f
@@ -95,30 +97,30 @@ unfolding lent
 lent-fits c (running st) f = f
 lent-fits c down f = go (isScan c)
   where
-    go : (b : Bool) → LentFits (cond b (some (numbered emptyStation)) none)
-    go true = numbered-fits emptyStation fits-empty
+    go : (b : Bool) → LentFits (cond b (some (numbered (emptyStation narrowKind))) none)
+    go true = numbered-fits (emptyStation narrowKind) (fits-empty narrowKind narrow-fits)
     go false = tt
 
 abbrev listedLent : Option machine.Station.Station → Option Station
 listedLent none = none
 listedLent (some st) = some (listed st)
 
-lent-is : (c : Call) (k : Node machine.Station.Station) → listedLent (lent c k) ≡ handed c (listedNode k)
+lent-is : (c : Call) (k : Node machine.Station.Station) → listedLent (lent c k) ≡ handed narrowKind c (listedNode k)
 unfolding lent handed
 lent-is c (running st) = refl
 lent-is c down = go (isScan c)
   where
-    go : (b : Bool) → listedLent (cond b (some (numbered emptyStation)) none) ≡ cond b (some emptyStation) none
-    go true = ap some (station-there emptyStation fits-empty)
+    go : (b : Bool) → listedLent (cond b (some (numbered (emptyStation narrowKind))) none) ≡ cond b (some (emptyStation narrowKind)) none
+    go true = ap some (station-there (emptyStation narrowKind) (unfold emptyStation in refl) (fits-empty narrowKind narrow-fits))
     go false = refl
 
 -- ── after a cut no station runs ──
-cut-down : (c : Call) (n : ℕ) (k : Node Station) (s : List ℕ) (b : Ledger) → next (cut c n) (record { node = k; store = s; ledger = b }) .node ≡ down
+cut-down : (c : Call) (n : ℕ) (k : Node Station) (s : List ℕ) (b : Ledger) → next (cut c n) (record { kind = narrowKind; node = k; store = s; ledger = b }) .node ≡ down
 unfolding next handed afterCut
 cut-down c n (running st) s b = refl
 cut-down c n down s b = go (isScan c)
   where
-    go : (x : Bool) → afterCut (cond x (some emptyStation) none) c n (record { node = down; store = s; ledger = b }) .node ≡ down
+    go : (x : Bool) → afterCut (cond x (some (emptyStation narrowKind)) none) c n (record { kind = narrowKind; node = down; store = s; ledger = b }) .node ≡ down
     go true = refl
     go false = refl
 
@@ -138,7 +140,7 @@ module _ (f : Functions) (m : Meets f) where
   returned-is (Step t) st s r o b = m .step st s t o b (r .0 .0)
   returned-is (Abort t) st s r o b = (m .abort st t o (r .0 .0), none-stored _ s (abort-stores-nothing (listed st) t))
   returned-is (Collect d) st s r o b = m .collect st s d o b (r .1)
-  returned-is Scan st s r o b = (m .scan s b, none-stored _ s (scan-stores-nothing s))
+  returned-is Scan st s r o b = (m .scan s b, none-stored _ s (scan-stores-nothing narrowKind s))
   returned-is (Sweep n) st s r o b = m .sweep st s n o b (r .0 .1)
 
   call-is : (c : Call) (h : Host) (x : Option machine.Station.Station) → IsTyped c → LentFits x → Every IsByte (h .store) → listedHost (afterReturn f x c h) ≡ afterCall (listedLent x) c (listedHost h)
@@ -146,12 +148,12 @@ module _ (f : Functions) (m : Meets f) where
   call-is c h none r o b = refl
   call-is c h (some st) r o b =
       let p = returned-is c st (h .store) r o b in
-      unfold outcomeOf in λ i. record { node = running (p .0 i .station); store = p .1 i; ledger = fed (reports c (p .0 i .answer) (listed st) (h .store)) (h .ledger) }
+      unfold outcomeOf in λ i. record { kind = narrowKind; node = running (p .0 i .station); store = p .1 i; ledger = fed (reports c (p .0 i .answer) (listed st) (h .store)) (h .ledger) }
 
   next-is : (v : Event) (h : Host) → IsTyped (callIn v) → HostFits h → listedHost (nextBy f v h) ≡ next v (listedHost h)
   unfolding nextBy callIn
   next-is (called c) h r t = call-is c h (lent c (h .node)) r (lent-fits c (h .node) (t .node)) (t .store) ∙ (unfold next in ap (λ (x : Option Station). afterCall x c (listedHost h)) (lent-is c (h .node)))
-  next-is (cut c n) h r t = λ i. record { node = sym (cut-down c n (listedNode (h .node)) (h .store) (h .ledger)) i; store = next (cut c n) (listedHost h) .store; ledger = next (cut c n) (listedHost h) .ledger }
+  next-is (cut c n) h r t = λ i. record { kind = sym (next-kind (cut c n) (listedHost h)) i; node = sym (cut-down c n (listedNode (h .node)) (h .store) (h .ledger)) i; store = next (cut c n) (listedHost h) .store; ledger = next (cut c n) (listedHost h) .ledger }
 
   fits-next : (v : Event) (h : Host) → IsTyped (callIn v) → HostFits h → HostFits (nextBy f v h)
   fits-next v h r t = record { node = node v r; store = subst (λ (w : World). Every IsByte (w .store)) (sym (next-is v h r t)) (typed-next v (listedHost h) r (listed-typed h t) .store) }
@@ -170,11 +172,11 @@ module _ (f : Functions) (m : Meets f) where
   run-from (v ∷ vs) h r t = run-from vs (nextBy f v h) (r .1) (fits-next v h (r .0) t) ∙ ap (run vs) (next-is v h (r .0) t)
 
   -- a history run by the functions is the definitions' own
-  pub run-is : (vs : List Event) → AllTyped vs → listedHost (runBy f vs hostBegin) ≡ run vs begin
+  pub run-is : (vs : List Event) → AllTyped vs → listedHost (runBy f vs hostBegin) ≡ run vs (begin narrowKind)
   unfolding hostBegin begin
-  run-is vs r = run-from vs hostBegin r (record { node = numbered-fits emptyStation fits-empty; store = bytes-zeros storeSize })
-      ∙ ap (λ (st : Station). run vs (record { node = running st; store = begin .store; ledger = begin .ledger })) (station-there emptyStation fits-empty)
+  run-is vs r = run-from vs hostBegin r (record { node = numbered-fits (emptyStation narrowKind) (fits-empty narrowKind narrow-fits); store = bytes-zeros (storeSize narrowKind) })
+      ∙ ap (λ (st : Station). run vs (record { kind = narrowKind; node = running st; store = begin narrowKind .store; ledger = begin narrowKind .ledger })) (station-there (emptyStation narrowKind) (unfold emptyStation in refl) (fits-empty narrowKind narrow-fits))
 
   -- the cut rule, of whatever meets the contracts
-  pub cut-rule-of-calls : (vs : List Event) → AllTyped vs → CutRule (runBy f vs hostBegin .store) (runBy f vs hostBegin .ledger)
-  cut-rule-of-calls vs r = subst (λ (w : World). CutRule (w .store) (w .ledger)) (sym (run-is vs r)) (cut-rule vs (all-in-range vs r))
+  pub cut-rule-of-calls : (vs : List Event) → AllTyped vs → CutRule narrowKind (runBy f vs hostBegin .store) (runBy f vs hostBegin .ledger)
+  cut-rule-of-calls vs r = subst (λ (w : World). CutRule narrowKind (w .store) (w .ledger)) (sym (run-is vs r)) (cut-rule narrowKind narrow-fits vs (all-in-range vs r))

@@ -13,7 +13,8 @@ use Rattle.model.specs.Types.{Entry, Station}
 use Rattle.model.specs.declared.Phase.{Phase}
 use Rattle.model.specs.declared.Phase.the-variants.{Closing}
 use Rattle.model.specs.Lists.{_and_, member, anyBelow}
-use Rattle.model.specs.Limits.{slots, numberRange, lastClock}
+use Rattle.model.specs.Limits.{numberRange, lastClock}
+use Rattle.model.specs.Kinds.{Kind}
 use Rattle.model.specs.Lives.{writesOf, readsOf, writeCount, isClosing, closingClock, withPhase}
 use Rattle.model.specs.Stations.{liveAt, setLive, isLive, isHeld, placeOf, isFree}
 use Rattle.model.specs.Slots.{free, seen}
@@ -35,14 +36,14 @@ use Rattle.history.proofs.Reckoning.{reckons, clocks-low}
 use Rattle.history.proofs.LiveLaws.{slots-set, reads-set, ranges-set, cleared}
 
 -- a free slot reads free
-free-seen : (st : Station) (s : List ℕ) → Slots st s → (d : ℕ) → d < slots → isFree st d ≡ true → seen s d ≡ free
+free-seen : (st : Station) (s : List ℕ) → Slots (st .kind) st s → (d : ℕ) → d < st .kind .slots → isFree st d ≡ true → seen (st .kind) s d ≡ free
 unfolding isFree
 free-seen st s sl d o h =
     sl .unused d o (unheld-txn st d (not-true _ (and-left _ _ h))) λ i c n e. true≢false (sym (slot-marked st i d c n e) ∙ not-true _ (and-right _ _ h))
 
 -- nothing is stored yet
-prepared-none : (s : List ℕ) (l : Live) (d c d′ c′ n′ : ℕ) → d < slots → seen s d ≡ free → Closing d c 0 ≡ Closing d′ c′ n′ → Prepared s (withPhase (Closing d c 0) l) d′ c′ n′
-prepared-none s l d c d′ c′ n′ o f e =
+prepared-none : (κ : Kind) (s : List ℕ) (l : Live) (d c d′ c′ n′ : ℕ) → d < κ .slots → seen κ s d ≡ free → Closing d c 0 ≡ Closing d′ c′ n′ → Prepared κ s (withPhase (Closing d c 0) l) d′ c′ n′
+prepared-none κ s l d c d′ c′ n′ o f e =
     let q = closing-same d c 0 d′ c′ n′ e in
     record {
       low = omega (arith, q .0);
@@ -81,12 +82,12 @@ unfolding withPhase
 txn-of p l = refl
 
 closed : (st : Station) (s : List ℕ) (b : Ledger) (t c d : ℕ) → Inv st s b → sound st ≡ true → c < numberRange → t ≢ 0 → isLive t st ≡ true
-    → isClosing (liveAt st (placeOf t st) .phase) ≡ false → d < slots → seen s d ≡ free
+    → isClosing (liveAt st (placeOf t st) .phase) ≡ false → d < st .kind .slots → seen (st .kind) s d ≡ free
     → Inv (setLive st (placeOf t st) (withPhase (Closing d c 0) (liveAt st (placeOf t st)))) s (withDrafts (revised t (closingAt c) (b .drafts)) b)
 unfolding withDrafts
 closed st s b t c d inv h oc n z nc o f = record {
-  core = inv .core;
-  slots = slots-set st s i l (inv .slots) (place-hit st t z .0) nc (λ d′ c′ n′ e. prepared-none s (liveAt st i) d c d′ c′ n′ o f (sym (phase-of _ (liveAt st i)) ∙ e));
+  core = unfold setLive in inv .core;
+  slots = unfold setLive in slots-set (st .kind) st s i l (inv .slots) (place-hit st t z .0) nc (λ d′ c′ n′ e. prepared-none (st .kind) s (liveAt st i) d c d′ c′ n′ o f (sym (phase-of _ (liveAt st i)) ∙ e));
   drafts = drafts-as _ _ _ (draft-revised t (closingAt c) (λ p. refl) (b .drafts)) (drafts-revised st (draftIn b) (inv .drafts) h t n z l (txn-of _ (liveAt st i) ∙ place-hit st t z .1) (closingAt c) (λ p m. closing-matches d c p (liveAt st i) m));
   once = once-revised t (closingAt c) (λ p. refl) (b .drafts) (inv .once);
   reads = reads-set st i l (place-hit st t z .0) (inv .reads) (phase-reads (st .entries) _ (liveAt st i) (inv .reads i));
@@ -124,7 +125,7 @@ commit-keeps st s b t c inv h oc =
     unrefused s b (Commit t c) st _
     (choice s b (Commit t c) _ _ _ (λ hh. good-says s b (Commit t c) _ _ (retried st s b t inv h hh)) λ hh.
     choice s b (Commit t c) _ _ _ (λ hw. good-says s b (Commit t c) _ _ (cleared st s b inv h t (live hh h8) h9)) λ hw.
-    let g = greatest-below (isFree st) slots (some-free hw h13) in
+    let g = greatest-below (isFree st) (st .kind .slots) (some-free hw h13) in
     good-says s b (Commit t c) _ _ (subst (λ (n : ℕ). Inv (setLive st (placeOf t st) (withPhase (Closing (highestFree st) (clockAbove c (clocks st)) 0) (liveAt st (placeOf t st)))) s (withDrafts (revised t (closingAt n) (b .drafts)) b))
     (reckons st s b inv h c) (closed st s b t (clockAbove c (clocks st)) _ inv h (low hw h21) (eqb-false t 0 h3) (live hh h8) h9 (g .0) (free-seen st s (inv .slots) _ (g .0) (g .1)))))
   where
@@ -137,5 +138,5 @@ commit-keeps st s b t c inv h oc =
     low : eqb (writeCount (liveAt st (placeOf t st))) 0 ≡ false → (leb 1 (writeCount (liveAt st (placeOf t st))) and member lastClock (clocks st)) ≡ false → clockAbove c (clocks st) < numberRange
     low hw h21 = clock-below c (clocks st) oc (clocks-low st s b inv h) (and-second _ _ h21 (written hw))
 
-    some-free : eqb (writeCount (liveAt st (placeOf t st))) 0 ≡ false → (leb 1 (writeCount (liveAt st (placeOf t st))) and not (anyBelow (isFree st) slots)) ≡ false → anyBelow (isFree st) slots ≡ true
+    some-free : eqb (writeCount (liveAt st (placeOf t st))) 0 ≡ false → (leb 1 (writeCount (liveAt st (placeOf t st))) and not (anyBelow (isFree st) (st .kind .slots))) ≡ false → anyBelow (isFree st) (st .kind .slots) ≡ true
     some-free hw h13 = not-false _ (and-second _ _ h13 (written hw))

@@ -9,6 +9,7 @@ use lib.Dec.{eqb, leb, ltb}
 use borrow.Author.Tests.{not-false}
 use Rattle.model.specs.declared.Id.{Id}
 use Rattle.model.specs.Types.{Station}
+use Rattle.model.specs.Kinds.{Kind}
 use Rattle.model.specs.declared.Answer.{Answer}
 use Rattle.model.specs.declared.Answer.the-variants as A
 use Rattle.model.specs.Lives.{writeCount, isClosing, recordsStored}
@@ -39,7 +40,7 @@ use Rattle.history.proofs.Invariant.{Core, Inv}
 use Rattle.history.proofs.DraftLaws.{some-inj}
 use Rattle.history.proofs.Collecting.{collect-keeps}
 use Rattle.history.proofs.Recovering.{scan-is}
-use Rattle.history.proofs.Theorem.{only-scan, Running, State, next-keeps}
+use Rattle.history.proofs.Theorem.{only-scan, down-kind, Running, State, next-keeps}
 
 -- where any call may come
 pub any-event : (vs : List Event) → Every (λ (v : Event). Unit {0}) vs
@@ -72,9 +73,9 @@ module _ (P : Ledger → Type 0) (Allowed : Call → Type 0) where
 
   module _ (cleared : (b : Ledger) → P b → P (withDrafts [] b)) where
     -- a scan needs no station
-    scanned : (s : List ℕ) (b : Ledger) → P b → Core s (b .standing) (b .past) → Leaves b Scan (scan s)
+    scanned : (κ : Kind) (s : List ℕ) (b : Ledger) → P b → Core κ s (b .standing) (b .past) → Leaves b Scan (scan κ s)
     unfolding feed
-    scanned s b p core = rw (scan-is s (b .standing) (b .past) core) (leaves-says b _ _ (cleared b p))
+    scanned κ s b p core = rw (scan-is κ s (b .standing) (b .past) core) (leaves-says b _ _ (cleared b p))
 
     -- ── each call ──
     module _ (st : Station) (s : List ℕ) (b : Ledger) (inv : Inv st s b) (p : P b) (k : RowsKeep st b) where
@@ -110,7 +111,7 @@ module _ (P : Ledger → Type 0) (Allowed : Call → Type 0) where
       feeds (Abort t) a = row 2 _ _ _ λ h2. row 3 _ _ _ λ h3. row 8 _ _ _ λ h8. row 9 _ _ _ λ h9. rest _ (leaves-says b _ _ (k .torn t))
       feeds (Collect d) a = row 1 _ _ _ λ h1. row 2 _ _ _ λ h2. row 14 _ _ _ λ h14. row 15 _ _ _ λ h15. row 16 _ _ _ λ h16. row 17 _ _ _ λ h17.
           rest _ (leaves-stores b _ _ _ _ _ (k .collected d (held-txn st d (not-false _ (or-right _ _ h14))) (not-false _ h15)))
-      feeds Scan a = scanned s b p (inv .core)
+      feeds Scan a = scanned (st .kind) s b p (inv .core)
       feeds (Sweep n) a = row 1 _ _ _ λ h1. row 2 _ _ _ λ h2. row 20 _ _ _ λ h20. rest _ (record { holds = p })
 
     -- ── what the ledger is fed for a call, and for one cut short ──
@@ -147,24 +148,24 @@ module _ (P : Ledger → Type 0) (Allowed : Call → Type 0) where
       all-fed c st s b a h inv p = cond-rule (λ (rs : List Report). AllFed rs b) (isSweep c) _ _ (λ y. collects _ st s b h inv p) (λ y. one-more _ [] b p (nothing _ (feeds st s b inv p (each st s b inv h p) c a .holds)))
 
       -- ── a history ──
-      handed-feeds : (c : Call) (n : Node Station) (st : Station) (s : List ℕ) (b : Ledger) → Allowed c → Core s (b .standing) (b .past) → Running n s b → handed c n ≡ some st → P b → AllFed (reports c (does c st s .answer) st s) b
+      handed-feeds : (κ : Kind) (c : Call) (n : Node Station) (st : Station) (s : List ℕ) (b : Ledger) → Allowed c → Core κ s (b .standing) (b .past) → Running κ n s b → handed κ c n ≡ some st → P b → AllFed (reports c (does c st s .answer) st s) b
       unfolding handed
-      handed-feeds c (running st₀) st s b a core r e p = subst (λ (x : Station). AllFed (reports c (does c x s .answer) x s) b) (some-inj e) (all-fed c st₀ s b a (r .0) (r .1) p)
-      handed-feeds c down st s b a core r e p = subst (λ (x : Call). AllFed (reports x (does x st s .answer) st s) b) (sym (only-scan c st e))
-          (unfold reports isSweep does in one-more _ [] b p (nothing _ (scanned s b p core .holds)))
+      handed-feeds κ c (running st₀) st s b a core r e p = subst (λ (x : Station). AllFed (reports c (does c x s .answer) x s) b) (some-inj e) (all-fed c st₀ s b a (r .0) (r .1) p)
+      handed-feeds κ c down st s b a core r e p = subst (λ (x : Call). AllFed (reports x (does x st s .answer) st s) b) (sym (only-scan κ c st e))
+          (unfold reports isSweep does in one-more _ [] b p (nothing _ (scanned (st .kind) s b p (subst (λ (x : Kind). Core x s (b .standing) (b .past)) (sym (down-kind κ c st e)) core) .holds)))
 
       next-feeds : (v : Event) (w : World) → Allowed (callIn v) → State w → P (w .ledger) → P (next v w .ledger)
       unfolding next callIn
-      next-feeds (called c) w a sw p = go (handed c (w .node)) refl
+      next-feeds (called c) w a sw p = go (handed (w .kind) c (w .node)) refl
         where
-          go : (x : Option Station) → handed c (w .node) ≡ x → P (afterCall x c w .ledger)
+          go : (x : Option Station) → handed (w .kind) c (w .node) ≡ x → P (afterCall x c w .ledger)
           go none e = unfold afterCall in p
-          go (some st) e = unfold afterCall in handed-feeds c (w .node) st (w .store) (w .ledger) a (sw .lasts .core) (sw .runs) e p .whole
-      next-feeds (cut c n) w a sw p = go (handed c (w .node)) refl
+          go (some st) e = unfold afterCall in handed-feeds (w .kind) c (w .node) st (w .store) (w .ledger) a (sw .lasts .core) (sw .runs) e p .whole
+      next-feeds (cut c n) w a sw p = go (handed (w .kind) c (w .node)) refl
         where
-          go : (x : Option Station) → handed c (w .node) ≡ x → P (afterCut x c n w .ledger)
+          go : (x : Option Station) → handed (w .kind) c (w .node) ≡ x → P (afterCut x c n w .ledger)
           go none e = unfold afterCut in p
-          go (some st) e = unfold afterCut in handed-feeds c (w .node) st (w .store) (w .ledger) a (sw .lasts .core) (sw .runs) e p .cut-short n
+          go (some st) e = unfold afterCut in handed-feeds (w .kind) c (w .node) st (w .store) (w .ledger) a (sw .lasts .core) (sw .runs) e p .cut-short n
 
       -- whatever comes, cuts included
       pub run-feeds : (vs : List Event) (w : World) → Every (λ (v : Event). Allowed (callIn v)) vs → AllInRange vs → State w → P (w .ledger) → P (run vs w .ledger)

@@ -84,7 +84,7 @@ module _ (st : Station) (s : List ℕ) (b : Ledger) (inv : Inv st s b) (h : soun
     unfolding readsOf
     none-read =
         let f : length (l .reads) ≡ readLimit = unfold liveAt in every-at LiveFits (st .live) (fits .live) (placeOf u st) _ (place-hit st u lives .0) .read-places in
-        let o = read-limit l (live-facts st h (placeOf u st) (λ y. is-numbered (sym (place-hit st u lives .1) ∙ y)) .sets) in
+        let o = read-limit (st .kind) l (live-facts st h (placeOf u st) (λ y. is-numbered (sym (place-hit st u lives .1) ∙ y)) .sets) in
         sym (length-take-le (l .«read_count») (l .reads) (omega (arith, f, o))) ∙ ap length no-reads
 
     room : (d : ℕ) → noRoom l k (version d) ≡ false
@@ -95,7 +95,7 @@ module _ (st : Station) (s : List ℕ) (b : Ledger) (inv : Inv st s b) (h : soun
     module _ (d : ℕ) (held : entryAt st d .id .txn ≢ 0) (w : wrote (entryAt st d) k ≡ true) where
       low : k < keys
       unfolding wrote
-      low = ascending-member 0 keys k (keysOf (entryAt st d)) (right-ascending (entryAt st d) (sound-at st h .entry d)) w .1
+      low = ascending-member 0 keys k (keysOf (entryAt st d)) (right-ascending (st .kind) (entryAt st d) (sound-at st h .entry d)) w .1
 
       chosen-one : (c : ℕ) × (choiceOf st l k ≡ version c) × (older (entryAt st c .id) (entryAt st d .id) ≡ false)
       unfolding choiceOf
@@ -124,14 +124,14 @@ module _ (st : Station) (s : List ℕ) (b : Ledger) (inv : Inv st s b) (h : soun
         → (v : ℕ) × (j : Id) × (get st s u k .answer ≡ A.Version v j) × (((j ≡ J .id) × (J .values k ≡ some v)) ⊎ Newer j (J .id))
     first-get-answers J wk sh = (valueIn (versionAt st s k c), entryAt st c .id, first-get d (x .1) wd, compared (bool-cases (older (entryAt st d .id) (entryAt st c .id))) (sh .newest))
       where
-        x : (n : ℕ) × (entryAt st n .id .txn ≢ 0) × (sh .by ≡ committedIn s n (entryAt st n))
+        x : (n : ℕ) × (entryAt st n .id .txn ≢ 0) × (sh .by ≡ committedIn (st .kind) s n (entryAt st n))
         x = entered-one st s b inv h (sh .by) (sh .stands) (sh .ended)
 
         d : ℕ
         d = x .0
 
         wd : wrote (entryAt st d) k ≡ true
-        wd = committed-wrote s d (entryAt st d) k (subst (λ (j : Committed). Wrote j k) (x .2) (⊎-elim (λ y. subst (λ (j : Committed). Wrote j k) (sym y) wk) (λ y. y .0) (sh .newest)))
+        wd = committed-wrote (st .kind) s d (entryAt st d) k (subst (λ (j : Committed). Wrote j k) (x .2) (⊎-elim (λ y. subst (λ (j : Committed). Wrote j k) (sym y) wk) (λ y. y .0) (sh .newest)))
 
         r : (n : ℕ) × (choiceOf st l k ≡ version n) × (older (entryAt st n .id) (entryAt st d .id) ≡ false)
         r = chosen-one d (x .1) wd
@@ -140,7 +140,7 @@ module _ (st : Station) (s : List ℕ) (b : Ledger) (inv : Inv st s b) (h : soun
         c = r .0
 
         by-id : sh .by .id ≡ entryAt st d .id
-        by-id = ap (λ (j : Committed). j .id) (x .2) ∙ committed-id s d (entryAt st d)
+        by-id = ap (λ (j : Committed). j .id) (x .2) ∙ committed-id (st .kind) s d (entryAt st d)
 
         -- the same entry
         here : older (entryAt st d .id) (entryAt st c .id) ≡ false → entryAt st d .id ≡ entryAt st c .id
@@ -151,10 +151,10 @@ module _ (st : Station) (s : List ℕ) (b : Ledger) (inv : Inv st s b) (h : soun
         compared (inl o) (inl y) = inr (subst (λ (i : Id). Newer (entryAt st c .id) i) (sym by-id ∙ ap (λ (j : Committed). j .id) y) o)
         compared (inl o) (inr y) = inr (older-trans (J .id) (entryAt st d .id) (entryAt st c .id) (subst (λ (i : Id). older (J .id) i ≡ true) by-id (y .1)) o)
         compared (inr o) (inr y) = inr (subst (λ (i : Id). older (J .id) i ≡ true) (by-id ∙ here o) (y .1))
-        compared (inr o) (inl y) = inl (sym (here o) ∙ (sym by-id ∙ ap (λ (j : Committed). j .id) y), ap (λ (j : Committed). j .values k) (sym y ∙ (x .2 ∙ ap (λ (n : ℕ). committedIn s n (entryAt st n)) dc)) ∙ value)
+        compared (inr o) (inl y) = inl (sym (here o) ∙ (sym by-id ∙ ap (λ (j : Committed). j .id) y), ap (λ (j : Committed). j .values k) (sym y ∙ (x .2 ∙ ap (λ (n : ℕ). committedIn (st .kind) s n (entryAt st n)) dc)) ∙ value)
           where
             dc : d ≡ c
             dc = one-slot st h d c (ap (λ (i : Id). i .txn) (here o)) (x .1)
 
-            value : committedIn s c (entryAt st c) .values k ≡ some (valueIn (versionAt st s k c))
-            value = unfold versionAt in wrote-committed s c (entryAt st c) k (subst (λ (n : ℕ). wrote (entryAt st n) k ≡ true) dc wd)
+            value : committedIn (st .kind) s c (entryAt st c) .values k ≡ some (valueIn (versionAt st s k c))
+            value = unfold versionAt in wrote-committed (st .kind) s c (entryAt st c) k (subst (λ (n : ℕ). wrote (entryAt st n) k ≡ true) dc wd)

@@ -9,6 +9,7 @@ use native.Mathlib.Decide.{ℕ-discrete}
 use Rattle.model.specs.declared.Live.{Live}
 use Rattle.model.specs.Types.{Entry, Station}
 use Rattle.model.specs.declared.Phase.the-variants.{Closing}
+use Rattle.model.specs.Kinds.{Kind}
 use Rattle.model.specs.Lives.{noLive, writesOf, readsOf, isClosing, closingClock}
 use Rattle.model.specs.Stations.{liveAt, setLive, isLive, placeOf}
 use Rattle.model.specs.Sound.{sound}
@@ -19,12 +20,12 @@ use Rattle.history.proofs.Invariant.{Prepared, Slots, draftIn, AtomicRe
 use Rattle.history.proofs.DraftLaws.{draft-without, once-without, drafts-as, drafts-cleared}
 
 -- a place that is not closing is replaced
-pub slots-set : (st : Station) (s : List ℕ) (i : ℕ) (l : Live) → Slots st s → i < length (st .live) → isClosing (liveAt st i .phase) ≡ false
-    → ((d c n : ℕ) → l .phase ≡ Closing d c n → Prepared s l d c n) → Slots (setLive st i l) s
-slots-set st s i l sl o nc pr = record {
+pub slots-set : (κ : Kind) (st : Station) (s : List ℕ) (i : ℕ) (l : Live) → Slots κ st s → i < length (st .live) → isClosing (liveAt st i .phase) ≡ false
+    → ((d c n : ℕ) → l .phase ≡ Closing d c n → Prepared κ s l d c n) → Slots κ (setLive st i l) s
+slots-set κ st s i l sl o nc pr = record {
   count = unfold setLive in sl .count;
   entered = λ d. rw (setLive-entry st i l d) (sl .entered d);
-  closing = setLive-at st i l (λ j x. (d c n : ℕ) → x .phase ≡ Closing d c n → Prepared s x d c n) o pr (λ j nj. sl .closing j);
+  closing = setLive-at st i l (λ j x. (d c n : ℕ) → x .phase ≡ Closing d c n → Prepared κ s x d c n) o pr (λ j nj. sl .closing j);
   unused = λ d od. rw (setLive-entry st i l d) (λ z un. sl .unused d od z (still d un));
 }
   where
@@ -63,8 +64,8 @@ pub cleared : (st : Station) (s : List ℕ) (b : Ledger) → Inv st s b → soun
     → Inv (setLive st (placeOf t st) noLive) s (withDrafts (without t (b .drafts)) b)
 unfolding withDrafts
 cleared st s b inv h t z nc = record {
-  core = inv .core;
-  slots = slots-set st s (placeOf t st) noLive (inv .slots) (place-hit st t z .0) nc (λ d c n e. absurd (not-closing (noLive .phase) d c n noLive-open e));
+  core = unfold setLive in inv .core;
+  slots = unfold setLive in slots-set (st .kind) st s (placeOf t st) noLive (inv .slots) (place-hit st t z .0) nc (λ d c n e. absurd (not-closing (noLive .phase) d c n noLive-open e));
   drafts = drafts-as _ _ _ (draft-without t (b .drafts)) (drafts-cleared st (draftIn b) (inv .drafts) h t z);
   once = once-without t (b .drafts) (inv .once);
   reads = reads-set st (placeOf t st) noLive (place-hit st t z .0) (inv .reads) (noLive-reads (st .entries));

@@ -7,10 +7,10 @@ use lib.Dec.{eqb, ltb}
 use lib.ListN.{length}
 use borrow.Author.Tests.{not-false, eq-eqb}
 use Rattle.model.specs.Types.{Station}
+use Rattle.model.specs.Kinds.{Kind, storeSize, KindFits}
 use Rattle.model.specs.declared.Answer.{Answer}
 use Rattle.model.specs.declared.Answer.the-variants as A
 use Rattle.model.specs.Lists.{any, member}
-use Rattle.model.specs.Limits.{storeSize}
 use Rattle.model.specs.Lives.{writeCount, recordsStored}
 use Rattle.model.specs.Stations.{liveAt, entryAt, isHeld, placeOf}
 use Rattle.model.specs.Sound.{sound}
@@ -67,9 +67,9 @@ off : (n : ℕ) (b : Bool) (rs : List Row) (st : Station) (e : Effect) → b ≡
 off n b rs st e h c = rw (skipped n b rs st e h) c
 
 module _ (st : Station) (s : List ℕ) (b : Ledger) (h : sound st ≡ true) (inv : Inv st s b) where
-  pub off1 : wrongLength s ≡ false
+  pub off1 : wrongLength (st .kind) s ≡ false
   unfolding wrongLength
-  off1 = not-of-true _ (eq-eqb (length s) storeSize (inv .core .size))
+  off1 = not-of-true _ (eq-eqb (length s) (storeSize (st .kind)) (inv .core .size))
 
   pub off2 : unsound st ≡ false
   unfolding unsound
@@ -83,7 +83,7 @@ module _ (st : Station) (s : List ℕ) (b : Ledger) (h : sound st ≡ true) (inv
   off17 i k (nofit x) e = refl
   off17 i k (version d) e =
       let r = version-entry st (liveAt st i) k d e in
-      not-of-true _ (committed-version s d (entryAt st d) (inv .slots .entered d (wrote-held st h d k (r .1))) k (r .1))
+      not-of-true _ (committed-version (st .kind) s d (entryAt st d) (inv .slots .entered d (wrote-held st h d k (r .1))) k (r .1))
 
   pub calm : (c : Call) → Calm (does c st s)
   unfolding does start put get commit step abort collect sweep stepped answered member any refusedWith
@@ -104,10 +104,10 @@ module _ (st : Station) (s : List ℕ) (b : Ledger) (h : sound st ≡ true) (inv
       cond-rule Calm (eqb (recordsStored (liveAt st (placeOf t st) .phase)) (writeCount (liveAt st (placeOf t st)))) _ _ (λ w. calm-stores _ _ _ _ _ refl) λ w. calm-says _ _ refl)))
   calm (Abort t) = off 2 _ _ st _ off2 (row 3 _ _ st _ refl λ h3. row 8 _ _ st _ refl λ h8. row 9 _ _ st _ refl λ h9. unguarded Calm st _ (calm-says _ _ refl))
   calm (Collect d) = off 1 _ _ st _ off1 (off 2 _ _ st _ off2 (row 14 _ _ st _ refl λ h14. row 15 _ _ st _ refl λ h15. row 16 _ _ st _ refl λ h16.
-      off 17 _ _ st _ (not-of-true _ (committed-carries s d (entryAt st d) (inv .slots .entered d (held-txn st d (not-false _ (or-right _ _ h14)))))) (unguarded Calm st _ (calm-stores _ _ _ _ _ refl))))
+      off 17 _ _ st _ (not-of-true _ (committed-carries (st .kind) s d (entryAt st d) (inv .slots .entered d (held-txn st d (not-false _ (or-right _ _ h14)))))) (unguarded Calm st _ (calm-stores _ _ _ _ _ refl))))
   calm (Sweep n) = off 1 _ _ st _ off1 (off 2 _ _ st _ off2 (row 20 _ _ st _ refl λ h20. unguarded Calm st _ (calm-stores-all _ _ _ refl)))
-  calm Scan = rw (scan-is s (b .standing) (b .past) (inv .core)) (calm-says _ _ refl)
+  calm Scan = rw (scan-is (st .kind) s (b .standing) (b .past) (inv .core)) (calm-says _ _ refl)
 
-pub never-refused : (vs : List Event) → AllInRange vs → (st : Station) → run vs begin .node ≡ running st → (c : Call) → member (refusedWith (does c st (run vs begin .store) .answer)) faults ≡ false
+pub never-refused : (κ : Kind) → KindFits κ → (vs : List Event) → AllInRange vs → (st : Station) → run vs (begin κ) .node ≡ running st → (c : Call) → member (refusedWith (does c st (run vs (begin κ) .store) .answer)) faults ≡ false
 unfolding Calm
-never-refused vs f st e c = let r = running-keeps vs f st e in calm _ _ _ (r .0) (r .1) c
+never-refused κ φ vs f st e c = let r = running-keeps κ φ vs f st e in calm _ _ _ (r .0) (r .1) c

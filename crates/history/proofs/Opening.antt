@@ -63,8 +63,8 @@ started : (st : Station) (s : List ℕ) (b : Ledger) (t : ℕ) → Inv st s b �
     → Inv (setLive st (placeOf 0 st) (opened t)) s (withDrafts (blankDraft t ∷ without t (b .drafts)) b)
 unfolding withDrafts
 started st s b t inv h o n nl z = record {
-  core = inv .core;
-  slots = slots-set st s (placeOf 0 st) (opened t) (inv .slots) at-0 (unused-open st h (placeOf 0 st) is-0) (λ d c m e. absurd (not-closing (opened t .phase) d c m (opened-open t) e));
+  core = unfold setLive in inv .core;
+  slots = unfold setLive in slots-set (st .kind) st s (placeOf 0 st) (opened t) (inv .slots) at-0 (unused-open st h (placeOf 0 st) is-0) (λ d c m e. absurd (not-closing (opened t .phase) d c m (opened-open t) e));
   drafts = drafts-as _ _ _ (draft-new (blankDraft t) (b .drafts)) (drafts-set st (draftIn b) (inv .drafts) t (placeOf 0 st) (opened t) _ at-0 (λ y. absurd (y is-0))
       (λ j nj e y. true≢false (sym (subst (λ (u : ℕ). isLive u st ≡ true) e (is-live st j y)) ∙ nl))
       (λ p e. (n, unfold opened in refl, subst (λ (y : Draft). Matches y (opened t)) (some-inj e) (opened-matches t)))
@@ -141,8 +141,8 @@ kept : (st : Station) (s : List ℕ) (b : Ledger) (t k v : ℕ) → Inv st s b �
     (withDrafts (revised t (keeping k v) (b .drafts)) b)
 unfolding withDrafts
 kept st s b t k v inv h o n z nc = record {
-  core = inv .core;
-  slots = slots-set st s i l (inv .slots) (place-hit st t z .0) nc (λ d c m e. absurd (not-closing (l .phase) d c m open-still e));
+  core = unfold setLive in inv .core;
+  slots = unfold setLive in slots-set (st .kind) st s i l (inv .slots) (place-hit st t z .0) nc (λ d c m e. absurd (not-closing (l .phase) d c m open-still e));
   drafts = drafts-as _ _ _ (draft-revised t (keeping k v) (λ p. refl) (b .drafts)) (drafts-revised st (draftIn b) (inv .drafts) h t n z l same-txn (keeping k v) (λ p m. put-matches k v p (liveAt st i) nc m));
   once = once-revised t (keeping k v) (λ p. refl) (b .drafts) (inv .once);
   reads = reads-set st i l (place-hit st t z .0) (inv .reads) same-reads;

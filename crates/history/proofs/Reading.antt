@@ -119,8 +119,8 @@ module _ (st : Station) (s : List ℕ) (b : Ledger) (inv : Inv st s b) (h : soun
       (withDrafts (revised t (reading k (entryAt st d .id)) (b .drafts)) b)
   unfolding l withDrafts
   version-read = record {
-    core = inv .core;
-    slots = slots-set st s i l (inv .slots) (place-hit st t z .0) nc (λ d c m e. absurd (not-closing (l .phase) d c m l-open e));
+    core = unfold setLive in inv .core;
+    slots = unfold setLive in slots-set (st .kind) st s i l (inv .slots) (place-hit st t z .0) nc (λ d c m e. absurd (not-closing (l .phase) d c m l-open e));
     drafts = drafts-as _ _ _ (draft-revised t (reading k (entryAt st d .id)) (λ p. refl) (b .drafts)) (drafts-revised st (draftIn b) (inv .drafts) h t n z l (unfold withRead withReads in place-hit st t z .1) (reading k (entryAt st d .id)) l-matches);
     once = once-revised t (reading k (entryAt st d .id)) (λ p. refl) (b .drafts) (inv .once);
     reads = reads-set st i l (place-hit st t z .0) (inv .reads) (rw l-reads (λ r q mr mq. atomic r q (joined r .0 mr) (joined q .0 mq)));

@@ -20,7 +20,7 @@ use Rattle.model.specs.Sound.{sound}
 use Rattle.model.proofs.ListLaws.{map-mem, mem-map}
 use Rattle.model.proofs.ClockLaws.{maximum-mem, maximum-most, entry-clock, live-clock, clock-by}
 use Rattle.model.proofs.StationLaws.{live-in, entry-in, open-clock, closing-in}
-use Rattle.model.proofs.SoundFacts.{one-place, unheld-clockless, unused-open}
+use Rattle.model.proofs.SoundFacts.{held-below, one-place, unheld-clockless, unused-open}
 use Rattle.history.specs.Ledger.{Draft, Committed, Ledger, clocksIn}
 use Rattle.history.specs.CutRule.{committedIn}
 use Rattle.history.proofs.Invariant.{Inv}
@@ -45,8 +45,8 @@ module _ (b : Ledger) where
 
 module _ (st : Station) (s : List ℕ) (b : Ledger) (inv : Inv st s b) (h : sound st ≡ true) where
   -- an entry stands
-  pub entry-stands : (d : ℕ) → entryAt st d .id .txn ≢ 0 → List·Memᴰ (committedIn s d (entryAt st d)) (b .standing)
-  entry-stands d n = stands s (b .standing) (inv .core .found) d (entryAt st d) (omega (arith, entry-in st d n, inv .slots .count)) (inv .slots .entered d n)
+  pub entry-stands : (d : ℕ) → entryAt st d .id .txn ≢ 0 → List·Memᴰ (committedIn (st .kind) s d (entryAt st d)) (b .standing)
+  entry-stands d n = stands (st .kind) s (b .standing) (inv .core .found) d (entryAt st d) (held-below st h d n) (inv .slots .entered d n)
 
   -- the draft of a live transaction has its clock
   live-draft : (i : ℕ) → liveAt st i .txn ≢ 0 → (p : Draft) × List·Memᴰ p (b .drafts) × (p .clock ≡ closingClock (liveAt st i .phase))
@@ -61,7 +61,7 @@ module _ (st : Station) (s : List ℕ) (b : Ledger) (inv : Inv st s b) (h : soun
     where
       entry : (d : ℕ) → Dec (entryAt st d .id .txn ≡ 0) → entryAt st d .id .clock ≤ maximum (clocksIn b)
       entry d (yes z) = omega (arith, unheld-clockless st h d z)
-      entry d (no n) = subst (λ (i : Id). i .clock ≤ maximum (clocksIn b)) (committed-id s d (entryAt st d)) (maximum-mem (clocksIn b) _ (standing-clock b _ (entry-stands d n)))
+      entry d (no n) = subst (λ (i : Id). i .clock ≤ maximum (clocksIn b)) (committed-id (st .kind) s d (entryAt st d)) (maximum-mem (clocksIn b) _ (standing-clock b _ (entry-stands d n)))
 
       live : (i : ℕ) → Dec (liveAt st i .txn ≡ 0) → closingClock (liveAt st i .phase) ≤ maximum (clocksIn b)
       live i (yes z) = omega (arith, open-clock _ (unused-open st h i z))
@@ -80,8 +80,8 @@ module _ (st : Station) (s : List ℕ) (b : Ledger) (inv : Inv st s b) (h : soun
 
       standing : (j : Committed) → List·Memᴰ j (b .standing) → j .id .clock ≤ maximum (clocks st)
       standing j mj =
-          let r = stands-in s (b .standing) (inv .core .found) j mj in
-          subst (λ (i : Id). i .clock ≤ maximum (clocks st)) (sym (ap (λ (x : Committed). x .id) (r .4) ∙ committed-id s (r .0) (r .2))) (owned (r .0) (r .2) (owner st s (inv .slots) (r .0) (r .2) (r .1) (r .3)))
+          let r = stands-in (st .kind) s (b .standing) (inv .core .found) j mj in
+          subst (λ (i : Id). i .clock ≤ maximum (clocks st)) (sym (ap (λ (x : Committed). x .id) (r .4) ∙ committed-id (st .kind) s (r .0) (r .2))) (owned (r .0) (r .2) (owner st s (inv .slots) (r .0) (r .2) (r .1) (r .3)))
 
       draft : (p : Draft) → List·Memᴰ p (b .drafts) → p .clock ≤ maximum (clocks st)
       draft p mp =
@@ -99,4 +99,4 @@ module _ (st : Station) (s : List ℕ) (b : Ledger) (inv : Inv st s b) (h : soun
     where
       entry : (d : ℕ) → Dec (entryAt st d .id .txn ≡ 0) → entryAt st d .id .clock < numberRange
       entry d (yes z) = omega (arith, unheld-clockless st h d z)
-      entry d (no n) = subst (λ (i : Id). i .clock < numberRange) (committed-id s d (entryAt st d)) (inv .core .recorded _ (inv .core .kept _ (entry-stands d n)) .0)
+      entry d (no n) = subst (λ (i : Id). i .clock < numberRange) (committed-id (st .kind) s d (entryAt st d)) (inv .core .recorded _ (inv .core .kept _ (entry-stands d n)) .0)

@@ -6,6 +6,7 @@ use mathlib.Core.Bool.{true}
 use mathlib.Core.List.{List, [], _∷_, map}
 use Rattle.model.specs.declared as machine
 use Rattle.model.specs.Types.{Entry, Station, Outcome}
+use Rattle.model.specs.Kinds.{Kind, narrowKind}
 use Rattle.model.specs.Lists.{all}
 use Rattle.model.specs.Listed.{listedEntries, listed, numberedEntry, numbered}
 use Rattle.model.specs.Ranges.{Every, IsByte, StationFits, ListsFit}
@@ -22,16 +23,16 @@ use Rattle.history.specs.Contracts.{Returned, Functions, Meets, returned
 use Rattle.history.proofs.Carried.{returned-is}
 
 -- ── a station translated there and back is itself ──
-entries-there : (es : List Entry) → all entryRight es ≡ true → listedEntries (map numberedEntry es) ≡ es
-entries-there [] h = refl
-entries-there (e ∷ es) h = ap₂ (λ (x : Entry) (xs : List Entry). x ∷ xs)
-    (λ z. record { id = e .id; keys = number-set (e .keys) (right-ascending e (all-head entryRight e es h)) z })
-    (entries-there es (all-tail entryRight e es h))
+entries-there : (κ : Kind) (es : List Entry) → all (entryRight κ) es ≡ true → listedEntries (map numberedEntry es) ≡ es
+entries-there κ [] h = refl
+entries-there κ (e ∷ es) h = ap₂ (λ (x : Entry) (xs : List Entry). x ∷ xs)
+    (λ z. record { id = e .id; keys = number-set (e .keys) (right-ascending κ e (all-head (entryRight κ) e es h)) z })
+    (entries-there κ es (all-tail (entryRight κ) e es h))
 
 -- a sound station of the definitions: its key lists ascend
-pub sound-there : (st : Station) → sound st ≡ true → listed (numbered st) ≡ st
+pub sound-there : (st : Station) → st .kind ≡ narrowKind → sound st ≡ true → listed (numbered st) ≡ st
 unfolding sound
-sound-there st h = λ z. record { live = st .live; entries = entries-there (st .entries) (and-left _ _ (and-left _ _ (and-left _ _ h))) z }
+sound-there st k h = λ z. record { kind = sym k z; live = st .live; entries = entries-there (st .kind) (st .entries) (and-left _ _ (and-left _ _ (and-left _ _ (and-left _ _ h)))) z }
 
 -- every station of the machine, the sound ones among them
 pub sound-back : (st : machine.Station.Station) → StationFits st → numbered (listed st) ≡ st
@@ -58,13 +59,13 @@ module _ (f : Functions) (m : Meets f) (c : Call) (s : List ℕ) (typed : IsType
         station-listed = there;
       }
 
-  pub same-answers-from-lists : (st : Station) → ListsFit st → Same (returned f c (numbered st) s) (does c st s) s
-  same-answers-from-lists st o = subst (λ (x : Station). Same (returned f c (numbered st) s) (does c x s) s) (station-there st o) (same-answers-from-numbers (numbered st) (numbered-fits st o))
+  pub same-answers-from-lists : (st : Station) → st .kind ≡ narrowKind → ListsFit st → Same (returned f c (numbered st) s) (does c st s) s
+  same-answers-from-lists st k o = subst (λ (x : Station). Same (returned f c (numbered st) s) (does c x s) s) (station-there st k o) (same-answers-from-numbers (numbered st) (numbered-fits st o))
 
   -- ── soundness is kept both ways ──
-  pub sound-both-ways : ((st : Station) → ListsFit st → sound st ≡ true → sound (listed (returned f c (numbered st) s .outcome .station)) ≡ true)
+  pub sound-both-ways : ((st : Station) → st .kind ≡ narrowKind → ListsFit st → sound st ≡ true → sound (listed (returned f c (numbered st) s .outcome .station)) ≡ true)
       × ((st : machine.Station.Station) → StationFits st → sound (listed st) ≡ true → sound (listed (returned f c st s .outcome .station)) ≡ true)
   sound-both-ways = (
-    λ st o h. ap sound (same-answers-from-lists st o .station-listed) ∙ sound-kept c st s h,
+    λ st k o h. ap sound (same-answers-from-lists st k o .station-listed) ∙ sound-kept c st s h,
     λ st o h. ap sound (same-answers-from-numbers st o .station-listed) ∙ sound-kept c (listed st) s h,
   )

@@ -11,7 +11,7 @@ use Rattle.model.specs.declared.Live.{Live}
 use Rattle.model.specs.Types.{Entry, Station}
 use Rattle.model.specs.declared.Phase.the-variants.{Closing}
 use Rattle.model.specs.Lists.{first, member}
-use Rattle.model.specs.Limits.{slots, writeLimit, width}
+use Rattle.model.specs.Kinds.{Kind, width}
 use Rattle.model.specs.Lives.{writeCount, closingClock, recordsStored}
 use Rattle.model.specs.Entries.{entryFor}
 use Rattle.model.specs.Stations.{liveAt, entryAt, closingSlots}
@@ -26,35 +26,35 @@ use Rattle.model.proofs.SoundLaws.{write-limit, writes-length}
 use Rattle.model.proofs.SoundFacts.{one-place, live-not-held, closing-facts}
 use Rattle.history.proofs.Invariant.{Prepared, Slots}
 
--- a live transaction writes at most eight keys
-pub writes-few : (l : Live) → setsRight l ≡ true → writeCount l ≤ writeLimit
-writes-few l h = omega (arith, writes-length l, write-limit l h)
+-- a live transaction writes no more keys than its kind may
+pub writes-few : (κ : Kind) (l : Live) → setsRight κ l ≡ true → writeCount l ≤ κ .writeLimit
+writes-few κ l h = omega (arith, writes-length l, write-limit κ l h)
 
 -- the same records: the slot is as far as it was
-pub prepared-frame : (s s′ : List ℕ) (l : Live) (d c n : ℕ) → writeCount l ≤ writeLimit → ((m : ℕ) → m < width → recordAt s′ d m ≡ recordAt s d m) → Prepared s l d c n → Prepared s′ l d c n
-prepared-frame s s′ l d c n o f pr = record {
+pub prepared-frame : (κ : Kind) (s s′ : List ℕ) (l : Live) (d c n : ℕ) → writeCount l ≤ κ .writeLimit → ((m : ℕ) → m < width κ → recordAt κ s′ d m ≡ recordAt κ s d m) → Prepared κ s l d c n → Prepared κ s′ l d c n
+prepared-frame κ s s′ l d c n o f pr = record {
   low = pr .low;
   versions = λ j a b. f (suc j) (omega arith) ∙ pr .versions j a b;
-  unmarked = λ a. seen-frame s′ s d d f ∙ pr .unmarked a;
-  marked = λ a. seen-frame s′ s d d f ∙ pr .marked a;
+  unmarked = λ a. seen-frame κ s′ s d d f ∙ pr .unmarked a;
+  marked = λ a. seen-frame κ s′ s d d f ∙ pr .marked a;
 }
 
-pub data Kind (st : Station) (s : List ℕ) (d : ℕ) : Type 0 where
-  entered : entryAt st d .id .txn ≢ 0 → Kind st s d
-  closing : (i c n : ℕ) → liveAt st i .phase ≡ Closing d c n → Kind st s d
-  nobodys : seen s d ≡ free → Kind st s d
+pub data Held (st : Station) (s : List ℕ) (d : ℕ) : Type 0 where
+  entered : entryAt st d .id .txn ≢ 0 → Held st s d
+  closing : (i c n : ℕ) → liveAt st i .phase ≡ Closing d c n → Held st s d
+  nobodys : seen (st .kind) s d ≡ free → Held st s d
 
-pub kind : (st : Station) (s : List ℕ) → Slots st s → (d : ℕ) → d < slots → Kind st s d
-kind st s sl d o = go (ℕ-discrete (entryAt st d .id .txn) 0)
+pub held : (st : Station) (s : List ℕ) → Slots (st .kind) st s → (d : ℕ) → d < st .kind .slots → Held st s d
+held st s sl d o = go (ℕ-discrete (entryAt st d .id .txn) 0)
   where
-    find : entryAt st d .id .txn ≡ 0 → (b : Bool) → member (suc d) (closingSlots st) ≡ b → Kind st s d
+    find : entryAt st d .id .txn ≡ 0 → (b : Bool) → member (suc d) (closingSlots st) ≡ b → Held st s d
     find z true h =
         let r = member-finds (suc d) (closingSlots st) h in
         let i : ℕ = first (eqb (suc d)) (closingSlots st) in
         closing i (closingClock (liveAt st i .phase)) (recordsStored (liveAt st i .phase)) (marked (liveAt st i .phase) d (sym (mark-at st i) ∙ r .1))
     find z false h = nobodys (sl .unused d o z λ i c n e. true≢false (sym (slot-marked st i d c n e) ∙ h))
 
-    go : Dec (entryAt st d .id .txn ≡ 0) → Kind st s d
+    go : Dec (entryAt st d .id .txn ≡ 0) → Held st s d
     go (no n) = entered n
     go (yes z) = find z _ refl
 
@@ -66,21 +66,21 @@ pub data Owner (st : Station) (d : ℕ) (e : Entry) : Type 0 where
 pub not-free : {A : Type 0} (x : Seen) (e : Entry) → x ≡ committed e → x ≡ free → A
 not-free x e h k = absurd (committed≢free e (sym h ∙ k))
 
-pub owner : (st : Station) (s : List ℕ) → Slots st s → (d : ℕ) (e : Entry) → d < slots → seen s d ≡ committed e → Owner st d e
-owner st s sl d e o h = go (kind st s sl d o)
+pub owner : (st : Station) (s : List ℕ) → Slots (st .kind) st s → (d : ℕ) (e : Entry) → d < st .kind .slots → seen (st .kind) s d ≡ committed e → Owner st d e
+owner st s sl d e o h = go (held st s sl d o)
   where
-    go : Kind st s d → Owner st d e
+    go : Held st s d → Owner st d e
     go (entered n) = by-entry n (committed-injective e _ (sym h ∙ sl .entered d n))
     go (closing i c n q) = full (decLt (writeCount (liveAt st i)) n)
       where
         full : Dec (writeCount (liveAt st i) < n) → Owner st d e
         full (yes y) = by-live i c n q y (committed-injective e _ (sym h ∙ sl .closing i d c n q .marked y))
-        full (no y) = not-free (seen s d) e h (sl .closing i d c n q .unmarked (omega arith))
-    go (nobodys f) = not-free (seen s d) e h f
+        full (no y) = not-free (seen (st .kind) s d) e h (sl .closing i d c n q .unmarked (omega arith))
+    go (nobodys f) = not-free (seen (st .kind) s d) e h f
 
 -- a closing transaction's number stands in no slot but its own
-pub unseen : (st : Station) (s : List ℕ) → Slots st s → sound st ≡ true → (i d c n d′ : ℕ) (e : Entry) → liveAt st i .phase ≡ Closing d c n → d′ ≢ d → d′ < slots
-    → seen s d′ ≡ committed e → e .id .txn ≡ liveAt st i .txn → ⊥
+pub unseen : (st : Station) (s : List ℕ) → Slots (st .kind) st s → sound st ≡ true → (i d c n d′ : ℕ) (e : Entry) → liveAt st i .phase ≡ Closing d c n → d′ ≢ d → d′ < st .kind .slots
+    → seen (st .kind) s d′ ≡ committed e → e .id .txn ≡ liveAt st i .txn → ⊥
 unseen st s sl h i d c n d′ e q nd o hd et = go (owner st s sl d′ e o hd)
   where
     real : liveAt st i .txn ≢ 0

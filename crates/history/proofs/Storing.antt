@@ -5,7 +5,7 @@ use mathlib.Core.Logic.{_≢_, inl, inr, ⊎-elim}
 use mathlib.Core.Bool.{Bool, true, false, cond, false≢true}
 use mathlib.Core.List.{List, [], _∷_, _++_, map, List·Permᴰ, List·Permᴰ·cons, List·Permᴰ·trans, List·Memᴰ, List·Memᴰ·head, List·Memᴰ·tail, List·Memᴰ·cases-cons}
 use mathlib.Core.Option.{Option, some, none}
-use lib.Dec.{eqb, ltb, lit<}
+use lib.Dec.{eqb, ltb}
 use lib.ListN.{length, getD, length-map, List·getD-map}
 use lib.Seq.{getD-take}
 use native.Mathlib.Nat.{lt-irrefl, not-suc-le-zero}
@@ -21,7 +21,8 @@ use Rattle.model.specs.Types.{Entry, Station}
 use Rattle.model.specs.declared.Phase.{Phase}
 use Rattle.model.specs.declared.Phase.the-variants.{Unused, Open, Closing}
 use Rattle.model.specs.Lists.{any, first, member, same}
-use Rattle.model.specs.Limits.{slots, recordSize, width, storeSize, numberRange}
+use Rattle.model.specs.Limits.{recordSize, numberRange}
+use Rattle.model.specs.Kinds.{Kind, width, storeSize}
 use Rattle.model.specs.Lives.{noWrite, noLive, writesOf, readsOf, writeCount, writeKey, isClosing, closingSlot, closingClock, recordsStored, withPhase}
 use Rattle.model.specs.Entries.{keysOf, wrote, wroteAs, entryIn, commitRecord, entryRules, recordOf, entryFor}
 use Rattle.model.specs.Stations.{liveAt, entryAt, setLive, setEntry, isLive, placeOf}
@@ -39,7 +40,7 @@ use Rattle.model.proofs.InsideLaws.{entryFor-txn, entryFor-id, entryFor-phase}
 use Rattle.model.proofs.SlotLaws.{committed-injective, committed≢damaged, free≢damaged, seen-frame, seen-free, seen-free-mark, seen-committed}
 use Rattle.model.proofs.ReadingLaws.{wrote-as, as-wrote}
 use Rattle.model.proofs.StationLaws.{place-hit, entry-get, setLive-at, liveAt-same, liveAt-other, setLive-entry, setEntry-at, entryAt-same, entryAt-other, setEntry-live, setEntry-length, not-closing, closing-same, clock-closing}
-use Rattle.model.proofs.SoundLaws.{sound-at, writes-length, entryFor-sound}
+use Rattle.model.proofs.SoundLaws.{sound-at, writes-length, entryFor-set, entryFor-sound}
 use Rattle.model.proofs.SoundFacts.{live-not-held, one-closing, IsClosing, closing-facts}
 use Rattle.history.specs.Ledger.{Draft, Committed, Ledger, draftOf, without, withDrafts, at, committedFrom, feed}
 use Rattle.history.specs.CutRule.{committedIn}
@@ -55,8 +56,8 @@ use Rattle.history.proofs.SlotOwners.{writes-few, prepared-frame, not-f
 
 -- ── a closing transaction writes to its slot ──
 module _ (st : Station) (s s′ : List ℕ) (b : Ledger) (inv : Inv st s b) (h : sound st ≡ true) (t d c n m : ℕ) (nz : t ≢ 0) (z : isLive t st ≡ true)
-    (q : liveAt st (placeOf t st) .phase ≡ Closing d c n) (size′ : length s′ ≡ storeSize)
-    (frame : (d′ k : ℕ) → d′ ≢ d → k < width → recordAt s′ d′ k ≡ recordAt s d′ k) where
+    (q : liveAt st (placeOf t st) .phase ≡ Closing d c n) (size′ : length s′ ≡ storeSize (st .kind))
+    (frame : (d′ k : ℕ) → d′ ≢ d → k < width (st .kind) → recordAt (st .kind) s′ d′ k ≡ recordAt (st .kind) s d′ k) where
   abbrev i : ℕ
   i = placeOf t st
 
@@ -72,19 +73,19 @@ module _ (st : Station) (s s′ : List ℕ) (b : Ledger) (inv : Inv st s b) (h :
   facts : IsClosing st (liveAt st i) d c n
   facts = closing-facts st h i d c n q
 
-  sl : Slots st s
+  sl : Slots (st .kind) st s
   sl = inv .slots
 
-  seen-other : (d′ : ℕ) → d′ ≢ d → seen s′ d′ ≡ seen s d′
-  seen-other d′ nd = seen-frame s′ s d′ d′ (λ k o. frame d′ k nd o)
+  seen-other : (d′ : ℕ) → d′ ≢ d → seen (st .kind) s′ d′ ≡ seen (st .kind) s d′
+  seen-other d′ nd = seen-frame (st .kind) s′ s d′ d′ (λ k o. frame d′ k nd o)
 
-  slots-step : Prepared s′ now d c m → Slots after s′
+  slots-step : Prepared (st .kind) s′ now d c m → Slots (st .kind) after s′
   slots-step pr = record {
     count = unfold setLive in sl .count;
     entered = λ d′. rw (setLive-entry st i now d′) (λ y. seen-other d′ (λ e. y (ap (λ (x : ℕ). entryAt st x .id .txn) e ∙ facts .unheld)) ∙ sl .entered d′ y);
-    closing = setLive-at st i now (λ j x. (d′ c′ n′ : ℕ) → x .phase ≡ Closing d′ c′ n′ → Prepared s′ x d′ c′ n′) oi
+    closing = setLive-at st i now (λ j x. (d′ c′ n′ : ℕ) → x .phase ≡ Closing d′ c′ n′ → Prepared (st .kind) s′ x d′ c′ n′) oi
         (λ d′ c′ n′ e. let r = closing-same d c m d′ c′ n′ (sym (phase-of (Closing d c m) (liveAt st i)) ∙ e) in rw (← (r .0), ← (r .1), ← (r .2)) pr)
-        (λ j nj d′ c′ n′ e. prepared-frame s s′ (liveAt st j) d′ c′ n′ (writes-few (liveAt st j) (closing-facts st h j d′ c′ n′ e .used .sets)) (λ k o. frame d′ k (other-slot j d′ c′ n′ nj e) o) (sl .closing j d′ c′ n′ e));
+        (λ j nj d′ c′ n′ e. prepared-frame (st .kind) s s′ (liveAt st j) d′ c′ n′ (writes-few (st .kind) (liveAt st j) (closing-facts st h j d′ c′ n′ e .used .sets)) (λ k o. frame d′ k (other-slot j d′ c′ n′ nj e) o) (sl .closing j d′ c′ n′ e));
     unused = λ d′ od. rw (setLive-entry st i now d′) (λ y un.
         let nd : d′ ≢ d = (λ e. un i c m (ap (λ (x : Live). x .phase) (liveAt-same st i now oi) ∙ (phase-of (Closing d c m) (liveAt st i) ∙ ap (λ (x : ℕ). Closing x c m) (sym e)))) in
         seen-other d′ nd ∙ sl .unused d′ od y (λ j c′ n′ e. still d′ nd un j c′ n′ e (ℕ-discrete j i)));
@@ -104,11 +105,12 @@ module _ (st : Station) (s s′ : List ℕ) (b : Ledger) (inv : Inv st s b) (h :
     reads = unfold withPhase readsOf in mt .reads;
   }
 
-  -- the other slots are as they were
-  core-step : (seen s′ d ≡ damaged → ⊥) → ((d′ : ℕ) (e e′ : Entry) → d′ ≢ d → d′ < slots → seen s′ d ≡ committed e → seen s d′ ≡ committed e′ → e .id .txn ≡ e′ .id .txn → ⊥)
-      → (standing past : List Committed) → List·Permᴰ (inStore s′) standing → ((j : Committed) → List·Memᴰ j standing → List·Memᴰ j past) → ((j : Committed) → List·Memᴰ j past → Dominated standing j)
-      → ((j : Committed) → List·Memᴰ j past → Recorded j) → Core s′ standing past
+  -- the other (st .kind .slots) are as they were
+  core-step : (seen (st .kind) s′ d ≡ damaged → ⊥) → ((d′ : ℕ) (e e′ : Entry) → d′ ≢ d → d′ < st .kind .slots → seen (st .kind) s′ d ≡ committed e → seen (st .kind) s d′ ≡ committed e′ → e .id .txn ≡ e′ .id .txn → ⊥)
+      → (standing past : List Committed) → List·Permᴰ (inStore (st .kind) s′) standing → ((j : Committed) → List·Memᴰ j standing → List·Memᴰ j past) → ((j : Committed) → List·Memᴰ j past → Dominated standing j)
+      → ((j : Committed) → List·Memᴰ j past → Recorded j) → Core (st .kind) s′ standing past
   core-step whole one standing past found kept dominated recorded = record {
+    fits = inv .core .fits;
     size = size′;
     undamaged = λ d′ o x. go d′ o x (ℕ-discrete d′ d);
     single = λ d₁ d₂ e₁ e₂ o₁ o₂ h₁ h₂ et. two d₁ d₂ e₁ e₂ o₁ o₂ h₁ h₂ et (ℕ-discrete d₁ d) (ℕ-discrete d₂ d);
@@ -118,21 +120,21 @@ module _ (st : Station) (s s′ : List ℕ) (b : Ledger) (inv : Inv st s b) (h :
     recorded = recorded;
   }
     where
-      go : (d′ : ℕ) → d′ < slots → seen s′ d′ ≡ damaged → Dec (d′ ≡ d) → ⊥
-      go d′ o x (yes y) = whole (subst (λ (k : ℕ). seen s′ k ≡ damaged) y x)
+      go : (d′ : ℕ) → d′ < st .kind .slots → seen (st .kind) s′ d′ ≡ damaged → Dec (d′ ≡ d) → ⊥
+      go d′ o x (yes y) = whole (subst (λ (k : ℕ). seen (st .kind) s′ k ≡ damaged) y x)
       go d′ o x (no y) = inv .core .undamaged d′ o (sym (seen-other d′ y) ∙ x)
 
-      two : (d₁ d₂ : ℕ) (e₁ e₂ : Entry) → d₁ < slots → d₂ < slots → seen s′ d₁ ≡ committed e₁ → seen s′ d₂ ≡ committed e₂ → e₁ .id .txn ≡ e₂ .id .txn → Dec (d₁ ≡ d) → Dec (d₂ ≡ d) → d₁ ≡ d₂
+      two : (d₁ d₂ : ℕ) (e₁ e₂ : Entry) → d₁ < st .kind .slots → d₂ < st .kind .slots → seen (st .kind) s′ d₁ ≡ committed e₁ → seen (st .kind) s′ d₂ ≡ committed e₂ → e₁ .id .txn ≡ e₂ .id .txn → Dec (d₁ ≡ d) → Dec (d₂ ≡ d) → d₁ ≡ d₂
       two d₁ d₂ e₁ e₂ o₁ o₂ h₁ h₂ et (yes y₁) (yes y₂) = y₁ ∙ sym y₂
-      two d₁ d₂ e₁ e₂ o₁ o₂ h₁ h₂ et (yes y₁) (no y₂) = absurd (one d₂ e₁ e₂ y₂ o₂ (subst (λ (x : ℕ). seen s′ x ≡ committed e₁) y₁ h₁) (sym (seen-other d₂ y₂) ∙ h₂) et)
-      two d₁ d₂ e₁ e₂ o₁ o₂ h₁ h₂ et (no y₁) (yes y₂) = absurd (one d₁ e₂ e₁ y₁ o₁ (subst (λ (x : ℕ). seen s′ x ≡ committed e₂) y₂ h₂) (sym (seen-other d₁ y₁) ∙ h₁) (sym et))
+      two d₁ d₂ e₁ e₂ o₁ o₂ h₁ h₂ et (yes y₁) (no y₂) = absurd (one d₂ e₁ e₂ y₂ o₂ (subst (λ (x : ℕ). seen (st .kind) s′ x ≡ committed e₁) y₁ h₁) (sym (seen-other d₂ y₂) ∙ h₂) et)
+      two d₁ d₂ e₁ e₂ o₁ o₂ h₁ h₂ et (no y₁) (yes y₂) = absurd (one d₁ e₂ e₁ y₁ o₁ (subst (λ (x : ℕ). seen (st .kind) s′ x ≡ committed e₂) y₂ h₂) (sym (seen-other d₁ y₁) ∙ h₁) (sym et))
       two d₁ d₂ e₁ e₂ o₁ o₂ h₁ h₂ et (no y₁) (no y₂) = inv .core .single d₁ d₂ e₁ e₂ o₁ o₂ (sym (seen-other d₁ y₁) ∙ h₁) (sym (seen-other d₂ y₂) ∙ h₂) et
 
   -- what is left to show: the slot, and the standing transactions
-  pub step-inv : Prepared s′ now d c m → (standing past : List Committed) → Core s′ standing past → Inv after s′ (record { drafts = b .drafts; standing = standing; past = past })
+  pub step-inv : Prepared (st .kind) s′ now d c m → (standing past : List Committed) → Core (st .kind) s′ standing past → Inv after s′ (record { drafts = b .drafts; standing = standing; past = past })
   step-inv pr standing past cr = record {
-    core = cr;
-    slots = slots-step pr;
+    core = unfold setLive in cr;
+    slots = unfold setLive in slots-step pr;
     drafts = drafts-same st (draftIn b) (inv .drafts) h t nz z now (txn-of _ (liveAt st i) ∙ place-hit st t z .1) same-matches;
     once = inv .once;
     reads = reads-set st i now oi (inv .reads) (phase-reads (st .entries) _ (liveAt st i) (inv .reads i));
@@ -167,11 +169,11 @@ unfolding writesOf
 nth-written l j o = getD-take (l .«write_count») (l .writes) j noWrite (omega (arith, o, writes-length l))
 
 -- the transaction in the slot is the draft's
-pub committed-of-draft : (s : List ℕ) (d c n : ℕ) (l : Live) (p : Draft) → l .phase ≡ Closing d c n → Ranges l → Matches p l
-    → ((j : ℕ) → j < writeCount l → recordAt s d (suc j) ≡ versionRecord (nth l j .key) (record { clock = c; txn = l .txn }) (nth l j .value))
-    → committedIn s d (entryFor l) ≡ record { id = record { clock = p .clock; txn = l .txn }; values = p .values }
+pub committed-of-draft : (κ : Kind) (s : List ℕ) (d c n : ℕ) (l : Live) (p : Draft) → l .phase ≡ Closing d c n → Ranges l → Matches p l
+    → ((j : ℕ) → j < writeCount l → recordAt κ s d (suc j) ≡ versionRecord (nth l j .key) (record { clock = c; txn = l .txn }) (nth l j .value))
+    → committedIn κ s d (entryFor l) ≡ record { id = record { clock = p .clock; txn = l .txn }; values = p .values }
 unfolding committedIn
-committed-of-draft s d c n l p q rg mt f = λ y. record { id = same-id y; values = fun-ext values y }
+committed-of-draft κ s d c n l p q rg mt f = λ y. record { id = same-id y; values = fun-ext values y }
   where
     ks : List ℕ
     ks = map writeKey (writesOf l)
@@ -179,13 +181,13 @@ committed-of-draft s d c n l p q rg mt f = λ y. record { id = same-id y; values
     same-id : entryFor l .id ≡ record { clock = p .clock; txn = l .txn }
     same-id = entryFor-id l d c n q ∙ ap (λ (x : ℕ). record { clock = x; txn = l .txn }) (sym (mt .clock ∙ clock-closing _ d c n q))
 
-    value : (k : ℕ) → member k ks ≡ true → _≡_ {A = Option ℕ} (some (valueIn (recordAt s d (suc (first (eqb k) ks))))) (some (getD (writesOf l) (first (eqb k) ks) noWrite .value))
+    value : (k : ℕ) → member k ks ≡ true → _≡_ {A = Option ℕ} (some (valueIn (recordAt κ s d (suc (first (eqb k) ks))))) (some (getD (writesOf l) (first (eqb k) ks) noWrite .value))
     value k h =
         let j : ℕ = first (eqb k) ks in
         let o : j < writeCount l = subst (λ (x : ℕ). j < x) (length-map (writesOf l) writeKey) (member-finds k ks h .0) in
         ap some (ap valueIn (f j o) ∙ (version-value _ _ _ (rw (← (nth-written l j o)) (rg .values _ (getD-mem (writesOf l) j noWrite o))) ∙ ap (λ (w : Write). w .value) (sym (nth-written l j o))))
 
-    values : (k : ℕ) → _≡_ {A = Option ℕ} (cond (wrote (entryFor l) k) (some (valueIn (recordAt s d (recordOf (entryFor l) k)))) none) (p .values k)
+    values : (k : ℕ) → _≡_ {A = Option ℕ} (cond (wrote (entryFor l) k) (some (valueIn (recordAt κ s d (recordOf (entryFor l) k)))) none) (p .values k)
     values k = unfold wrote recordOf in rw (keys-for l) (cond-frame (member k ks) _ _ none (value k) ∙ (sym (lookup-first (writesOf l) k) ∙ sym (mt .values k)))
 
 -- ── the first n steps: a version record ──
@@ -194,7 +196,7 @@ module _ (st : Station) (s : List ℕ) (b : Ledger) (inv : Inv st s b) (h : soun
   abbrev l : Live
   l = liveAt st (placeOf t st)
 
-  pr : Prepared s l d c n
+  pr : Prepared (st .kind) s l d c n
   pr = inv .slots .closing (placeOf t st) d c n q
 
   closes : IsClosing st l d c n
@@ -203,44 +205,44 @@ module _ (st : Station) (s : List ℕ) (b : Ledger) (inv : Inv st s b) (h : soun
   abbrev content : List ℕ
   content = versionRecord (nth l n .key) (record { clock = c; txn = l .txn }) (nth l n .value)
 
-  pub version-stored : n < writeCount l → Inv (setLive st (placeOf t st) (withPhase (Closing d c (n + 1)) l)) (withRecord s d (n + 1) content) b
+  pub version-stored : n < writeCount l → Inv (setLive st (placeOf t st) (withPhase (Closing d c (n + 1)) l)) (withRecord (st .kind) s d (n + 1) content) b
   version-stored o = step-inv st s s′ b inv h t d c n (n + 1) nz z q size′ frame prepared (b .standing) (b .past)
-      (core-step st s s′ b inv h t d c n (n + 1) nz z q size′ frame (λ x. free≢damaged (sym unmarked ∙ x)) (λ d′ e e′ nd o′ x. not-free (seen s′ d) e x unmarked) (b .standing) (b .past)
-      (rw (in-store s′, hold-same s s′ slots 0 (λ d′ y. same d′ (ℕ-discrete d′ d)), ← in-store) (inv .core .found)) (inv .core .kept) (inv .core .dominated) (inv .core .recorded))
+      (core-step st s s′ b inv h t d c n (n + 1) nz z q size′ frame (λ x. free≢damaged (sym unmarked ∙ x)) (λ d′ e e′ nd o′ x. not-free (seen (st .kind) s′ d) e x unmarked) (b .standing) (b .past)
+      (rw (in-store (st .kind) s′, hold-same (st .kind) s s′ (st .kind .slots) 0 (λ d′ y. same d′ (ℕ-discrete d′ d)), ← in-store (st .kind)) (inv .core .found)) (inv .core .kept) (inv .core .dominated) (inv .core .recorded))
     where
       s′ : List ℕ
-      s′ = withRecord s d (n + 1) content
+      s′ = withRecord (st .kind) s d (n + 1) content
 
       lb : length content ≡ recordSize
       lb = length-version (nth l n .key) (record { clock = c; txn = l .txn }) (nth l n .value)
 
-      on : n + 1 < width
-      on = omega (arith, o, writes-few l (closes .used .sets))
+      on : n + 1 < width (st .kind)
+      on = omega (arith, o, writes-few (st .kind) l (closes .used .sets))
 
-      size′ : length s′ ≡ storeSize
-      size′ = with-length s d (n + 1) content (inv .core .size) (pr .low) on lb ∙ inv .core .size
+      size′ : length s′ ≡ storeSize (st .kind)
+      size′ = with-length (st .kind) s d (n + 1) content (inv .core .size) (pr .low) on lb ∙ inv .core .size
 
-      frame : (d′ k : ℕ) → d′ ≢ d → k < width → recordAt s′ d′ k ≡ recordAt s d′ k
-      frame d′ k nd ok = record-elsewhere s d (n + 1) content (inv .core .size) (pr .low) on lb d′ k nd ok
+      frame : (d′ k : ℕ) → d′ ≢ d → k < width (st .kind) → recordAt (st .kind) s′ d′ k ≡ recordAt (st .kind) s d′ k
+      frame d′ k nd ok = record-elsewhere (st .kind) s d (n + 1) content (inv .core .size) (pr .low) on lb d′ k nd ok
 
-      other : (k : ℕ) → k ≢ n + 1 → recordAt s′ d k ≡ recordAt s d k
-      other k nk = record-other s d (n + 1) content (inv .core .size) (pr .low) on lb k nk
+      other : (k : ℕ) → k ≢ n + 1 → recordAt (st .kind) s′ d k ≡ recordAt (st .kind) s d k
+      other k nk = record-other (st .kind) s d (n + 1) content (inv .core .size) (pr .low) on lb k nk
 
-      was : seen s d ≡ free
+      was : seen (st .kind) s d ≡ free
       was = pr .unmarked (omega arith)
 
-      unmarked : seen s′ d ≡ free
-      unmarked = seen-free s′ d (rw (other 0 (omega arith)) (seen-free-mark s d was))
+      unmarked : seen (st .kind) s′ d ≡ free
+      unmarked = seen-free (st .kind) s′ d (rw (other 0 (omega arith)) (seen-free-mark (st .kind) s d was))
 
-      same : (d′ : ℕ) → Dec (d′ ≡ d) → slotHolds s′ d′ ≡ slotHolds s d′
-      same d′ (yes e) = rw e (holds-free s′ d unmarked ∙ sym (holds-free s d was))
-      same d′ (no e) = holds-frame s s′ d′ (λ k ok. frame d′ k e ok)
+      same : (d′ : ℕ) → Dec (d′ ≡ d) → slotHolds (st .kind) s′ d′ ≡ slotHolds (st .kind) s d′
+      same d′ (yes e) = rw e (holds-free (st .kind) s′ d unmarked ∙ sym (holds-free (st .kind) s d was))
+      same d′ (no e) = holds-frame (st .kind) s s′ d′ (λ k ok. frame d′ k e ok)
 
-      stored-at : (j : ℕ) → j < n + 1 → j < writeCount l → Dec (j ≡ n) → recordAt s′ d (suc j) ≡ versionRecord (nth l j .key) (record { clock = c; txn = l .txn }) (nth l j .value)
-      stored-at j a x (yes e) = rw (e, ← (add-one n)) (record-same s d (n + 1) content (inv .core .size) (pr .low) on lb)
+      stored-at : (j : ℕ) → j < n + 1 → j < writeCount l → Dec (j ≡ n) → recordAt (st .kind) s′ d (suc j) ≡ versionRecord (nth l j .key) (record { clock = c; txn = l .txn }) (nth l j .value)
+      stored-at j a x (yes e) = rw (e, ← (add-one n)) (record-same (st .kind) s d (n + 1) content (inv .core .size) (pr .low) on lb)
       stored-at j a x (no e) = other (suc j) (λ y. e (omega arith)) ∙ pr .versions j (omega arith) x
 
-      prepared : Prepared s′ (withPhase (Closing d c (n + 1)) l) d c (n + 1)
+      prepared : Prepared (st .kind) s′ (withPhase (Closing d c (n + 1)) l) d c (n + 1)
       prepared = record {
         low = pr .low;
         versions = λ j a x. unfold withPhase in stored-at j a (omega (arith, x, phase-writes (Closing d c (n + 1)) l)) (ℕ-discrete j n);
@@ -252,22 +254,23 @@ module _ (st : Station) (s : List ℕ) (b : Ledger) (inv : Inv st s b) (h : soun
   abbrev E : Entry
   E = entryFor l
 
-  fits : Fits E
+  fits : Fits (st .kind) E
   unfolding entryFor closingClock
   fits = record {
+    kind = inv .core .fits;
     txn32 = inv .ranges (placeOf t st) .txn;
     clock64 = inv .ranges (placeOf t st) .clock;
-    keys8 = omega (arith, length-map (writesOf l) writeKey, writes-few l (closes .used .sets));
+    set = entryFor-set (st .kind) (st .entries) l (closes .used);
   }
 
   c-low : c < numberRange
   c-low = omega (arith, inv .ranges (placeOf t st) .clock, clock-closing _ d c n q)
 
-  rules : entryRules E ≡ true
+  rules : entryRules (st .kind) E ≡ true
   rules = entryFor-sound st (sound-at st h) (placeOf t st) (subst (λ (p : Phase). isClosing p ≡ true) (sym q) (unfold isClosing in refl))
 
   pub commit-stored : n ≡ writeCount l → (p : Draft) → Matches p l
-      → Inv (setLive st (placeOf t st) (withPhase (Closing d c (n + 1)) l)) (withRecord s d 0 (commitRecord E))
+      → Inv (setLive st (placeOf t st) (withPhase (Closing d c (n + 1)) l)) (withRecord (st .kind) s d 0 (commitRecord (st .kind) E))
       (record {
         drafts = b .drafts;
         standing = record { id = record { clock = p .clock; txn = l .txn }; values = p .values } ∷ b .standing;
@@ -291,48 +294,48 @@ module _ (st : Station) (s : List ℕ) (b : Ledger) (inv : Inv st s b) (h : soun
           (omega (arith, c-low, mt .clock, clock-closing _ d c n q), r .0, (r .1, mt .values (r .0) ∙ r .2))
 
       s′ : List ℕ
-      s′ = withRecord s d 0 (commitRecord E)
+      s′ = withRecord (st .kind) s d 0 (commitRecord (st .kind) E)
 
-      lb : length (commitRecord E) ≡ recordSize
-      lb = length-commit E (fits .keys8)
+      lb : length (commitRecord (st .kind) E) ≡ recordSize
+      lb = length-commit (st .kind) E (inv .core .fits) (fits .set)
 
-      size′ : length s′ ≡ storeSize
-      size′ = with-length s d 0 (commitRecord E) (inv .core .size) (pr .low) (lit< tt) lb ∙ inv .core .size
+      size′ : length s′ ≡ storeSize (st .kind)
+      size′ = with-length (st .kind) s d 0 (commitRecord (st .kind) E) (inv .core .size) (pr .low) (omega arith) lb ∙ inv .core .size
 
-      frame : (d′ k : ℕ) → d′ ≢ d → k < width → recordAt s′ d′ k ≡ recordAt s d′ k
-      frame d′ k nd ok = record-elsewhere s d 0 (commitRecord E) (inv .core .size) (pr .low) (lit< tt) lb d′ k nd ok
+      frame : (d′ k : ℕ) → d′ ≢ d → k < width (st .kind) → recordAt (st .kind) s′ d′ k ≡ recordAt (st .kind) s d′ k
+      frame d′ k nd ok = record-elsewhere (st .kind) s d 0 (commitRecord (st .kind) E) (inv .core .size) (pr .low) (omega arith) lb d′ k nd ok
 
-      was : seen s d ≡ free
+      was : seen (st .kind) s d ≡ free
       was = pr .unmarked (omega (arith, en))
 
-      stored-at : (j : ℕ) → j < writeCount l → recordAt s′ d (suc j) ≡ versionRecord (nth l j .key) (record { clock = c; txn = l .txn }) (nth l j .value)
-      stored-at j o = record-other s d 0 (commitRecord E) (inv .core .size) (pr .low) (lit< tt) lb (suc j) (omega arith) ∙ pr .versions j (omega (arith, en)) o
+      stored-at : (j : ℕ) → j < writeCount l → recordAt (st .kind) s′ d (suc j) ≡ versionRecord (nth l j .key) (record { clock = c; txn = l .txn }) (nth l j .value)
+      stored-at j o = record-other (st .kind) s d 0 (commitRecord (st .kind) E) (inv .core .size) (pr .low) (omega arith) lb (suc j) (omega arith) ∙ pr .versions j (omega (arith, en)) o
 
-      at-0 : recordAt s′ d 0 ≡ commitRecord E
-      at-0 = record-same s d 0 (commitRecord E) (inv .core .size) (pr .low) (lit< tt) lb
+      at-0 : recordAt (st .kind) s′ d 0 ≡ commitRecord (st .kind) E
+      at-0 = record-same (st .kind) s d 0 (commitRecord (st .kind) E) (inv .core .size) (pr .low) (omega arith) lb
 
       key-at : (j : ℕ) → j < writeCount l → getD (keysOf E) j 0 ≡ nth l j .key
       key-at j o = ap (λ (x : List ℕ). getD x j 0) (keys-for l) ∙ (List·getD-map writeKey (writesOf l) j noWrite ∙ ap writeKey (nth-written l j o))
 
-      carried : (j : ℕ) → j < length (keysOf E) → carriesVersion (recordAt s′ d (suc j)) (getD (keysOf E) j 0) (E .id) ≡ true
+      carried : (j : ℕ) → j < length (keysOf E) → carriesVersion (recordAt (st .kind) s′ d (suc j)) (getD (keysOf E) j 0) (E .id) ≡ true
       carried j o =
           let o′ : j < writeCount l = omega (arith, o, ap length (keys-for l) ∙ length-map (writesOf l) writeKey) in
           rw (stored-at j o′, key-at j o′, entryFor-id l d c n q) (version-round _ (record { clock = c; txn = l .txn }) _ (inv .ranges (placeOf t st) .txn) c-low)
 
-      full : seen s′ d ≡ committed E
-      full = seen-committed s′ d E (rw at-0 (commit-rules E fits ∙ rules)) (ap entryIn at-0 ∙ entry-round E fits) carried
+      full : seen (st .kind) s′ d ≡ committed E
+      full = seen-committed (st .kind) s′ d E (inv .core .fits) (rw at-0 (commit-rules (st .kind) E fits ∙ rules)) (ap (entryIn (st .kind)) at-0 ∙ entry-round (st .kind) E fits) carried
 
-      same : committedIn s′ d E ≡ J
-      same = committed-of-draft s′ d c n l p q (inv .ranges (placeOf t st)) mt stored-at
+      same : committedIn (st .kind) s′ d E ≡ J
+      same = committed-of-draft (st .kind) s′ d c n l p q (inv .ranges (placeOf t st)) mt stored-at
 
-      perm : List·Permᴰ (inStore s′) (committedIn s′ d E ∷ inStore s)
-      perm = rw (in-store s′, in-store s) (hold-one-more s s′ (committedIn s′ d E) d (holds-free s d was) (holds-committed s′ d E full) (λ d′ nd. holds-frame s s′ d′ (λ k ok. frame d′ k nd ok)) slots 0 (omega arith) (omega (arith, pr .low)))
+      perm : List·Permᴰ (inStore (st .kind) s′) (committedIn (st .kind) s′ d E ∷ inStore (st .kind) s)
+      perm = rw (in-store (st .kind) s′, in-store (st .kind) s) (hold-one-more (st .kind) s s′ (committedIn (st .kind) s′ d E) d (holds-free (st .kind) s d was) (holds-committed (st .kind) s′ d E full) (λ d′ nd. holds-frame (st .kind) s s′ d′ (λ k ok. frame d′ k nd ok)) (st .kind .slots) 0 (omega arith) (omega (arith, pr .low)))
 
       more : (j : Committed) → Dominated (b .standing) j → Dominated (J ∷ b .standing) j
       more j (inl x) = inl (List·Memᴰ·tail x)
       more j (inr f) = inr (λ k w. let r = f k w in (r .0, List·Memᴰ·tail (r .1), r .2, r .3))
 
-      prepared : Prepared s′ (withPhase (Closing d c (n + 1)) l) d c (n + 1)
+      prepared : Prepared (st .kind) s′ (withPhase (Closing d c (n + 1)) l) d c (n + 1)
       prepared = record {
         low = pr .low;
         versions = λ j a x. unfold withPhase in stored-at j (omega (arith, x, phase-writes (Closing d c (n + 1)) l));
@@ -351,7 +354,7 @@ module _ (st : Station) (s : List ℕ) (b : Ledger) (inv : Inv st s b) (h : soun
   live-end P x y j = rw (setEntry-live cleared-st d E j) (setLive-at st (placeOf t st) noLive P (place-hit st t z .0) x y j)
 
   d-inside : d < length (cleared-st .entries)
-  d-inside = unfold setLive in omega (arith, pr .low, inv .slots .count)
+  d-inside = unfold setLive in omega (arith, pr .low, inv .slots .count, inv .core .fits .slots-fit)
 
   entry-end : (P : ℕ → Entry → Type 0) → P d E → ((k : ℕ) → k ≢ d → P k (entryAt st k)) → (k : ℕ) → P k (entryAt end k)
   entry-end P x y = setEntry-at cleared-st d E P d-inside x (λ k nk. rw (setLive-entry st (placeOf t st) noLive k) (y k nk))
@@ -382,27 +385,30 @@ module _ (st : Station) (s : List ℕ) (b : Ledger) (inv : Inv st s b) (h : soun
           subst (λ (y : Id). wroteAs (st .entries) y x ≡ true) (ap (λ (y : Entry). y .id) (entry-get st c o) ∙ g .0)
           (as-wrote (st .entries) x c o (subst (λ (y : Entry). wrote y x ≡ true) (sym (entry-get st c o)) (g .1)))
 
-  pub acknowledged : writeCount l < n → Inv end s (withDrafts (without t (b .drafts)) b)
-  unfolding withDrafts
-  acknowledged o = record {
-    core = inv .core;
-    slots = record {
-      count = setEntry-length cleared-st d E ∙ (unfold setLive in inv .slots .count);
-      entered = entry-end (λ k x. x .id .txn ≢ 0 → seen s k ≡ committed x) (λ y. pr .marked o) (λ k nk. inv .slots .entered k);
-      closing = live-end (λ j x. (d′ c′ n′ : ℕ) → x .phase ≡ Closing d′ c′ n′ → Prepared s x d′ c′ n′) (λ d′ c′ n′ e. absurd (not-closing (noLive .phase) d′ c′ n′ noLive-open e)) (λ j nj. inv .slots .closing j);
-      unused = λ d′ od. entry-end (λ k x. k < slots → x .id .txn ≡ 0 → ((j c′ n′ : ℕ) → liveAt end j .phase ≡ Closing k c′ n′ → ⊥) → seen s k ≡ free)
-          (λ ok e un. absurd (closes .used .numbered (sym (entryFor-txn l) ∙ e)))
-          (λ k nk ok e un. inv .slots .unused k ok e (λ j c′ n′ y. was k nk un j c′ n′ y (ℕ-discrete j (placeOf t st)))) d′ od;
-    };
-    once = once-without t (b .drafts) (inv .once);
-    drafts = drafts-as _ _ _ (draft-without t (b .drafts)) (drafts-cast cleared-st end (at t none (draftIn b)) (setEntry-live cleared-st d E) (drafts-cleared st (draftIn b) (inv .drafts) h t z));
-    reads = live-end (λ j x. Atomic (end .entries) (readsOf x)) (noLive-reads (end .entries)) (λ j nj r q mr mq w. inv .reads j r q mr mq (old-writer j r (q .key) mr w));
-    ranges = live-end (λ j x. Ranges x) noLive-ranges (λ j nj. inv .ranges j);
+  slots-end : writeCount l < n → Slots (st .kind) end s
+  slots-end o = record {
+    count = setEntry-length cleared-st d E ∙ (unfold setLive in inv .slots .count);
+    entered = entry-end (λ k x. x .id .txn ≢ 0 → seen (st .kind) s k ≡ committed x) (λ y. pr .marked o) (λ k nk. inv .slots .entered k);
+    closing = live-end (λ j x. (d′ c′ n′ : ℕ) → x .phase ≡ Closing d′ c′ n′ → Prepared (st .kind) s x d′ c′ n′) (λ d′ c′ n′ e. absurd (not-closing (noLive .phase) d′ c′ n′ noLive-open e)) (λ j nj. inv .slots .closing j);
+    unused = λ d′ od. entry-end (λ k x. k < st .kind .slots → x .id .txn ≡ 0 → ((j c′ n′ : ℕ) → liveAt end j .phase ≡ Closing k c′ n′ → ⊥) → seen (st .kind) s k ≡ free)
+        (λ ok e un. absurd (closes .used .numbered (sym (entryFor-txn l) ∙ e)))
+        (λ k nk ok e un. inv .slots .unused k ok e (λ j c′ n′ y. was k nk un j c′ n′ y (ℕ-discrete j (placeOf t st)))) d′ od;
   }
     where
       was : (k : ℕ) → k ≢ d → ((j c′ n′ : ℕ) → liveAt end j .phase ≡ Closing k c′ n′ → ⊥) → (j c′ n′ : ℕ) → liveAt st j .phase ≡ Closing k c′ n′ → Dec (j ≡ placeOf t st) → ⊥
       was k nk un j c′ n′ y (yes e) = nk (closing-same k c′ n′ d c n (sym y ∙ (ap (λ (x : ℕ). liveAt st x .phase) e ∙ q)) .0)
       was k nk un j c′ n′ y (no e) = un j c′ n′ (ap (λ (x : Live). x .phase) (setEntry-live cleared-st d E j ∙ liveAt-other st (placeOf t st) noLive j e) ∙ y)
+
+  pub acknowledged : writeCount l < n → Inv end s (withDrafts (without t (b .drafts)) b)
+  unfolding withDrafts
+  acknowledged o = record {
+    core = unfold setEntry setLive in inv .core;
+    slots = unfold setEntry setLive in slots-end o;
+    once = once-without t (b .drafts) (inv .once);
+    drafts = drafts-as _ _ _ (draft-without t (b .drafts)) (drafts-cast cleared-st end (at t none (draftIn b)) (setEntry-live cleared-st d E) (drafts-cleared st (draftIn b) (inv .drafts) h t z));
+    reads = live-end (λ j x. Atomic (end .entries) (readsOf x)) (noLive-reads (end .entries)) (λ j nj r q mr mq w. inv .reads j r q mr mq (old-writer j r (q .key) mr w));
+    ranges = live-end (λ j x. Ranges x) noLive-ranges (λ j nj. inv .ranges j);
+  }
 
 -- ── step ──
 -- the transaction from the draft of t
@@ -419,6 +425,10 @@ committed-draft st s′ b t after z p e inv =
     (subst (λ (u : ℕ). Inv after s′ (record { drafts = b .drafts; standing = record { id = record { clock = p .clock; txn = u }; values = p .values } ∷ b .standing; past = record { id = record { clock = p .clock; txn = u }; values = p .values } ∷ b .past }))
     (place-hit st t z .1 ∙ sym (draft-txn t (b .drafts) p e)) inv)
 
+live-kind : (st : Station) (i : ℕ) (l : Live) → setLive st i l .kind ≡ st .kind
+unfolding setLive
+live-kind st i l = refl
+
 by-phase : (st : Station) (s : List ℕ) (b : Ledger) (t : ℕ) → Inv st s b → sound st ≡ true → t ≢ 0 → isLive t st ≡ true
     → (p : Phase) → liveAt st (placeOf t st) .phase ≡ p → isClosing p ≡ true → Good s b (Step t) (stepped st (placeOf t st) (liveAt st (placeOf t st)) p)
 unfolding stepped closingSlot recordsStored oneMore isClosing feed txnOf
@@ -426,10 +436,10 @@ by-phase st s b t inv h nz z Unused q c = absurd (false≢true c)
 by-phase st s b t inv h nz z Open q c = absurd (false≢true c)
 by-phase st s b t inv h nz z (Closing d c n) q _ =
     choice s b (Step t) (ltb n wc) _ _
-    (λ x. good-stores s b (Step t) _ _ _ _ _ (lasting st s b h inv) (rw (entryFor-id (liveAt st (placeOf t st)) d c n q) (version-stored st s b inv h t d c n nz z q (ltb-true n wc x)))) λ x.
+    (λ x. good-stores s b (Step t) (st .kind) _ _ (live-kind st _ _) _ _ _ (lasting st s b h inv) (rw (entryFor-id (liveAt st (placeOf t st)) d c n q) (version-stored st s b inv h t d c n nz z q (ltb-true n wc x)))) λ x.
     choice s b (Step t) (eqb n wc) _ _
     (λ y. let r = draft-of st (draftIn b) (inv .drafts) t (placeOf t st) (place-hit st t z .1) nz in
-    good-stores s b (Step t) _ _ _ _ _ (lasting st s b h inv) (committed-draft st _ b t _ z (r .0) (r .1) (commit-stored st s b inv h t d c n nz z q (eqb-true n wc y) (r .0) (matches-at st (draftIn b) h (inv .drafts) t z (r .0) (r .1))))) λ y.
+    good-stores s b (Step t) (st .kind) _ _ (live-kind st _ _) _ _ _ (lasting st s b h inv) (committed-draft st _ b t _ z (r .0) (r .1) (commit-stored st s b inv h t d c n nz z q (eqb-true n wc y) (r .0) (matches-at st (draftIn b) h (inv .drafts) t z (r .0) (r .1))))) λ y.
     good-says s b (Step t) _ _ (acknowledged st s b inv h t d c n nz z q (omega (arith, ltb-false n wc x, eqb-false n wc y)))
   where
     wc : ℕ

@@ -1,6 +1,6 @@
 -- sweep keeps the invariant: it is its collects, each reported with its store.
 use Prim.Native.Nat.{ℕ, zero, suc, _-_, _<_, _≤_}
-use mathlib.Core.Path.{_≡_, refl, sym, ap, subst}
+use mathlib.Core.Path.{_≡_, refl, sym, ap, subst, _∙_}
 use mathlib.Core.Logic.{_⊎_, inl, inr}
 use mathlib.Core.Bool.{Bool, true, false}
 use mathlib.Core.List.{List, [], _∷_, _++_, map}
@@ -9,6 +9,7 @@ use native.Mathlib.Nat.{not-suc-le-zero, le-of-suc-le-suc}
 use native.Mathlib.Omega.{arith}
 use borrow.Author.Tests.{le-leb}
 use Rattle.model.specs.Types.{Station}
+use Rattle.model.specs.Kinds.{Kind}
 use Rattle.model.specs.declared.Answer.{Answer}
 use Rattle.model.specs.declared.Answer.the-variants as A
 use Rattle.model.specs.Ranges.{Every}
@@ -20,7 +21,7 @@ use Rattle.model.specs.Sweep.{collections, stationAfter, recordsOf, sweep}
 use Rattle.model.specs.Calls.{Call, Collect, does}
 use Rattle.model.proofs.RefusalLaws.{guard, unguarded}
 use Rattle.model.proofs.SoundKept.{sound-kept}
-use Rattle.model.proofs.CollectionLaws.{Ends, Goes, ends-or-goes, ends, nextStation, nextStore, goes, collections-count}
+use Rattle.model.proofs.CollectionLaws.{Ends, Goes, ends-or-goes, ends, nextStation, nextStore, goes, collected-kind, collections-kind, collections-count}
 use Rattle.history.specs.Ledger.{Ledger, feed}
 use Rattle.history.specs.Histories.{Report, reportOf, fed, givenAfter}
 use Rattle.history.proofs.Invariant.{Inv, Lasting, Reported}
@@ -33,7 +34,7 @@ unfolding fed givenAfter stored
 nothing-reported s b st a inv = record { after = inv; before = λ n o. absurd (not-suc-le-zero o); complete = λ n o. refl }
 
 -- a call reported with its one store, and then what comes after it
-module _ (s : List ℕ) (b : Ledger) (c : Call) (old : Lasting s b) (a : Answer) (rs : List Report) (e : Effect) where
+module _ (s : List ℕ) (b : Ledger) (c : Call) (a : Answer) (rs : List Report) (e : Effect) (old : Lasting (e .station .kind) s b) where
   -- the call's effect, with what is reported after it
   abbrev Then : Effect → Type 0
   Then x = Reported (stored (x .stores) s) (feed (x .answer) c b) rs e
@@ -44,9 +45,9 @@ module _ (s : List ℕ) (b : Ledger) (c : Call) (old : Lasting s b) (a : Answer)
   stored-then y st d n r g = record { after = g .after; before = before; complete = complete }
     where
       w : RecordWrite
-      w = record { slot = d; index = n; content = r }
+      w = record { kind = st .kind; slot = d; index = n; content = r }
 
-      before : (m : ℕ) → m < suc (length (e .stores)) → Lasting (stored (take m (w ∷ e .stores)) s) (fed (givenAfter m (record { call = c; answer = y; stores = 1 } ∷ rs)) b)
+      before : (m : ℕ) → m < suc (length (e .stores)) → Lasting (e .station .kind) (stored (take m (w ∷ e .stores)) s) (fed (givenAfter m (record { call = c; answer = y; stores = 1 } ∷ rs)) b)
       before zero o = old
       before (suc m) o = let q : suc m - 1 ≡ m = omega arith in rw (le-leb 1 (suc m) (omega arith), q) (g .before m (le-of-suc-le-suc o))
 
@@ -64,13 +65,16 @@ unfolding stationAfter recordsOf reportOf
 collects-reported zero st s b h inv a = unfold collections in nothing-reported s b st a inv
 collects-reported (suc n) st s b h inv a = go (ends-or-goes st s) (λ st₁ s₁ b₁ h₁ i₁. collects-reported n st₁ s₁ b₁ h₁ i₁ a)
   where
+    same : (g : Goes st s) → stationAfter (collections n (nextStation st s g) (nextStore st s g)) (nextStation st s g) .kind ≡ st .kind
+    same g = collections-kind n (nextStation st s g) (nextStore st s g) ∙ collected-kind st s (g .slot) (g .taken)
+
     go : Ends st s ⊎ Goes st s
         → ((st₁ : Station) (s₁ : List ℕ) (b₁ : Ledger) → sound st₁ ≡ true → Inv st₁ s₁ b₁ → Reported s₁ b₁ (map reportOf (collections n st₁ s₁)) (saysStoringAll a (stationAfter (collections n st₁ s₁) st₁) (recordsOf (collections n st₁ s₁))))
         → Reported s b (map reportOf (collections (suc n) st s)) (saysStoringAll a (stationAfter (collections (suc n) st s) st) (recordsOf (collections (suc n) st s)))
     go (inl e) ih = rw (ends st s e (suc n)) (nothing-reported s b st a inv)
     go (inr g) ih =
         let k = collect-keeps st s b (g .slot) inv h in
-        rw (goes st s g n) (then-more s b (Collect (g .slot)) (lasting st s b h inv) a _ _ (collect st s (g .slot)) _ _ _ _ _ (g .taken .comes-to)
+        rw (goes st s g n) (then-more s b (Collect (g .slot)) a _ _ (subst (λ (x : Kind). Lasting x s b) (sym (same g)) (lasting st s b h inv)) (collect st s (g .slot)) _ _ _ _ _ (g .taken .comes-to)
         (ih (nextStation st s g) (nextStore st s g) _ (unfold does in sound-kept (Collect (g .slot)) st s h) (k .after)))
 
 -- a refused sweep is no collect, and alters nothing

@@ -9,6 +9,7 @@ use Rattle.model.specs.declared.Read.{Read}
 use Rattle.model.specs.Types.{Station}
 use Rattle.model.specs.declared.Answer.{Answer}
 use Rattle.model.specs.declared.Answer.the-variants as A
+use Rattle.model.specs.Kinds.{Kind}
 use Rattle.model.specs.Ranges.{Every}
 use Rattle.model.specs.Calls.{Call, Start, Commit, Step, does}
 use Rattle.history.specs.Ledger.{Draft, Committed, Ledger, draftOf, committedOf}
@@ -47,12 +48,12 @@ untilAsked vs₀ t c vs₁ vs₂ = untilAcknowledged vs₀ t c vs₁ ++ (called 
 
 -- A history in which transaction t closes after vs₀, given the clock c; is acknowledged after vs₁, with the id i and the value v under key k; and
 -- after vs₂ transaction u asks for k, whenever it was started.
-pub record Booking (vs₀ vs₁ vs₂ : List Event) (t c u k v : ℕ) (i : Id) : Type 0 where
+pub record Booking (κ : Kind) (vs₀ vs₁ vs₂ : List Event) (t c u k v : ℕ) (i : Id) : Type 0 where
   pub slot : ℕ
-  pub closes : Answers (run vs₀ begin) (Commit t c) (A.Closing slot)
-  pub acknowledged : Answers (run (untilAcknowledged vs₀ t c vs₁) begin) (Step t) (A.Done i)
+  pub closes : Answers (run vs₀ (begin κ)) (Commit t c) (A.Closing slot)
+  pub acknowledged : Answers (run (untilAcknowledged vs₀ t c vs₁) (begin κ)) (Step t) (A.Done i)
   -- it is the transaction that closed there: after a cut its number may be started again, and close with another clock
   pub same : Every (λ (e : Event). IsNoStart t (callIn e)) vs₁
-  pub wrote : Writes (run (untilAcknowledged vs₀ t c vs₁) begin) t k v
-  pub runs : (st : Station) × (run (untilAsked vs₀ t c vs₁ vs₂) begin .node ≡ running st)
-  pub asks : FirstRead (run (untilAsked vs₀ t c vs₁ vs₂) begin) u k
+  pub wrote : Writes (run (untilAcknowledged vs₀ t c vs₁) (begin κ)) t k v
+  pub runs : (st : Station) × (run (untilAsked vs₀ t c vs₁ vs₂) (begin κ) .node ≡ running st)
+  pub asks : FirstRead (run (untilAsked vs₀ t c vs₁ vs₂) (begin κ)) u k

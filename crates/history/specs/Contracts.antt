@@ -8,7 +8,8 @@ use mathlib.Core.Option.{Option, some, none}
 use lib.ListN.{replicate}
 use Rattle.model.specs.declared.Station.{Station}
 use Rattle.model.specs.declared.Outcome.{Outcome}
-use Rattle.model.specs.Limits.{storeSize, txnRange, numberRange}
+use Rattle.model.specs.Limits.{txnRange, numberRange}
+use Rattle.model.specs.Kinds.{narrowKind, storeSize}
 use Rattle.model.specs.Types as L
 use Rattle.model.specs.Listed.{listed, listedOutcome, numbered}
 use Rattle.model.specs.Stations.{emptyStation}
@@ -68,7 +69,7 @@ pub record Meets (f : Functions) : Type 0 where
   pub abort : (st : Station) (t : ℕ) → StationFits st → t < txnRange → listedOutcome (f .abort st t) ≡ outcomeOf (Abort.abort (listed st) t)
   pub collect : (st : Station) (s : List ℕ) (d : ℕ) → StationFits st → Every IsByte s → IsByte d
       → (listedOutcome (f .collect st s d .outcome) ≡ outcomeOf (Collect.collect (listed st) s d)) × (f .collect st s d .store ≡ stored (Collect.collect (listed st) s d .stores) s)
-  pub scan : (s : List ℕ) → Every IsByte s → listedOutcome (f .scan s) ≡ outcomeOf (Scan.scan s)
+  pub scan : (s : List ℕ) → Every IsByte s → listedOutcome (f .scan s) ≡ outcomeOf (Scan.scan narrowKind s)
   pub sweep : (st : Station) (s : List ℕ) (n : ℕ) → StationFits st → Every IsByte s → n < numberRange
       → (listedOutcome (f .sweep st s n .outcome) ≡ outcomeOf (Sweep.sweep (listed st) s n)) × (f .sweep st s n .store ≡ stored (Sweep.sweep (listed st) s n .stores) s)
   -- what a function hands back is within its types, as every value of the machine is
@@ -82,7 +83,7 @@ pub record Host : Type 0 where
   pub ledger : Ledger
 
 unfoldable pub hostBegin : Host
-hostBegin = record { node = running (numbered emptyStation); store = replicate storeSize 0; ledger = emptyLedger }
+hostBegin = record { node = running (numbered (emptyStation narrowKind)); store = replicate (storeSize narrowKind) 0; ledger = emptyLedger }
 
 -- with the definitions' station: the world that it is
 abbrev pub listedNode : Node Station → Node L.Station
@@ -90,12 +91,12 @@ listedNode (running st) = running (listed st)
 listedNode down = down
 
 abbrev pub listedHost : Host → World
-listedHost h = record { node = listedNode (h .node); store = h .store; ledger = h .ledger }
+listedHost h = record { kind = narrowKind; node = listedNode (h .node); store = h .store; ledger = h .ledger }
 
 -- the station that a function is handed: the one last handed back. After a cut a scan, which looks at none, gets the empty one
 unfoldable pub lent : Call → Node Station → Option Station
 lent c (running st) = some st
-lent c down = cond (isScan c) (some (numbered emptyStation)) none
+lent c down = cond (isScan c) (some (numbered (emptyStation narrowKind))) none
 
 unfoldable pub afterReturn : Functions → Option Station → Call → Host → Host
 afterReturn f none c h = h

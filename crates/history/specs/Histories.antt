@@ -1,4 +1,4 @@
--- Histories: lists of calls and cuts, from the empty station and the zero store.
+-- Histories: lists of calls and cuts, from the empty station and the zero store of a kind.
 use Prim.Native.Nat.{ℕ, _-_}
 use mathlib.Core.Bool.{cond}
 use mathlib.Core.List.{List, [], _∷_, map}
@@ -6,7 +6,7 @@ use mathlib.Core.Option.{Option, some, none}
 use lib.Dec.{leb}
 use lib.ListN.{length, take, replicate}
 use Rattle.model.specs.Types.{Station}
-use Rattle.model.specs.Limits.{storeSize}
+use Rattle.model.specs.Kinds.{Kind, storeSize}
 use Rattle.model.specs.Stations.{emptyStation}
 use Rattle.model.specs.Ranges.{Every}
 use Rattle.model.specs.Effects.{Effect, stored}
@@ -28,18 +28,19 @@ pub data Node (S : Type 0) : Type 0 where
   down : Node S
 
 pub record World : Type 0 where
+  pub kind : Kind
   pub node : Node Station
   pub store : List ℕ
   pub ledger : Ledger
 
 -- "At first none."
-unfoldable pub begin : World
-begin = record { node = running emptyStation; store = replicate storeSize 0; ledger = emptyLedger }
+unfoldable pub begin : Kind → World
+begin κ = record { kind = κ; node = running (emptyStation κ); store = replicate (storeSize κ) 0; ledger = emptyLedger }
 
 -- the station that a call is handed. "All else in a station is lost in a cut.": until a scan, which needs none, a call does nothing
-unfoldable pub handed : Call → Node Station → Option Station
-handed c (running st) = some st
-handed c down = cond (isScan c) (some emptyStation) none
+unfoldable pub handed : Kind → Call → Node Station → Option Station
+handed κ c (running st) = some st
+handed κ c down = cond (isScan c) (some (emptyStation κ)) none
 
 -- ── what the ledger is fed ──
 -- a call with its answer, and how many stores that answer reports
@@ -71,18 +72,18 @@ unfoldable pub afterCall : Option Station → Call → World → World
 afterCall none c w = w
 afterCall (some st) c w =
     let e : Effect = does c st (w .store) in
-    record { node = running (e .station); store = stored (e .stores) (w .store); ledger = fed (reports c (e .answer) st (w .store)) (w .ledger) }
+    record { kind = w .kind; node = running (e .station); store = stored (e .stores) (w .store); ledger = fed (reports c (e .answer) st (w .store)) (w .ledger) }
 
 -- "a cut falls only between such writes, those before it standing whole and the cut call's later ones never begun". The station is lost
 unfoldable pub afterCut : Option Station → Call → ℕ → World → World
 afterCut none c n w = w
 afterCut (some st) c n w =
     let e : Effect = does c st (w .store) in
-    record { node = down; store = stored (take n (e .stores)) (w .store); ledger = fed (givenAfter n (reports c (e .answer) st (w .store))) (w .ledger) }
+    record { kind = w .kind; node = down; store = stored (take n (e .stores)) (w .store); ledger = fed (givenAfter n (reports c (e .answer) st (w .store))) (w .ledger) }
 
 unfoldable pub next : Event → World → World
-next (called c) w = afterCall (handed c (w .node)) c w
-next (cut c n) w = afterCut (handed c (w .node)) c n w
+next (called c) w = afterCall (handed (w .kind) c (w .node)) c w
+next (cut c n) w = afterCut (handed (w .kind) c (w .node)) c n w
 
 unfoldable pub run : List Event → World → World
 run [] w = w

@@ -4,6 +4,7 @@ use mathlib.Core.Path.{_≡_, refl}
 use mathlib.Core.Bool.{true, false}
 use mathlib.Core.List.{List, [], _∷_, _++_}
 use lib.ListN.{replicate}
+use Rattle.model.specs.Kinds.{narrowKind}
 use Rattle.model.specs.declared.Live.{Live}
 use Rattle.model.specs.declared.Entry.{Entry}
 use Rattle.model.specs.declared.Phase.the-variants.{Closing}
@@ -60,7 +61,7 @@ pub sizes : (placeSize ≡ 408) × (placesSize ≡ 3264) × (imageSize ≡ 4544)
 sizes = (refl, refl, refl)
 
 -- the empty station's image is all zero
-pub empty-written : same (stationBytes (numbered emptyStation)) (replicate imageSize 0) ≡ true
+pub empty-written : same (stationBytes (numbered (emptyStation narrowKind))) (replicate imageSize 0) ≡ true
 unfolding stationBytes emptyStation setNumber placeBytes placeHead row fieldBytes phaseNumber closingSlot closingClock recordsStored flat writeBytes readBytes entryBytes bytes same
 empty-written = refl
 

@@ -20,14 +20,15 @@ pub use Rattle.model.specs.declared.Entry.{Entry}
 pub use Rattle.model.specs.declared.Phase.{Phase}
 pub use Rattle.model.specs.declared.Phase.the-variants.{Unused, Open, Closing}
 pub use Rattle.model.specs.declared.Station.{Station}
-pub use Rattle.model.specs.Limits.{writeLimit, readLimit, numberRange, byteRange, livePlaces, slots}
+pub use Rattle.model.specs.Limits.{writePlaces, readLimit, numberRange, byteRange, livePlaces, entryPlaces}
 pub use Rattle.model.specs.Ranges.{IsByte, IdFits, WriteFits, ReadFits, PhaseFits, LiveFits, EntryFits, Every, StationFits}
 unfoldable pub use Rattle.model.specs.Lists.{_and_, all, same}
 unfoldable pub use Rattle.model.specs.Bytes.{bytes, number, idIn}
 unfoldable pub use Rattle.model.specs.Lives.{closingSlot, closingClock, recordsStored}
 pub use Rattle.model.proofs.Tests.{and-none-left, and-none-right, and-intro, and-left, and-right}
 pub use Rattle.model.proofs.ListLaws.{every-append}
-pub use Rattle.model.proofs.RangesKept.{bytes-are, bytes-zeros}
+pub use Rattle.model.proofs.RecordLaws.{bytes-are}
+pub use Rattle.model.proofs.RangesKept.{bytes-zeros}
 pub use Rattle.model.proofs.RecordLaws.{Bytes, bytes-take, bytes-drop, length-bytes, number-bytes, same-refl, bytes-number, same-true}
 pub use Rattle.records.proofs.SlotSteps.{part-length}
 pub use Rattle.image.specs.Layout.{Field, num, raw}

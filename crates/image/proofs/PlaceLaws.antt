@@ -1,5 +1,5 @@
 -- The rows of an image and a place (specs/Layout, specs/Images), by their fields: as long as they say, read back, and tested.
-use Rattle.image.proofs.Names.{ℕ, zero, suc, _+_, _/_, _%_, _<_, _≤_, _≡_, refl, sym, ap, ap₂, _∙_, _≢_, Bool, true, List, [], _∷_, _++_, map, eqb, length, take, drop, getD, set, replicate, length-append, length-drop, drop-at, drop-drop, arith, putMid, Id, Write, Live, Entry, Phase, Unused, Open, Closing, writeLimit, readLimit, numberRange, byteRange, _and_, all, same, bytes, number, idIn, closingSlot, closingClock, recordsStored, and-intro, Bytes, bytes-drop, length-bytes, number-bytes, headSize, itemSize, writesSize, readsSize, placeSize, entrySize, Field, num, fieldBytes, row, flat, parts, writeRow, writeBytes, writeFrom, startBytes, readRow, readBytes, readFrom, entryRow, entryBytes, entryFrom, phaseNumber, phaseOf, phaseFrom, headRow, placeHead, isAlone, placeBytes, placeFrom, isHead, isPlace, Every, IsByte, IdFits, WriteFits, ReadFits, PhaseFits, LiveFits, EntryFits, every-append, bytes-are, bytes-zeros}
+use Rattle.image.proofs.Names.{ℕ, zero, suc, _+_, _/_, _%_, _<_, _≤_, _≡_, refl, sym, ap, ap₂, _∙_, _≢_, Bool, true, List, [], _∷_, _++_, map, eqb, length, take, drop, getD, set, replicate, length-append, length-drop, drop-at, drop-drop, arith, putMid, Id, Write, Live, Entry, Phase, Unused, Open, Closing, writePlaces, readLimit, numberRange, byteRange, _and_, all, same, bytes, number, idIn, closingSlot, closingClock, recordsStored, and-intro, Bytes, bytes-drop, length-bytes, number-bytes, headSize, itemSize, writesSize, readsSize, placeSize, entrySize, Field, num, fieldBytes, row, flat, parts, writeRow, writeBytes, writeFrom, startBytes, readRow, readBytes, readFrom, entryRow, entryBytes, entryFrom, phaseNumber, phaseOf, phaseFrom, headRow, placeHead, isAlone, placeBytes, placeFrom, isHead, isPlace, Every, IsByte, IdFits, WriteFits, ReadFits, PhaseFits, LiveFits, EntryFits, every-append, bytes-are, bytes-zeros}
 use Rattle.image.proofs.PartLaws.{parts-take}
 use Rattle.image.proofs.RowLaws.{spread-all, begins-part, begins-then, begins-at, begins-all, begins-only, and-end, rowAt, row-begins, row-is, own-byte, byte-is, own-number, number-is, zeros-are, alone-row, number-fits, row-bytes, Coded, array-bytes, array-long, array-back, array-last, array-many, array-fits, array-begins}
 
@@ -135,7 +135,7 @@ module _ (b : List ℕ) (l : headSize ≤ length b) (y : Bytes b) where
 -- ── a place ──
 abbrev pub placeTest : List ℕ → Bool
 placeTest b =
-    isHead b and (all (isAlone 8) (parts itemSize writeLimit (take writesSize (drop headSize b))) and all (isAlone 4) (parts itemSize readLimit (take readsSize (drop (headSize + writesSize) b))))
+    isHead b and (all (isAlone 8) (parts itemSize writePlaces (take writesSize (drop headSize b))) and all (isAlone 4) (parts itemSize readLimit (take readsSize (drop (headSize + writesSize) b))))
 
 module _ (b : List ℕ) (l : length b ≡ placeSize) (y : Bytes b) where
   abbrev writesPart : List ℕ
@@ -150,11 +150,11 @@ module _ (b : List ℕ) (l : length b ≡ placeSize) (y : Bytes b) where
   reads-in : readsSize ≤ length readsPart
   reads-in = omega (arith, length-drop (headSize + writesSize) b)
 
-  place-tested : isPlace b ≡ (isHead b and (all (isAlone 8) (parts itemSize writeLimit writesPart) and all (isAlone 4) (parts itemSize readLimit readsPart)))
+  place-tested : isPlace b ≡ (isHead b and (all (isAlone 8) (parts itemSize writePlaces writesPart) and all (isAlone 4) (parts itemSize readLimit readsPart)))
   unfolding isPlace placeBytes placeFrom isHead
   place-tested =
       let h = begins-part (placeHead (phaseFrom b) (idIn b .txn) (getD b 3 0) (getD b 16 0)) b headSize (head-long (phaseFrom b) (idIn b .txn) (getD b 3 0) (getD b 16 0)) (omega arith) in
-      let w = array-begins write-coded writeLimit writesPart writes-in (bytes-drop headSize b y) in
+      let w = array-begins write-coded writePlaces writesPart writes-in (bytes-drop headSize b y) in
       let r = array-begins read-coded readLimit readsPart reads-in (bytes-drop (headSize + writesSize) b y) in
       let e : length b ≤ headSize + (writesSize + readsSize) = omega arith in
       begins-all (begins-then h (begins-then w (begins-at (drop-drop writesSize headSize b) r))) e
@@ -162,26 +162,26 @@ module _ (b : List ℕ) (l : length b ≡ placeSize) (y : Bytes b) where
   pub place-is : isPlace b ≡ placeTest b
   place-is =
       place-tested
-      ∙ ap₂ (λ (w r : List (List ℕ)). isHead b and (all (isAlone 8) w and all (isAlone 4) r)) (sym (parts-take itemSize writeLimit writesPart writes-in)) (sym (parts-take itemSize readLimit readsPart reads-in))
+      ∙ ap₂ (λ (w r : List (List ℕ)). isHead b and (all (isAlone 8) w and all (isAlone 4) r)) (sym (parts-take itemSize writePlaces writesPart writes-in)) (sym (parts-take itemSize readLimit readsPart reads-in))
 
 pub place-coded : Coded placeBytes placeFrom placeSize LiveFits isPlace
 unfolding placeBytes placeFrom phaseFrom placeHead isPlace row flat fieldBytes bytes idIn
 place-coded = record {
-  long = λ l f. simp length-append (omega (arith, array-long write-coded (l .writes) writeLimit (f .write-places) (f .writes), array-long read-coded (l .reads) readLimit (f .read-places) (f .reads)));
+  long = λ l f. simp length-append (omega (arith, array-long write-coded (l .writes) writePlaces (f .write-places) (f .writes), array-long read-coded (l .reads) readLimit (f .read-places) (f .reads)));
   back = λ l f z. record {
     txn = number-bytes 4 (l .txn) (f .txn32) z;
     phase = (ap (λ (c : ℕ). phaseOf (phaseNumber (l .phase)) (closingSlot (l .phase)) c (recordsStored (l .phase))) (number-bytes 8 (closingClock (l .phase)) (f .phase .clock64)) ∙ phase-back (l .phase)) z;
     «write_count» = l .«write_count»;
-    writes = array-back write-coded (l .writes) writeLimit (f .write-places) (f .writes) (flat readBytes (l .reads)) z;
+    writes = array-back write-coded (l .writes) writePlaces (f .write-places) (f .writes) (flat readBytes (l .reads)) z;
     «read_count» = l .«read_count»;
-    reads = (ap (λ (b : List ℕ). map readFrom (parts itemSize readLimit b)) (drop-at (flat writeBytes (l .writes)) (flat readBytes (l .reads)) writesSize (array-long write-coded (l .writes) writeLimit (f .write-places) (f .writes))) ∙ array-last read-coded (l .reads) readLimit (f .read-places) (f .reads)) z;
+    reads = (ap (λ (b : List ℕ). map readFrom (parts itemSize readLimit b)) (drop-at (flat writeBytes (l .writes)) (flat readBytes (l .reads)) writesSize (array-long write-coded (l .writes) writePlaces (f .write-places) (f .writes))) ∙ array-last read-coded (l .reads) readLimit (f .read-places) (f .reads)) z;
   };
   fits = λ b l y. record {
     txn32 = id-fits b (omega arith) y .txn32;
     phase = phase-fits b (omega arith) y;
     writes8 = y 3 (omega arith);
-    write-places = array-many write-coded writeLimit (drop headSize b);
-    writes = array-fits write-coded writeLimit (drop headSize b) (omega (arith, length-drop headSize b)) (bytes-drop headSize b y);
+    write-places = array-many write-coded writePlaces (drop headSize b);
+    writes = array-fits write-coded writePlaces (drop headSize b) (omega (arith, length-drop headSize b)) (bytes-drop headSize b y);
     reads8 = y 16 (omega arith);
     read-places = array-many read-coded readLimit (drop (headSize + writesSize) b);
     reads = array-fits read-coded readLimit (drop (headSize + writesSize) b) (omega (arith, length-drop (headSize + writesSize) b)) (bytes-drop (headSize + writesSize) b y);

@@ -1,5 +1,5 @@
 -- A station is written as bytes from which it is read back, and bytes are an image exactly where they are those of the station read.
-use Rattle.image.proofs.Names.{ℕ, _+_, _≤_, _≡_, refl, sym, ap, ap₂, _∙_, _≢_, Bool, true, false, List, [], _∷_, _++_, map, length, take, drop, length-append, length-drop, drop-at, arith, eqb-true, eq-eqb, ne-eqb, Station, livePlaces, slots, entrySize, _and_, all, same, and-left, and-right, and-intro, Bytes, bytes-drop, same-refl, same-true, placeSize, placesSize, entriesSize, imageSize, flat, parts, entryBytes, entryFrom, placeBytes, isPlace, stationBytes, stationIn, isImage, StationFits, Every, IsByte, every-append}
+use Rattle.image.proofs.Names.{ℕ, _+_, _≤_, _≡_, refl, sym, ap, ap₂, _∙_, _≢_, Bool, true, false, List, [], _∷_, _++_, map, length, take, drop, length-append, length-drop, drop-at, arith, eqb-true, eq-eqb, ne-eqb, Station, livePlaces, entryPlaces, entrySize, _and_, all, same, and-left, and-right, and-intro, Bytes, bytes-drop, same-refl, same-true, placeSize, placesSize, entriesSize, imageSize, flat, parts, entryBytes, entryFrom, placeBytes, isPlace, stationBytes, stationIn, isImage, StationFits, Every, IsByte, every-append}
 use Rattle.image.proofs.PartLaws.{parts-take}
 use Rattle.image.proofs.RowLaws.{and-end, begins-then, begins-all, array-long, array-back, array-last, array-many, array-fits, array-begins, array-bytes}
 use Rattle.image.proofs.PlaceLaws.{anyBytes, entry-coded, place-coded}
@@ -23,18 +23,18 @@ module _ (b : List ℕ) (l : length b ≡ imageSize) (y : Bytes b) where
   entries-in : entriesSize ≤ length (drop placesSize b)
   entries-in = omega (arith, length-drop placesSize b)
 
-  image-tested : isImage b ≡ (all isPlace (parts placeSize livePlaces b) and all anyBytes (parts entrySize slots (drop placesSize b)))
+  image-tested : isImage b ≡ (all isPlace (parts placeSize livePlaces b) and all anyBytes (parts entrySize entryPlaces (drop placesSize b)))
   unfolding isImage stationBytes stationIn _and_
   image-tested =
       let p = array-begins place-coded livePlaces b (omega arith) y in
-      let e = array-begins entry-coded slots (drop placesSize b) entries-in (bytes-drop placesSize b y) in
+      let e = array-begins entry-coded entryPlaces (drop placesSize b) entries-in (bytes-drop placesSize b y) in
       let o : length b ≤ placesSize + entriesSize = omega arith in
       ap (λ (t : Bool). t and same (stationBytes (stationIn b)) b) (eq-eqb (length b) imageSize l) ∙ begins-all (begins-then p e) o
 
   pub image-is : isImage b ≡ all isPlace (parts placeSize livePlaces (take placesSize b))
   image-is =
       image-tested
-      ∙ ap₂ _and_ (ap (all isPlace) (sym (parts-take placeSize livePlaces b (omega arith)))) (any-parts (parts entrySize slots (drop placesSize b)))
+      ∙ ap₂ _and_ (ap (all isPlace) (sym (parts-take placeSize livePlaces b (omega arith)))) (any-parts (parts entrySize entryPlaces (drop placesSize b)))
       ∙ and-end (all isPlace (parts placeSize livePlaces (take placesSize b)))
 
   -- what is read off bytes is in its ranges
@@ -43,8 +43,8 @@ module _ (b : List ℕ) (l : length b ≡ imageSize) (y : Bytes b) where
   image-fits = record {
     live-places = array-many place-coded livePlaces b;
     live = array-fits place-coded livePlaces b (omega arith) y;
-    entry-places = array-many entry-coded slots (drop placesSize b);
-    entries = array-fits entry-coded slots (drop placesSize b) entries-in (bytes-drop placesSize b y);
+    entry-places = array-many entry-coded entryPlaces (drop placesSize b);
+    entries = array-fits entry-coded entryPlaces (drop placesSize b) entries-in (bytes-drop placesSize b y);
   }
 
 -- ── there and back ──
@@ -55,7 +55,7 @@ module _ (st : Station) (f : StationFits st) where
   -- the image has 4,544 bytes
   pub image-long : length (stationBytes st) ≡ imageSize
   unfolding stationBytes
-  image-long = length-append (flat placeBytes (st .live)) (flat entryBytes (st .entries)) ∙ ap₂ _+_ places-long (array-long entry-coded (st .entries) slots (f .entry-places) (f .entries))
+  image-long = length-append (flat placeBytes (st .live)) (flat entryBytes (st .entries)) ∙ ap₂ _+_ places-long (array-long entry-coded (st .entries) entryPlaces (f .entry-places) (f .entries))
 
   -- the station is read off its image
   pub station-back : stationIn (stationBytes st) ≡ st
@@ -64,7 +64,7 @@ module _ (st : Station) (f : StationFits st) where
       let d : drop placesSize (flat placeBytes (st .live) ++ flat entryBytes (st .entries)) ≡ flat entryBytes (st .entries) = drop-at (flat placeBytes (st .live)) (flat entryBytes (st .entries)) placesSize places-long in
       λ z. record {
         live = array-back place-coded (st .live) livePlaces (f .live-places) (f .live) (flat entryBytes (st .entries)) z;
-        entries = (ap (λ (b : List ℕ). map entryFrom (parts entrySize slots b)) d ∙ array-last entry-coded (st .entries) slots (f .entry-places) (f .entries)) z;
+        entries = (ap (λ (b : List ℕ). map entryFrom (parts entrySize entryPlaces b)) d ∙ array-last entry-coded (st .entries) entryPlaces (f .entry-places) (f .entries)) z;
       }
 
   pub image-round : (isImage (stationBytes st) ≡ true) × (stationIn (stationBytes st) ≡ st)

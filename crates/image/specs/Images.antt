@@ -7,7 +7,7 @@ use lib.ListN.{length, take, drop, getD}
 use Rattle.model.specs.declared.Live.{Live}
 use Rattle.model.specs.declared.Station.{Station}
 use Rattle.model.specs.Lists.{_and_, same}
-use Rattle.model.specs.Limits.{livePlaces, slots, writeLimit, readLimit}
+use Rattle.model.specs.Limits.{livePlaces, entryPlaces, writePlaces, readLimit}
 use Rattle.model.specs.Bytes.{number, idIn}
 use Rattle.image.specs.Layout.{headSize, itemSize, writesSize, placeSize, placesSize, entrySize, imageSize, flat, parts, writeBytes, writeFrom, readBytes, readFrom, entryBytes, entryFrom, placeHead, phaseFrom}
 
@@ -20,7 +20,7 @@ placeFrom b = record {
   txn = idIn b .txn;
   phase = phaseFrom b;
   «write_count» = getD b 3 0;
-  writes = map writeFrom (parts itemSize writeLimit (drop headSize b));
+  writes = map writeFrom (parts itemSize writePlaces (drop headSize b));
   «read_count» = getD b 16 0;
   reads = map readFrom (parts itemSize readLimit (drop (headSize + writesSize) b));
 }
@@ -32,7 +32,7 @@ stationBytes st = flat placeBytes (st .live) ++ flat entryBytes (st .entries)
 unfoldable pub stationIn : List ℕ → Station
 stationIn b = record {
   live = map placeFrom (parts placeSize livePlaces b);
-  entries = map entryFrom (parts entrySize slots (drop placesSize b));
+  entries = map entryFrom (parts entrySize entryPlaces (drop placesSize b));
 }
 
 -- ── bytes are an image, or a part's, where they are the bytes of what is read off them: every zero and every phase is as it must be ──

@@ -13,7 +13,7 @@ use Rattle.model.specs.declared.Read.{Read}
 use Rattle.model.specs.declared.Entry.{Entry}
 use Rattle.model.specs.declared.Phase.{Phase}
 use Rattle.model.specs.declared.Phase.the-variants.{Unused, Open, Closing}
-use Rattle.model.specs.Limits.{livePlaces, slots, writeLimit, readLimit}
+use Rattle.model.specs.Limits.{livePlaces, entryPlaces, writePlaces, readLimit}
 use Rattle.model.specs.Bytes.{bytes, number, idIn}
 use Rattle.model.specs.Lives.{closingSlot, closingClock, recordsStored}
 
@@ -26,7 +26,7 @@ abbrev pub itemSize : ℕ
 itemSize = 16
 
 abbrev pub writesSize : ℕ
-writesSize = itemSize * writeLimit
+writesSize = itemSize * writePlaces
 
 abbrev pub readsSize : ℕ
 readsSize = itemSize * readLimit
@@ -42,7 +42,7 @@ abbrev pub entrySize : ℕ
 entrySize = 20
 
 abbrev pub entriesSize : ℕ
-entriesSize = entrySize * slots
+entriesSize = entrySize * entryPlaces
 
 abbrev pub imageSize : ℕ
 imageSize = placesSize + entriesSize

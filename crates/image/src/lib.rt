@@ -15,7 +15,7 @@ ghost use mathlib.Core.Bool.{true};
 ghost use mathlib.Core.List.{map};
 ghost use lib.ListN.{length};
 ghost use Rattle.model.specs.Lists.{all};
-ghost use Rattle.model.specs.Limits.{livePlaces, slots, writeLimit, readLimit};
+ghost use Rattle.model.specs.Limits.{livePlaces, entryPlaces, writePlaces, readLimit};
 ghost use Rattle.model.specs.Bytes.{idIn};
 ghost use Rattle.model.specs.Listed.{listed, numbered};
 ghost use Rattle.model.specs.Lives.{closingSlot, closingClock, recordsStored};
@@ -193,7 +193,7 @@ fn phase_in(b: &[u8], clock: u64) -> Phase
 
 fn writes_in(b: &[u8]) -> [Write; Station::WRITES]
     requires { ⌜ length (now b) ≡ writesSize ⌝ }
-    ensures { λ r. ⌜ r ≡ map writeFrom (parts itemSize writeLimit (now (b .entry))) ⌝ }
+    ensures { λ r. ⌜ r ≡ map writeFrom (parts itemSize writePlaces (now (b .entry))) ⌝ }
 {
     let first = write_in(&b[0..ITEM]);
     let mut writes = [first; Station::WRITES];
@@ -259,7 +259,7 @@ fn places_in(b: &[u8]) -> [Live; Station::LIVE]
 
 fn entries_in(b: &[u8]) -> [Entry; Station::SLOTS]
     requires { ⌜ length (now b) ≡ entriesSize ⌝ }
-    ensures { λ r. ⌜ r ≡ map entryFrom (parts entrySize slots (now (b .entry))) ⌝ }
+    ensures { λ r. ⌜ r ≡ map entryFrom (parts entrySize entryPlaces (now (b .entry))) ⌝ }
 {
     let first = entry_in(&b[0..ENTRY]);
     let mut entries = [first; Station::SLOTS];

@@ -5,6 +5,7 @@ use mathlib.Core.List.{List, [], _∷_, _++_}
 use mathlib.Core.Option.{Option, some, none}
 use lib.Dec.{eqb}
 use lib.ListN.{length, getD}
+use Rattle.model.specs.Kinds.{narrowKind}
 use Rattle.model.specs.Types.{Station}
 use Rattle.model.specs.declared.Answer.{Answer}
 use Rattle.model.specs.declared.Answer.the-variants as A
@@ -89,7 +90,7 @@ pub record Held : Type 0 where
 
 -- an entry with a key and no id: every call but a scan is refused with 2, or with 1
 unfoldable pub unsoundStation : Station
-unsoundStation = setEntry emptyStation 0 (record { id = noId; keys = 0 ∷ [] })
+unsoundStation = setEntry (emptyStation narrowKind) 0 (record { id = noId; keys = 0 ∷ [] })
 
 -- at first: the station of the image; where the image is none, a station that is not sound
 unfoldable pub heldIn : List ℕ → List ℕ → Held

@@ -21,6 +21,7 @@ ghost use mathlib.Core.Path.{_≡_};
 ghost use mathlib.Core.Bool.{true, cond};
 ghost use Prim.Native.Nat.{_*_, _/_, _%_};
 ghost use lib.Dec.{eqb};
+ghost use Rattle.model.specs.Kinds.{narrowKind};
 ghost use Rattle.model.specs.Lists.{_and_};
 ghost use Rattle.model.specs.Effects.{stored};
 ghost use Rattle.model.specs.Sweep.{sweep};
@@ -143,7 +144,7 @@ pub fn write_answer(out: &mut [u8], answer: Answer)
 // A scan answered: the station is sound, and the image is to be its own.
 fn run_scan(store: &[u8], out: &mut [u8]) -> Current
     requires { ⌜ length (now out) ≡ answerSize ⌝ }
-    ensures { λ r. ⌜ (r .whole ≡ true) × (r .tested ≡ true) × (listed (r .station) ≡ scan (now (store .entry)) .station) × (now (out .exit) ≡ answerBytes (scan (now (store .entry)) .answer)) ⌝ }
+    ensures { λ r. ⌜ (r .whole ≡ true) × (r .tested ≡ true) × (listed (r .station) ≡ scan narrowKind (now (store .entry)) .station) × (now (out .exit) ≡ answerBytes (scan narrowKind (now (store .entry)) .answer)) ⌝ }
 {
     let scanned = scan(store);
     let said = scanned.answer;
@@ -312,7 +313,7 @@ pub extern "C" fn gorehimu_run(
 #[no_mangle]
 pub extern "C" fn gorehimu_empty(image: &mut [u8]) -> u32
     ensures { λ r. ⌜ r ≡ cond (eqb (length (now (image .entry))) imageSize) 0 1 ⌝ }
-    ensures { λ _. ⌜ now (image .exit) ≡ cond (eqb (length (now (image .entry))) imageSize) (imageOf emptyStation) (now (image .entry)) ⌝ }
+    ensures { λ _. ⌜ now (image .exit) ≡ cond (eqb (length (now (image .entry))) imageSize) (imageOf (emptyStation narrowKind)) (now (image .entry)) ⌝ }
 {
     if image.len() != IMAGE {
         return 1;
@@ -360,8 +361,8 @@ pub extern "C" fn gorehimu_call(
 #[no_mangle]
 pub extern "C" fn gorehimu_recover(image: &mut [u8], store: &[u8], answer: &mut [u8]) -> u32
     ensures { λ r. ⌜ r ≡ cond (fitsOne (length (now (image .entry))) requestSize (length (now (answer .entry)))) 0 1 ⌝ }
-    ensures { λ _. ⌜ now (image .exit) ≡ cond (fitsOne (length (now (image .entry))) requestSize (length (now (answer .entry)))) (imageOf (scan (now (store .entry)) .station)) (now (image .entry)) ⌝ }
-    ensures { λ _. ⌜ now (answer .exit) ≡ cond (fitsOne (length (now (image .entry))) requestSize (length (now (answer .entry)))) (answerBytes (scan (now (store .entry)) .answer)) (now (answer .entry)) ⌝ }
+    ensures { λ _. ⌜ now (image .exit) ≡ cond (fitsOne (length (now (image .entry))) requestSize (length (now (answer .entry)))) (imageOf (scan narrowKind (now (store .entry)) .station)) (now (image .entry)) ⌝ }
+    ensures { λ _. ⌜ now (answer .exit) ≡ cond (fitsOne (length (now (image .entry))) requestSize (length (now (answer .entry)))) (answerBytes (scan narrowKind (now (store .entry)) .answer)) (now (answer .entry)) ⌝ }
 {
     if !one_fits(image.len(), REQUEST, answer.len()) {
         return 1;

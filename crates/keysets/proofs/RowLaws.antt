@@ -7,7 +7,7 @@ use native.Mathlib.Nat.{not-suc-le-zero}
 use native.Mathlib.Numerals.{add-one}
 use native.Mathlib.Omega.{arith}
 use Rattle.model.specs.Lists.{padded}
-use Rattle.model.specs.Limits.{writeLimit}
+use Rattle.model.specs.Limits.{keysSize}
 use Rattle.model.specs.KeySets.{keySet}
 use Rattle.model.proofs.KeySetLaws.{set-none}
 use Rattle.keysets.specs.Parts.{IsLowest, IsRest}
@@ -32,13 +32,13 @@ stored-padded (suc m) (k ∷ ks) h =
 
 -- the loop: storing what is left makes the whole, and it fits
 pub record Storing (whole out : List ℕ) (rest n : ℕ) : Type 0 where
-  pub fits : n + length (keySet rest) ≤ writeLimit
-  pub left : stored out n (keySet rest) ≡ padded 0 writeLimit whole
+  pub fits : n + length (keySet rest) ≤ keysSize
+  pub left : stored out n (keySet rest) ≡ padded 0 keysSize whole
 
-pub storing-starts : (s : ℕ) → length (keySet s) ≤ writeLimit → Storing (keySet s) (replicate writeLimit 0) s 0
-storing-starts s h = record { fits = omega (arith, h); left = stored-padded writeLimit (keySet s) h }
+pub storing-starts : (s : ℕ) → length (keySet s) ≤ keysSize → Storing (keySet s) (replicate keysSize 0) s 0
+storing-starts s h = record { fits = omega (arith, h); left = stored-padded keysSize (keySet s) h }
 
-pub storing-room : (whole out : List ℕ) (rest n k : ℕ) → Storing whole out rest n → IsLowest rest k → n < writeLimit
+pub storing-room : (whole out : List ℕ) (rest n k : ℕ) → Storing whole out rest n → IsLowest rest k → n < keysSize
 storing-room whole out rest n k s (o, (ks, e)) = omega (arith, s .fits, ap length e)
 
 pub storing-next : (whole out : List ℕ) (rest n k rest′ : ℕ) → Storing whole out rest n → IsLowest rest k → IsRest rest rest′
@@ -52,6 +52,6 @@ storing-next whole out rest n k rest′ s (o, (ks, e)) (p, (j, f)) =
       left = ap (λ (x : ℕ). stored (set out n k) x (keySet rest′)) (add-one n) ∙ (sym (ap (stored out n) g) ∙ s .left);
     }
 
-pub storing-ends : (whole out : List ℕ) (rest n : ℕ) → Storing whole out rest n → rest ≡ 0 → out ≡ padded 0 writeLimit whole
+pub storing-ends : (whole out : List ℕ) (rest n : ℕ) → Storing whole out rest n → rest ≡ 0 → out ≡ padded 0 keysSize whole
 unfolding stored
 storing-ends whole out rest n s e = sym (ap (stored out n) (ap keySet e ∙ set-none)) ∙ s .left

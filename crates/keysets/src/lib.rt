@@ -6,7 +6,7 @@ ghost use Prim.Native.Nat.{_^_, _≤_, _<_};
 ghost use lib.Dec.{eqb};
 ghost use lib.ListN.{length};
 ghost use Rattle.model.specs.Lists.{all, first, member, padded};
-ghost use Rattle.model.specs.Limits.{keys, writeLimit};
+ghost use Rattle.model.specs.Limits.{keys, keysSize};
 ghost use Rattle.model.specs.KeySets.{keySet};
 ghost use Rattle.keysets.specs.Parts.{IsLowest, IsRest, AlsoHas};
 
@@ -76,8 +76,8 @@ pub fn is_within(set: u64, other: u64) -> bool
 
 // The keys ascending, as a commit record has them: zeros after the last.
 pub fn key_bytes(set: u64) -> [u8; Station::WRITES]
-    requires { ⌜ length (keySet set) ≤ writeLimit ⌝ }
-    ensures { λ r. ⌜ r ≡ padded 0 writeLimit (keySet set) ⌝ }
+    requires { ⌜ length (keySet set) ≤ keysSize ⌝ }
+    ensures { λ r. ⌜ r ≡ padded 0 keysSize (keySet set) ⌝ }
 {
     let mut out = [0u8; Station::WRITES];
     let mut rest = set;

@@ -11,7 +11,8 @@ use Rattle.model.specs.declared.Phase.the-variants.{Open}
 use Rattle.model.specs.declared.Answer.{Answer}
 use Rattle.model.specs.declared.Answer.the-variants as A
 use Rattle.model.specs.Lists.{_and_, _or_, all, any, first, filter, padded, from, member, ascending, distinct, same}
-use Rattle.model.specs.Limits.{slots, slotSize, storeSize}
+use Rattle.model.specs.Limits.{entryPlaces}
+use Rattle.model.specs.Kinds.{narrowKind, slotSize, slotStart, storeSize}
 use Rattle.model.specs.Ids.{older, sameId}
 use Rattle.model.specs.Bytes.{bytes, number, idIn, headBytes}
 use Rattle.model.specs.Lives.{blank, writesOf, readsOf, slotMark, withReads}
@@ -39,18 +40,18 @@ keyed c t = record { id = id c t; keys = K ∷ [] }
 
 -- these entries in slots 0, 1, .., and their commit records
 pub held : List Entry → Station
-held es = idleStation (padded noEntry slots es)
+held es = idleStation narrowKind (padded noEntry entryPlaces es)
 
 pub storing : ℕ → List Entry → List ℕ → List ℕ
 storing d [] s = s
-storing d (e ∷ es) s = storing (suc d) es (withRecord s d 0 (commitRecord e))
+storing d (e ∷ es) s = storing (suc d) es (withRecord narrowKind s d 0 (commitRecord narrowKind e))
 
 pub records : List Entry → List ℕ
-records es = storing 0 es (replicate storeSize 0)
+records es = storing 0 es (replicate (storeSize narrowKind) 0)
 
 -- a byte of the keys in a slot's commit record changed
 pub damaged : ℕ → List ℕ → List ℕ
-damaged d s = set s (slotSize * d + 17) 9
+damaged d s = set s (slotSize narrowKind * d + 17) 9
 
 -- a live transaction that has read K of an entry
 pub readBy9 : Id → Station → Station
@@ -106,5 +107,5 @@ rows =
 
 -- The claim: every line of every row is answered as it says, and leaves those slots held.
 pub sweeps-hold : map (λ (r : Row). ran (map (λ (l : Call × (Answer × List Bool)). l .0) (r .lines)) (r .station) (r .store)) rows ≡ map (λ (r : Row). map (λ (l : Call × (Answer × List Bool)). l .1) (r .lines)) rows
-unfolding held storing records damaged readBy9 ran four mixed rows _and_ _or_ all any first filter padded from member ascending distinct same older sameId writesOf readsOf wrote wroteAs liveAt entryAt setLive setEntry liveTxns heldTxns holds slotMark closingSlots bytes number idIn markIn entryIn headBytes commitRecord zeroRecord entryRules carriesKeys carriesEntry recordAt withRecord isNoWrite isNoRead isNoEntry isNoLive zeroPastCounts setsRight names inUse placeRight entryRight sound withReads Option·elim keepFirst foremost newer oldest newerOn superseded isReadBy isRead stored says saysStoring refusals wrongLength unsound collect mayCollect oldestToCollect refusedWith collections stationAfter recordsOf sweep does
+unfolding held storing records damaged readBy9 ran four mixed rows _and_ _or_ all any first filter padded from member ascending distinct same older sameId writesOf readsOf wrote wroteAs liveAt entryAt setLive setEntry liveTxns heldTxns holds slotMark closingSlots bytes number idIn markIn entryIn headBytes commitRecord zeroRecord entryRules carriesKeys carriesEntry slotStart recordAt withRecord isNoWrite isNoRead isNoEntry isNoLive zeroPastCounts setsRight names inUse placeRight entryRight sound withReads Option·elim keepFirst foremost newer oldest newerOn superseded isReadBy isRead stored says saysStoring refusals wrongLength unsound collect mayCollect oldestToCollect refusedWith collections stationAfter recordsOf sweep does
 sweeps-hold = refl

@@ -14,7 +14,8 @@ use Rattle.model.specs.declared.Phase.the-variants.{Open, Closing}
 use Rattle.model.specs.declared.Answer.{Answer}
 use Rattle.model.specs.declared.Answer.the-variants as A
 use Rattle.model.specs.Lists.{_and_, _or_, all, any, first, filter, count, insert, padded, from, member, least, maximum, ascending, distinct, same, anyBelow, greatestBelow}
-use Rattle.model.specs.Limits.{slots, storeSize, lastClock}
+use Rattle.model.specs.Limits.{entryPlaces, lastClock}
+use Rattle.model.specs.Kinds.{narrowKind, slotStart, storeSize}
 use Rattle.model.specs.Ids.{older, sameId, newerOf, greatest}
 use Rattle.model.specs.Bytes.{bytes, number, idIn, headBytes}
 use Rattle.model.specs.Lives.{blank, writesOf, readsOf, hasWritten, hasRead, valueUnder, isClosing, closingSlot, closingClock, recordsStored, slotMark, withWrites, withReads, withPhase}
@@ -35,7 +36,7 @@ use Rattle.model.specs.Commit.{highestFree, commit}
 use Rattle.model.specs.Step.{oneMore, stepped, step}
 use Rattle.model.specs.Abort.{abort}
 use Rattle.model.specs.Collect.{collect}
-use Rattle.model.specs.Scan.{slotsSeen, entrySeen, isCommitted, breaks, lowestBroken, scanned, scan}
+use Rattle.model.specs.Scan.{slotsSeen, entrySeen, entriesSeen, isCommitted, breaks, lowestBroken, scanned, scan}
 use Rattle.model.specs.Calls.{Call, Start, Put, Get, Commit, Step, Abort, Collect, Scan, does, answers}
 
 abbrev pub Line : Type 0
@@ -94,8 +95,8 @@ abbrev keyed : Id → Entry
 keyed i = record { id = i; keys = K ∷ [] }
 
 pub storing : List (ℕ × Id × ℕ) → List ℕ
-storing [] = replicate storeSize 0
-storing (h ∷ hs) = withRecord (withRecord (storing hs) (h .0) 1 (versionRecord K (h .1) (h .2))) (h .0) 0 (commitRecord (keyed (h .1)))
+storing [] = replicate (storeSize narrowKind) 0
+storing (h ∷ hs) = withRecord narrowKind (withRecord narrowKind (storing hs) (h .0) 1 (versionRecord K (h .1) (h .2))) (h .0) 0 (commitRecord narrowKind (keyed (h .1)))
 
 -- a row each, in 01's order and from 01's own state
 pub starred : List Case
@@ -174,8 +175,8 @@ noClockLeft =
 
 -- computed by the definitions
 pub given : Case → List Answer
-unfolding storing _and_ _or_ all any first filter count insert padded from member ascending distinct same anyBelow greatestBelow older sameId newerOf greatest emptyStation writesOf readsOf wrote wroteAs hasWritten hasRead valueUnder isClosing closingSlot closingClock recordsStored liveAt entryAt setLive setEntry liveTxns heldTxns isLive isHeld placeOf slotOf holds slotMark closingSlots isFree bytes number idIn markIn entryIn valueIn headBytes commitRecord versionRecord zeroRecord entryRules carriesKeys commitRules carriesEntry carriesVersion recordAt withRecord recordOf versionsCarry judged seen isNoWrite isNoRead isNoEntry isNoLive zeroPastCounts setsRight names inUse closingRight placeRight entryRight sound lowerBound conflictsWith least lowestConflict conflicts Option·elim passes keepFirst foremost newest newestWriter keyInTheWay chosen choose newerOn superseded isReadBy isRead stored says saysStoring refusals wrongLength unsound opened start withWrites withWrite put choiceOf withReads withRead versionAt noRoom notCarried answered get withPhase highestFree maximum clocks clockAbove commit entryFor oneMore stepped step abort collect slotsSeen entrySeen isCommitted breaks lowestBroken scanned scan does answers
-given x = answers (map (λ (l : Line). l .0) (x .lines)) emptyStation (storing (x .held))
+unfolding storing _and_ _or_ all any first filter count insert padded from member ascending distinct same anyBelow greatestBelow older sameId newerOf greatest emptyStation writesOf readsOf wrote wroteAs hasWritten hasRead valueUnder isClosing closingSlot closingClock recordsStored liveAt entryAt setLive setEntry liveTxns heldTxns isLive isHeld placeOf slotOf holds slotMark closingSlots isFree bytes number idIn markIn entryIn valueIn headBytes commitRecord versionRecord zeroRecord entryRules carriesKeys commitRules carriesEntry carriesVersion slotStart recordAt withRecord recordOf versionsCarry judged seen isNoWrite isNoRead isNoEntry isNoLive zeroPastCounts setsRight names inUse closingRight placeRight entryRight sound lowerBound conflictsWith least lowestConflict conflicts Option·elim passes keepFirst foremost newest newestWriter keyInTheWay chosen choose newerOn superseded isReadBy isRead stored says saysStoring refusals wrongLength unsound opened start withWrites withWrite put choiceOf withReads withRead versionAt noRoom notCarried answered get withPhase highestFree maximum clocks clockAbove commit entryFor oneMore stepped step abort collect slotsSeen entrySeen entriesSeen isCommitted breaks lowestBroken scanned scan does answers
+given x = answers (map (λ (l : Line). l .0) (x .lines)) (emptyStation narrowKind) (storing (x .held))
 
 pub expected : Case → List Answer
 expected x = map (λ (l : Line). l .1) (x .lines)
@@ -200,7 +201,7 @@ no-clock-left-holds = refl
 -- the first of n entries has clock c, the others clocks from 1; transaction 900 has put K, 901 nothing
 pub crowded : ℕ → ℕ → Station
 crowded n c =
-    setLive (setLive (idleStation (padded noEntry slots (keyed (id c 800) ∷ from n 1 (λ i. keyed (id i i))))) 0 (withWrites (w K 9 ∷ []) (blank 900 Open))) 1 (blank 901 Open)
+    setLive (setLive (idleStation narrowKind (padded noEntry entryPlaces (keyed (id c 800) ∷ from n 1 (λ i. keyed (id i i))))) 0 (withWrites (w K 9 ∷ []) (blank 900 Open))) 1 (blank 901 Open)
 
 pub answered-at : Station → List Answer
 answered-at st = commit st 900 5 .answer ∷ commit st 901 5 .answer ∷ commit st 800 5 .answer ∷ []

@@ -1,6 +1,6 @@
 -- The single collects that a sweep is: where they end, where they go on, and what every collect keeps they keep.
 use Prim.Native.Nat.{ℕ, zero, suc, _<_}
-use mathlib.Core.Path.{_≡_, refl, ap, subst, _∙_}
+use mathlib.Core.Path.{_≡_, refl, sym, ap, subst, _∙_}
 use mathlib.Core.Logic.{_≢_, _⊎_, inl, inr}
 use mathlib.Core.Bool.{true, false, not}
 use mathlib.Core.List.{List, [], _∷_, _++_}
@@ -11,7 +11,7 @@ use borrow.Author.Tests.{not-false, eq-eqb, ne-eqb, leb-false}
 use Rattle.model.specs.Types.{Entry, Station}
 use Rattle.model.specs.declared.Answer.the-variants as A
 use Rattle.model.specs.Lists.{_and_, all}
-use Rattle.model.specs.Limits.{slots, storeSize}
+use Rattle.model.specs.Kinds.{storeSize}
 use Rattle.model.specs.Entries.{noEntry, keysOf, wrote, carriesEntry}
 use Rattle.model.specs.Ids.{older}
 use Rattle.model.specs.Stations.{entryAt, setEntry, holds}
@@ -39,11 +39,11 @@ newer-writer es e h k w =
 
 -- ── a collect that is not refused ──
 pub record Collected (st : Station) (s : List ℕ) (d : ℕ) : Type 0 where
-  pub low : d < slots
+  pub low : d < st .kind .slots
   pub held : holds st d ≡ true
   pub old : superseded (st .entries) (entryAt st d) ≡ true
   pub unread : isRead st (entryAt st d) ≡ false
-  pub carried : carriesEntry (recordAt s d 0) (entryAt st d) ≡ true
+  pub carried : carriesEntry (st .kind) (recordAt (st .kind) s d 0) (entryAt st d) ≡ true
   pub comes-to : collect st s d ≡ saysStoring (A.Collected (entryAt st d .id)) (setEntry st d noEntry) d 0 zeroRecord
 
 pub collect-accepted : (st : Station) (s : List ℕ) (d : ℕ) → refusedWith (collect st s d .answer) ≡ 0 → Collected st s d
@@ -55,7 +55,7 @@ collect-accepted st s d h =
     let r16 = row-off 16 _ _ (r15 .1) in
     let r17 = row-off 17 _ _ (r16 .1) in
     record {
-      low = leb-false slots d (or-left _ _ (r14 .0));
+      low = leb-false (st .kind .slots) d (or-left _ _ (r14 .0));
       held = not-false _ (or-right _ _ (r14 .0));
       old = not-false _ (r15 .0);
       unread = r16 .0;
@@ -68,15 +68,15 @@ pub collected-station : (st : Station) (s : List ℕ) (d : ℕ) → Collected st
 unfolding saysStoring
 collected-station st s d c = ap (λ (e : Effect). e .station) (c .comes-to)
 
-pub collected-store : (st : Station) (s : List ℕ) (d : ℕ) → Collected st s d → stored (collect st s d .stores) s ≡ withRecord s d 0 zeroRecord
-unfolding saysStoring stored
+pub collected-store : (st : Station) (s : List ℕ) (d : ℕ) → Collected st s d → stored (collect st s d .stores) s ≡ withRecord (st .kind) s d 0 zeroRecord
+unfolding saysStoring stored setEntry
 collected-store st s d c = ap (λ (e : Effect). stored (e .stores) s) (c .comes-to)
 
 -- ── records stored one list after the other ──
 pub stored-append : (ws us : List RecordWrite) (s : List ℕ) → stored (ws ++ us) s ≡ stored us (stored ws s)
 unfolding stored
 stored-append [] us s = refl
-stored-append (w ∷ ws) us s = stored-append ws us (withRecord s (w .slot) (w .index) (w .content))
+stored-append (w ∷ ws) us s = stored-append ws us (withRecord (w .kind) s (w .slot) (w .index) (w .content))
 
 -- ── where they end, and where they go on ──
 abbrev pub Ends : Station → List ℕ → Type 0
@@ -130,9 +130,17 @@ collections-keep P f (suc n) st s h = go (ends-or-goes st s) (λ st₁ s₁ h₁
     go (inr g) ih = rw (goes st s g n, stored-append (collect st s (g .slot) .stores) (recordsOf (collections n (nextStation st s g) (nextStore st s g))) s)
         (ih (nextStation st s g) (nextStore st s g) (f st s (g .slot) h (g .taken)))
 
--- the store's length
-pub collect-length : (st : Station) (s : List ℕ) (d : ℕ) → length s ≡ storeSize → Collected st s d → length (stored (collect st s d .stores) s) ≡ storeSize
-collect-length st s d l c = ap length (collected-store st s d c) ∙ (with-length s d 0 zeroRecord l (c .low) (omega arith) length-zero ∙ l)
+-- the kind, and the store's length
+pub collected-kind : (st : Station) (s : List ℕ) (d : ℕ) → Collected st s d → collect st s d .station .kind ≡ st .kind
+unfolding setEntry
+collected-kind st s d c = ap (λ (x : Station). x .kind) (collected-station st s d c)
+
+pub collections-kind : (n : ℕ) (st : Station) (s : List ℕ) → stationAfter (collections n st s) st .kind ≡ st .kind
+collections-kind n st s = collections-keep (λ x _. x .kind ≡ st .kind) (λ x z d h c. collected-kind x z d c ∙ h) n st s refl
+
+pub collect-length : (st : Station) (s : List ℕ) (d : ℕ) → length s ≡ storeSize (st .kind) → Collected st s d → length (stored (collect st s d .stores) s) ≡ storeSize (collect st s d .station .kind)
+collect-length st s d l c =
+    ap length (collected-store st s d c) ∙ (with-length (st .kind) s d 0 zeroRecord l (c .low) (omega arith) length-zero ∙ (l ∙ ap storeSize (sym (collected-kind st s d c))))
 
 -- as many as there are, are all
 pub collections-count : (n : ℕ) (st : Station) (s : List ℕ) → collections (length (collections n st s)) st s ≡ collections n st s

@@ -1,19 +1,20 @@
 -- Laws of `insert`, `padded` and `ascending` (specs/Lists), over plain lists.
-use Prim.Native.Nat.{ℕ, zero, suc, _-_, _<_, _≤_, suc-le-suc}
+use Prim.Native.Nat.{ℕ, zero, suc, _+_, _-_, _<_, _≤_, suc-le-suc}
 use mathlib.Core.Path.{_≡_, refl, sym, ap, _∙_}
 use mathlib.Core.Logic.{_≢_, _⊎_, inl, inr, ⊎-elim}
 use mathlib.Core.Bool.{Bool, true, false, not, false≢true}
-use mathlib.Core.List.{List, [], _∷_, map, List·Memᴰ, List·Memᴰ·head, List·Memᴰ·tail, List·Memᴰ·not-nil, List·Memᴰ·cases-cons}
+use mathlib.Core.List.{List, [], _∷_, _++_, map, List·Memᴰ, List·Memᴰ·head, List·Memᴰ·tail, List·Memᴰ·not-nil, List·Memᴰ·cases-cons}
 use lib.Dec.{eqb, ltb, leb}
-use lib.ListN.{length, take, drop, getD, replicate, length-append, length-replicate}
-use lib.Seq.{take-append-seam, drop-append-seam}
+use lib.ListN.{length, take, drop, getD, replicate, length-append, length-replicate, replicate-append-replicate, List·getD-append}
+use lib.Seq.{take-append-seam, drop-append-seam, getD-append-add}
 use native.Mathlib.Nat.{lt-irrefl, le-refl, le-of-suc-le-suc, not-suc-le-zero}
 use native.Mathlib.Omega.{arith}
 use borrow.Author.Tests.{ltb-true, ltb-false, leb-true, leb-false, eqb-true, eqb-false, lt-ltb, le-leb, ne-eqb}
 use Rattle.model.specs.Lists.{_and_, all, any, insert, padded, member, ascending}
-use Rattle.model.specs.Ranges.{Every}
+use Rattle.model.specs.Limits.{keys}
+use Rattle.model.specs.Ranges.{Every, IsByte}
 use Rattle.model.proofs.Tests.{and-left, and-right, and-intro, and-second, not-of-false}
-use Rattle.model.proofs.ListLaws.{all-head, all-tail, all-cons, member-no, member-at, every-append, every-replicate}
+use Rattle.model.proofs.ListLaws.{all-head, all-tail, all-cons, member-no, member-at, getD-all, every-append, every-replicate}
 
 -- ── ascending ──
 pub ascending-head : (lo hi n : ℕ) (ns : List ℕ) → ascending lo hi (n ∷ ns) ≡ true → (lo ≤ n) × (n < hi)
@@ -64,6 +65,11 @@ ascending-order lo hi (n ∷ ns) a zero (suc j) o u =
     let b = ascending-member (suc n) hi (getD ns j 0) ns (ascending-tail lo hi n ns a) (member-at ns j (le-of-suc-le-suc u)) in omega (arith, b .0)
 ascending-order lo hi (n ∷ ns) a (suc i) zero o u = absurd (not-suc-le-zero o)
 ascending-order lo hi (n ∷ ns) a (suc i) (suc j) o u = ascending-order (suc n) hi ns (ascending-tail lo hi n ns a) i j (le-of-suc-le-suc o) (le-of-suc-le-suc u)
+
+-- keys are bytes
+pub ascending-bytes : (lo : ℕ) (ks : List ℕ) → ascending lo keys ks ≡ true → Every IsByte ks
+ascending-bytes lo [] h = tt
+ascending-bytes lo (k ∷ ks) h = let o = ascending-head lo keys k ks h in (omega (arith, o .1), ascending-bytes (suc k) ks (ascending-tail lo keys k ks h))
 
 module _ {A : Type 0} (key : A → ℕ) (x : A) where
   -- ── insert ──
@@ -184,3 +190,23 @@ module _ {A : Type 0} where
   pub every-padded : (P : A → Type 0) (z : A) (n : ℕ) (xs : List A) → Every P xs → P z → Every P (padded z n xs)
   unfolding padded
   every-padded P z n xs h q = every-append P xs _ h (every-replicate P (n - length xs) z q)
+
+  -- what stands at a place of it: one of the list's, or the filling
+  pub padded-inside : (z : A) (n : ℕ) (xs : List A) (i : ℕ) (y : A) → i < length xs → getD (padded z n xs) i y ≡ getD xs i y
+  unfolding padded
+  padded-inside z n xs i y o = List·getD-append xs _ y i o
+
+  pub padded-beyond : (z : A) (n : ℕ) (xs : List A) (i : ℕ) → length xs ≤ i → getD (padded z n xs) i z ≡ z
+  unfolding padded
+  padded-beyond z n xs i o = ap (λ (j : ℕ). getD (xs ++ replicate (n - length xs) z) j z) e ∙ (getD-append-add xs (replicate (n - length xs) z) (i - length xs) z ∙ getD-all (n - length xs) (i - length xs) z)
+    where
+      e : i ≡ length xs + (i - length xs)
+      e = omega arith
+
+  -- a list of the filling alone
+  pub padded-replicate : (z : A) (n m : ℕ) → n ≤ m → padded z m (replicate n z) ≡ replicate m z
+  unfolding padded
+  padded-replicate z n m o = ap (λ (j : ℕ). replicate n z ++ replicate (m - j) z) (length-replicate n z) ∙ (replicate-append-replicate n (m - n) z ∙ ap (λ (j : ℕ). replicate j z) e)
+    where
+      e : n + (m - n) ≡ m
+      e = omega arith

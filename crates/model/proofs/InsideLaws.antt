@@ -19,7 +19,8 @@ use Rattle.model.specs.Types.{Entry}
 use Rattle.model.specs.declared.Phase.{Phase}
 use Rattle.model.specs.declared.Phase.the-variants.{Unused, Open, Closing}
 use Rattle.model.specs.Lists.{_and_, _or_, any, member, ascending}
-use Rattle.model.specs.Limits.{keys, writeLimit, readLimit}
+use Rattle.model.specs.Limits.{keys, writePlaces, readLimit}
+use Rattle.model.specs.Kinds.{Kind}
 use Rattle.model.specs.Ids.{sameId, noId}
 use Rattle.model.specs.Lives.{writeKey, readsOf, closingClock, slotMark, withPhase, writeCount, writesOf}
 use Rattle.model.specs.Entries.{keysOf, wrote, noEntry, entryRules, isNoEntry, entryFor, noEntry}
@@ -47,7 +48,7 @@ module _ (l : Live) where
   reads-counted n h e = (omega arith, omega (arith, reads-are))
 
   -- and of the writes
-  pub writes-counted : (n : ℕ) → length (l .writes) ≡ writeLimit → n ≡ min (l .«write_count») writeLimit → (n ≤ writeLimit) × (n ≡ writeCount l)
+  pub writes-counted : (n : ℕ) → length (l .writes) ≡ writePlaces → n ≡ min (l .«write_count») writePlaces → (n ≤ writePlaces) × (n ≡ writeCount l)
   unfolding writesOf
   writes-counted n h e = (omega arith, omega (arith, length-take (l .«write_count») (l .writes)))
 
@@ -68,9 +69,9 @@ noEntry-wrote k = refl
 
 -- ── its rules ──
 -- a right entry with a number has a clock
-pub right-clock : (e : Entry) → entryRight e ≡ true → e .id .txn ≢ 0 → e .id .clock ≢ 0
+pub right-clock : (κ : Kind) (e : Entry) → entryRight κ e ≡ true → e .id .txn ≢ 0 → e .id .clock ≢ 0
 unfolding entryRight isNoEntry entryRules
-right-clock e h n z = ⊎-elim
+right-clock κ e h n z = ⊎-elim
     (λ x. n (ap (λ (i : Id). i .txn) (same-id _ _ (and-left _ _ x))))
     (λ x. lt-irrefl 0 (omega (arith, z, leb-true 1 (e .id .clock) (and-right _ _ (and-left _ _ x)))))
     (or-cases _ _ h)
@@ -81,9 +82,9 @@ none-of [] h = refl
 none-of (k ∷ ks) h = absurd (suc-ne-zero _ h)
 
 -- the keys of a right entry ascend
-pub right-ascending : (e : Entry) → entryRight e ≡ true → ascending 0 keys (keysOf e) ≡ true
+pub right-ascending : (κ : Kind) (e : Entry) → entryRight κ e ≡ true → ascending 0 keys (keysOf e) ≡ true
 unfolding entryRight isNoEntry entryRules ascending
-right-ascending e h = ⊎-elim
+right-ascending κ e h = ⊎-elim
     (λ x. rw (none-of (keysOf e) (eqb-true (length (keysOf e)) 0 (and-right (sameId (e .id) noId) _ x))))
     (λ x. and-right _ _ x)
     (or-cases _ _ h)
@@ -99,21 +100,21 @@ unfolding _and_ _or_
 no-one true r = refl
 no-one false r = refl
 
-module _ (e : Entry) where
-  pub right-none : length (keysOf e) ≡ 0 → entryRight e ≡ sameId (e .id) noId
+module _ (κ : Kind) (e : Entry) where
+  pub right-none : length (keysOf e) ≡ 0 → entryRight κ e ≡ sameId (e .id) noId
   unfolding entryRight isNoEntry entryRules _and_
   right-none h =
-      let r : entryRules e ≡ false = rw (lt-leb 1 (length (keysOf e)) (omega arith)) in
-      ap (λ (b : Bool). (sameId (e .id) noId and b) or entryRules e) (eq-eqb (length (keysOf e)) 0 h)
+      let r : entryRules κ e ≡ false = rw (lt-leb 1 (length (keysOf e)) (omega arith)) in
+      ap (λ (b : Bool). (sameId (e .id) noId and b) or entryRules κ e) (eq-eqb (length (keysOf e)) 0 h)
       ∙ (ap (λ (b : Bool). (sameId (e .id) noId and true) or b) r ∙ one-of (sameId (e .id) noId))
 
-  pub right-some : length (keysOf e) ≢ 0 → ascending 0 keys (keysOf e) ≡ true → entryRight e ≡ (leb (length (keysOf e)) writeLimit and leb 1 (e .id .txn) and leb 1 (e .id .clock))
+  pub right-some : length (keysOf e) ≢ 0 → ascending 0 keys (keysOf e) ≡ true → entryRight κ e ≡ (leb (length (keysOf e)) (κ .writeLimit) and leb 1 (e .id .txn) and leb 1 (e .id .clock))
   unfolding entryRight isNoEntry entryRules _and_
   right-some h a =
-      ap (λ (b : Bool). (sameId (e .id) noId and b) or entryRules e) (ne-eqb (length (keysOf e)) 0 h)
-      ∙ (no-one (sameId (e .id) noId) (entryRules e)
-      ∙ (ap (λ (b : Bool). b and leb (length (keysOf e)) writeLimit and leb 1 (e .id .txn) and leb 1 (e .id .clock) and ascending 0 keys (keysOf e)) (le-leb 1 (length (keysOf e)) (omega (arith, h)))
-      ∙ (ap (λ (b : Bool). leb (length (keysOf e)) writeLimit and leb 1 (e .id .txn) and leb 1 (e .id .clock) and b) a ∙ and-true _)))
+      ap (λ (b : Bool). (sameId (e .id) noId and b) or entryRules κ e) (ne-eqb (length (keysOf e)) 0 h)
+      ∙ (no-one (sameId (e .id) noId) (entryRules κ e)
+      ∙ (ap (λ (b : Bool). b and leb (length (keysOf e)) (κ .writeLimit) and leb 1 (e .id .txn) and leb 1 (e .id .clock) and ascending 0 keys (keysOf e)) (le-leb 1 (length (keysOf e)) (omega (arith, h)))
+      ∙ (ap (λ (b : Bool). leb (length (keysOf e)) (κ .writeLimit) and leb 1 (e .id .txn) and leb 1 (e .id .clock) and b) a ∙ and-true _)))
 
 -- ── the mark of a closing transaction's slot, by the phase ──
 module _ (p : Phase) where

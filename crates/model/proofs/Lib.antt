@@ -4,11 +4,12 @@ pub mod RestLaws
 pub mod DistinctLaws
 pub mod InsertLaws
 pub mod KeySetLaws
-pub mod ListedLaws
 pub mod IdLaws
 pub mod RefusalLaws
 pub mod StoreLaws
 pub mod RecordLaws
+pub mod KindLaws
+pub mod ListedLaws
 pub mod InsideLaws
 pub mod SlotLaws
 pub mod ScanLaws
@@ -26,8 +27,10 @@ pub mod SoundKept
 pub mod SweepLaws
 pub mod Handed
 pub mod RangesKept
+pub mod KindKept
 pub mod CommitLaws
 pub mod ReadYourWrites
+pub mod KindTable
 pub mod BenchTable
 pub mod BenchSweeps
 pub mod RunSheet

@@ -326,6 +326,11 @@ module _ {A : Type 0} (P : A → Type 0) where
   every-everywhere (x ∷ xs) h d q zero = h .0
   every-everywhere (x ∷ xs) h d q (suc i) = every-everywhere xs (h .1) d q i
 
+  -- element by element
+  pub every-of : (xs : List A) (d : A) → ((i : ℕ) → i < length xs → P (getD xs i d)) → Every P xs
+  every-of [] d f = tt
+  every-of (x ∷ xs) d f = (f 0 (zero-lt-suc _), every-of xs d (λ i o. f (suc i) (suc-le-suc o)))
+
   pub every-set : (xs : List A) → Every P xs → (i : ℕ) (x : A) → P x → Every P (set xs i x)
   every-set [] h i x q = tt
   every-set (y ∷ ys) h zero x q = (q, h .1)

@@ -12,7 +12,8 @@ use Rattle.model.specs.declared.Id.{Id}
 use Rattle.model.specs.Types.{Entry, Station}
 use Rattle.model.specs.Lists.{_and_, _or_}
 use Rattle.model.specs.Ids.{noId, sameId}
-use Rattle.model.specs.Limits.{keys, writeLimit}
+use Rattle.model.specs.Limits.{keys}
+use Rattle.model.specs.Kinds.{narrowKind}
 use Rattle.model.specs.KeySets.{keySet}
 use Rattle.model.specs.Listed.{listedEntry, listedEntries, listed, numberedEntry, numbered}
 use Rattle.model.specs.Entries.{noEntry, isNoEntry, entryRules}
@@ -20,6 +21,7 @@ use Rattle.model.specs.Sound.{entryRight}
 use Rattle.model.specs.Ranges.{Every, EntryFits, StationFits, ListFits, ListsFit}
 use Rattle.model.proofs.Tests.{and-true}
 use Rattle.model.proofs.ListLaws.{every-map}
+use Rattle.model.proofs.KindLaws.{narrow-fits}
 use Rattle.model.proofs.KeySetLaws.{number-below, set-none, set-ascends, set-number, number-set, set-ones}
 
 -- ── each is the other's inverse ──
@@ -41,13 +43,14 @@ entries-there (e ∷ es) f = ap₂ (λ (x : Entry) (xs : List Entry). x ∷ xs) 
 pub station-back : (st : machine.Station.Station) → StationFits st → numbered (listed st) ≡ st
 station-back st f = λ z. record { live = st .live; entries = entries-back (st .entries) (f .entries) z }
 
--- and every station whose lists fit
-pub station-there : (st : Station) → ListsFit st → listed (numbered st) ≡ st
-station-there st f = λ z. record { live = st .live; entries = entries-there (st .entries) (f .entries) z }
+-- and every narrow station whose lists fit
+pub station-there : (st : Station) → st .kind ≡ narrowKind → ListsFit st → listed (numbered st) ≡ st
+station-there st k f = λ z. record { kind = sym k z; live = st .live; entries = entries-there (st .entries) (f .entries) z }
 
 -- ── what fits the one fits the other ──
 pub listed-fits : (st : machine.Station.Station) → StationFits st → ListsFit (listed st)
 listed-fits st f = record {
+  kind = narrow-fits;
   live-places = f .live-places;
   live = f .live;
   entry-places = length-map (st .entries) listedEntry ∙ f .entry-places;
@@ -107,8 +110,8 @@ listed-ids {A = A} f (e ∷ es) = ap (λ (xs : List A). f (e .id) ∷ xs) (liste
 
 -- ── "(2 now reads: 1 to 8 ones for an entry.)" ──
 pub right-by-ones : (e : machine.Entry.Entry) → EntryFits e
-    → entryRight (listedEntry e)
-    ≡ ((sameId (e .id) noId and eqb (ones (e .keys)) 0) or (leb 1 (ones (e .keys)) and leb (ones (e .keys)) writeLimit and leb 1 (e .id .txn) and leb 1 (e .id .clock)))
+    → entryRight narrowKind (listedEntry e)
+    ≡ ((sameId (e .id) noId and eqb (ones (e .keys)) 0) or (leb 1 (ones (e .keys)) and leb (ones (e .keys)) (narrowKind .writeLimit) and leb 1 (e .id .txn) and leb 1 (e .id .clock)))
 unfolding entryRight isNoEntry entryRules
 right-by-ones e f =
     ap₂ (λ (n : ℕ) (b : Bool). unused n or (counted n and b)) (set-ones (e .keys) (f .keys64)) (set-ascends (e .keys))
@@ -118,4 +121,4 @@ right-by-ones e f =
     unused n = sameId (e .id) noId and eqb n 0
 
     counted : ℕ → Bool
-    counted n = leb 1 n and leb n writeLimit and leb 1 (e .id .txn) and leb 1 (e .id .clock)
+    counted n = leb 1 n and leb n (narrowKind .writeLimit) and leb 1 (e .id .txn) and leb 1 (e .id .clock)

@@ -1,11 +1,11 @@
 -- A station within its types stays so under every call, and a store of bytes stays one of bytes (specs/Ranges).
-use Prim.Native.Nat.{ℕ, zero, suc, _+_, _*_, _/_, _^_, _<_, _≤_}
+use Prim.Native.Nat.{ℕ, zero, suc, _+_, _*_, _^_, _<_, _≤_}
 use mathlib.Core.Path.{_≡_, refl, sym, _∙_}
 use mathlib.Core.Logic.{_⊎_, inl, inr}
 use mathlib.Core.Bool.{Bool, true, false, not}
 use mathlib.Core.List.{List, [], _∷_, map, List·Memᴰ}
 use lib.Dec.{eqb, ltb, leb, lit<}
-use lib.ListN.{length, take, drop, replicate, length-set, length-map, length-drop}
+use lib.ListN.{length, take, drop, replicate, length-set, length-drop}
 use lib.Seq.{length-take-le}
 use native.Mathlib.Nat.{suc-ne-zero}
 use native.Mathlib.Omega.{arith}
@@ -16,12 +16,13 @@ use Rattle.model.specs.Types.{Entry, Station}
 use Rattle.model.specs.declared.Phase.{Phase}
 use Rattle.model.specs.declared.Phase.the-variants.{Unused, Open, Closing}
 use Rattle.model.specs.declared.Answer.{Answer}
-use Rattle.model.specs.Lists.{_and_, member, ascending, padded, anyBelow}
-use Rattle.model.specs.Limits.{keys, livePlaces, slots, writeLimit, readLimit, recordSize, storeSize, txnRange, numberRange, lastClock, byteRange}
+use Rattle.model.specs.Lists.{_and_, member, ascending, anyBelow}
+use Rattle.model.specs.Limits.{keys, livePlaces, entryPlaces, writePlaces, readLimit, recordSize, txnRange, numberRange, lastClock, byteRange}
+use Rattle.model.specs.Kinds.{Kind, storeSize, WriteSet, KindFits}
 use Rattle.model.specs.Ids.{noId}
 use Rattle.model.specs.Bytes.{bytes, number, headBytes, idIn}
 use Rattle.model.specs.Lives.{noWrite, noRead, blank, noLive, writesOf, readsOf, writeKey, readKey, hasWritten, hasRead, closingSlot, closingClock, recordsStored, withWrites, withReads, withPhase, writeCount}
-use Rattle.model.specs.Entries.{keysOf, noEntry, wroteAs, entryIn, entryFor, entryRules, committedMark, commitRecord, commitRules}
+use Rattle.model.specs.Entries.{keysOf, noEntry, wroteAs, entryIn, entryFor, entryRules, commitRecord, commitRules}
 use Rattle.model.specs.Stations.{idleStation, emptyStation, liveAt, entryAt, setLive, setEntry, isLive, isHeld, placeOf, isFree}
 use Rattle.model.specs.Records.{versionRecord, zeroRecord, recordPlace, recordAt, withRecord}
 use Rattle.model.specs.Slots.{judged, seen}
@@ -35,29 +36,24 @@ use Rattle.model.specs.Commit.{highestFree, commit}
 use Rattle.model.specs.Step.{oneMore, stepped, step}
 use Rattle.model.specs.Abort.{abort}
 use Rattle.model.specs.Collect.{collect}
-use Rattle.model.specs.Scan.{slotsSeen, entrySeen, lowestBroken, scanned, scan}
+use Rattle.model.specs.Scan.{slotsSeen, entrySeen, entriesSeen, lowestBroken, scanned, scan}
 use Rattle.model.specs.Ranges.{Every, IsByte, IdFits, WriteFits, ReadFits, PhaseFits, LiveFits, ListFits, ListsFit}
 use Rattle.model.specs.Sweep.{collections, stationAfter, recordsOf, sweep}
 use Rattle.model.specs.Calls.{Call, Start, Put, Get, Commit, Step, Abort, Collect, Scan, Sweep, does, txnOf, numberOf, IsTyped}
 use Rattle.model.proofs.Tests.{and-left, and-right, and-first, and-second, not-of-false}
-use Rattle.model.proofs.ListLaws.{greatest-below, every-at, every-everywhere, every-set, every-take, every-drop, every-append, every-replicate, every-from, every-map}
-use Rattle.model.proofs.InsertLaws.{ascending-head, ascending-tail, every-insert, padded-length, every-padded}
-use Rattle.model.proofs.RecordLaws.{rules-entry}
+use Rattle.model.proofs.ListLaws.{greatest-below, every-at, every-of, every-everywhere, every-set, every-take, every-drop, every-append, every-replicate, every-from, every-map}
+use Rattle.model.proofs.InsertLaws.{every-insert, padded-length, every-padded}
+use Rattle.model.proofs.RecordLaws.{bytes-are, rules-entry, place-inside}
 use Rattle.model.proofs.RefusalLaws.{guard, unguarded, cond-rule}
 use Rattle.model.proofs.ScanLaws.{entries-length}
 use Rattle.model.proofs.StationLaws.{place-hit}
 use Rattle.model.proofs.ClockLaws.{clock-below, clock-by}
 use Rattle.model.proofs.GetLaws.{version-entry, version-wrote}
-use Rattle.model.proofs.SoundLaws.{Used, writes-length, writes-ascending, write-limit, read-limit, used-withWrite, used-withRead}
+use Rattle.model.proofs.SoundLaws.{Used, writes-length, writes-ascending, write-limit, read-limit, used-withWrite, used-withRead, entryFor-set}
 use Rattle.model.proofs.SoundFacts.{live-facts}
 use Rattle.model.proofs.CollectionLaws.{Ends, Goes, ends-or-goes, ends, nextStation, nextStore, goes}
 
 -- ── bytes ──
-pub bytes-are : (n x : ℕ) → Every IsByte (bytes n x)
-unfolding bytes
-bytes-are zero x = tt
-bytes-are (suc n) x = (omega arith, bytes-are n (x / byteRange))
-
 pub bytes-zeros : (n : ℕ) → Every IsByte (replicate n 0)
 bytes-zeros n = every-replicate IsByte n 0 (lit< tt)
 
@@ -91,7 +87,7 @@ blank-fits t p o f = record {
   phase = f;
   writes8 = lit< tt;
   write-places = refl;
-  writes = every-replicate WriteFits writeLimit noWrite noWrite-fits;
+  writes = every-replicate WriteFits writePlaces noWrite noWrite-fits;
   reads8 = lit< tt;
   read-places = refl;
   reads = every-replicate ReadFits readLimit noRead noRead-fits;
@@ -105,26 +101,26 @@ opened-fits : (t : ℕ) → t < txnRange → LiveFits (opened t)
 unfolding opened closingSlot closingClock recordsStored
 opened-fits t o = blank-fits t Open o (record { slot8 = lit< tt; clock64 = lit< tt; stored8 = lit< tt })
 
-idle-fits : (es : List Entry) → length es ≡ slots → Every ListFits es → ListsFit (idleStation es)
-idle-fits es l f = record { live-places = refl; live = every-replicate LiveFits livePlaces noLive noLive-fits; entry-places = l; entries = f }
+idle-fits : (κ : Kind) (es : List Entry) → KindFits κ → length es ≡ entryPlaces → Every ListFits es → ListsFit (idleStation κ es)
+idle-fits κ es φ l f = record { kind = φ; live-places = refl; live = every-replicate LiveFits livePlaces noLive noLive-fits; entry-places = l; entries = f }
 
-pub fits-empty : ListsFit emptyStation
+pub fits-empty : (κ : Kind) → KindFits κ → ListsFit (emptyStation κ)
 unfolding emptyStation
-fits-empty = idle-fits (replicate slots noEntry) refl (every-replicate ListFits slots noEntry noEntry-fits)
+fits-empty κ φ = idle-fits κ (replicate entryPlaces noEntry) φ refl (every-replicate ListFits entryPlaces noEntry noEntry-fits)
 
 -- ── a station's places and slots ──
 module _ (st : Station) (f : ListsFit st) where
   setLive-fits : (i : ℕ) (l : Live) → LiveFits l → ListsFit (setLive st i l)
   unfolding setLive
-  setLive-fits i l g = record { live-places = length-set (st .live) i l ∙ f .live-places; live = every-set LiveFits (st .live) (f .live) i l g; entry-places = f .entry-places; entries = f .entries }
+  setLive-fits i l g = record { kind = f .kind; live-places = length-set (st .live) i l ∙ f .live-places; live = every-set LiveFits (st .live) (f .live) i l g; entry-places = f .entry-places; entries = f .entries }
 
   setEntry-fits : (d : ℕ) (e : Entry) → ListFits e → ListsFit (setEntry st d e)
   unfolding setEntry
-  setEntry-fits d e g = record { live-places = f .live-places; live = f .live; entry-places = length-set (st .entries) d e ∙ f .entry-places; entries = every-set ListFits (st .entries) (f .entries) d e g }
+  setEntry-fits d e g = record { kind = f .kind; live-places = f .live-places; live = f .live; entry-places = length-set (st .entries) d e ∙ f .entry-places; entries = every-set ListFits (st .entries) (f .entries) d e g }
 
 -- ── a live transaction changed ──
-module _ (l : Live) (f : LiveFits l) where
-  withWrite-fits : (es : List Entry) (k v : ℕ) → Used es l → k < keys → v < numberRange → (not (hasWritten k l) and leb writeLimit (l .«write_count»)) ≡ false → LiveFits (withWrite k v l)
+module _ (κ : Kind) (φ : KindFits κ) (l : Live) (f : LiveFits l) where
+  withWrite-fits : (es : List Entry) (k v : ℕ) → Used κ es l → k < keys → v < numberRange → (not (hasWritten k l) and leb (κ .writeLimit) (l .«write_count»)) ≡ false → LiveFits (withWrite k v l)
   unfolding withWrite withWrites writesOf
   withWrite-fits es k v u o ov r = record {
     txn32 = f .txn32;
@@ -132,15 +128,15 @@ module _ (l : Live) (f : LiveFits l) where
     reads8 = f .reads8;
     read-places = f .read-places;
     reads = f .reads;
-    writes8 = omega (arith, limit);
-    write-places = padded-length noWrite writeLimit _ limit;
-    writes = every-padded WriteFits noWrite writeLimit _ (every-insert writeKey _ WriteFits (writesOf l) (every-take WriteFits (l .«write_count») (l .writes) (f .writes)) (record { key8 = omega arith; value64 = ov })) noWrite-fits;
+    writes8 = omega (arith, limit, φ .writes-fit);
+    write-places = padded-length noWrite writePlaces _ (omega (arith, limit, φ .writes-fit));
+    writes = every-padded WriteFits noWrite writePlaces _ (every-insert writeKey _ WriteFits (writesOf l) (every-take WriteFits (l .«write_count») (l .writes) (f .writes)) (record { key8 = omega arith; value64 = ov })) noWrite-fits;
   }
     where
-      limit : withWrite k v l .«write_count» ≤ writeLimit
-      limit = write-limit (withWrite k v l) (used-withWrite es k v l u o r .sets)
+      limit : withWrite k v l .«write_count» ≤ κ .writeLimit
+      limit = write-limit κ (withWrite k v l) (used-withWrite κ es k v l u o r .sets)
 
-  withRead-fits : (es : List Entry) (k : ℕ) (i : Id) → Used es l → k < keys → IdFits i → (not (hasRead k l) and leb readLimit (l .«read_count»)) ≡ false → wroteAs es i k ≡ true → LiveFits (withRead k i l)
+  withRead-fits : (es : List Entry) (k : ℕ) (i : Id) → Used κ es l → k < keys → IdFits i → (not (hasRead k l) and leb readLimit (l .«read_count»)) ≡ false → wroteAs es i k ≡ true → LiveFits (withRead k i l)
   unfolding withRead withReads readsOf
   withRead-fits es k i u o oi r w = record {
     txn32 = f .txn32;
@@ -154,22 +150,22 @@ module _ (l : Live) (f : LiveFits l) where
   }
     where
       limit : withRead k i l .«read_count» ≤ readLimit
-      limit = read-limit (withRead k i l) (used-withRead es k i l u o r w .sets)
+      limit = read-limit κ (withRead k i l) (used-withRead κ es k i l u o r w .sets)
 
   withPhase-fits : (p : Phase) → PhaseFits p → LiveFits (withPhase p l)
   unfolding withPhase
   withPhase-fits p g = record { txn32 = f .txn32; phase = g; writes8 = f .writes8; write-places = f .write-places; writes = f .writes; reads8 = f .reads8; read-places = f .read-places; reads = f .reads }
 
   -- its entry
-  entryFor-fits : (es : List Entry) → Used es l → ListFits (entryFor l)
+  entryFor-fits : (es : List Entry) → Used κ es l → ListFits (entryFor l)
   unfolding entryFor
-  entryFor-fits es u = record { id = record { clock64 = f .phase .clock64; txn32 = f .txn32 }; ascends = writes-ascending l (u .sets) }
+  entryFor-fits es u = record { id = record { clock64 = f .phase .clock64; txn32 = f .txn32 }; ascends = writes-ascending κ l (u .sets) }
 
-closing-fits : (d c : ℕ) → d < slots → c < numberRange → PhaseFits (Closing d c 0)
+closing-fits : (κ : Kind) → KindFits κ → (d c : ℕ) → d < κ .slots → c < numberRange → PhaseFits (Closing d c 0)
 unfolding closingSlot closingClock recordsStored
-closing-fits d c od oc = record { slot8 = omega arith; clock64 = oc; stored8 = lit< tt }
+closing-fits κ φ d c od oc = record { slot8 = omega (arith, od, φ .slots-fit); clock64 = oc; stored8 = lit< tt }
 
-oneMore-fits : (p : Phase) → PhaseFits p → recordsStored p ≤ writeLimit → PhaseFits (oneMore p)
+oneMore-fits : (p : Phase) → PhaseFits p → recordsStored p ≤ writePlaces → PhaseFits (oneMore p)
 unfolding oneMore recordsStored closingSlot closingClock
 oneMore-fits Unused f o = f
 oneMore-fits Open f o = f
@@ -184,20 +180,16 @@ version-bytes : (k : ℕ) (i : Id) (v : ℕ) → IsByte k → Every IsByte (vers
 unfolding versionRecord
 version-bytes k i v h = every-append IsByte (headBytes k 0 i) (bytes 8 v) (head-bytes k 0 i h (lit< tt)) (bytes-are 8 v)
 
-keys-bytes : (lo : ℕ) (ks : List ℕ) → ascending lo keys ks ≡ true → Every IsByte ks
-keys-bytes lo [] h = tt
-keys-bytes lo (k ∷ ks) h = let o = ascending-head lo keys k ks h in (omega (arith, o .1), keys-bytes (suc k) ks (ascending-tail lo keys k ks h))
-
-commit-bytes : (e : Entry) → ListFits e → length (keysOf e) ≤ writeLimit → Every IsByte (commitRecord e)
+commit-bytes : (κ : Kind) (e : Entry) → KindFits κ → WriteSet κ (keysOf e) → Every IsByte (commitRecord κ e)
 unfolding commitRecord
-commit-bytes e f o =
-    every-append IsByte (headBytes committedMark (length (keysOf e)) (e .id)) (padded 0 writeLimit (keysOf e)) (head-bytes committedMark (length (keysOf e)) (e .id) (lit< tt) (omega arith))
-    (every-padded IsByte 0 writeLimit (keysOf e) (keys-bytes 0 (keysOf e) (f .ascends)) (lit< tt))
+commit-bytes κ e φ w =
+    every-append IsByte (headBytes (κ .mark) (length (keysOf e)) (e .id)) (κ .encode (keysOf e)) (head-bytes (κ .mark) (length (keysOf e)) (e .id) (φ .mark8) (omega (arith, w .1, φ .writes-fit)))
+    (every-of IsByte (κ .encode (keysOf e)) 0 (λ i o. φ .bytes8 (keysOf e) w i))
 
 -- the entry in a record's bytes
-entryIn-fits : (r : List ℕ) → length r ≡ recordSize → Every IsByte r → commitRules r ≡ true → ListFits (entryIn r)
+entryIn-fits : (κ : Kind) (r : List ℕ) → length r ≡ recordSize → Every IsByte r → commitRules κ r ≡ true → ListFits (entryIn κ r)
 unfolding entryIn idIn
-entryIn-fits r l h k = record { id = record { clock64 = part 8 8 (omega arith); txn32 = part 4 4 (omega arith) }; ascends = unfold entryRules in and-right _ _ (rules-entry r k) }
+entryIn-fits κ r l h k = record { id = record { clock64 = part 8 8 (omega arith); txn32 = part 4 4 (omega arith) }; ascends = unfold entryRules in and-right _ _ (rules-entry κ r k) }
   where
     part : (n at : ℕ) → at + n ≤ recordSize → number (take n (drop at r)) < byteRange ^ n
     part n at o = number-below n (take n (drop at r)) (length-take-le n (drop at r) (omega (arith, length-drop at r))) (every-take IsByte n (drop at r) (every-drop IsByte at r h))
@@ -209,16 +201,16 @@ judged-fits true b e f = noEntry-fits
 judged-fits false true e f = f refl
 judged-fits false false e f = noEntry-fits
 
-seen-fits : (s : List ℕ) (d : ℕ) → length s ≡ storeSize → Every IsByte s → d < slots → ListFits (entrySeen (seen s d))
+seen-fits : (κ : Kind) (s : List ℕ) (d : ℕ) → length s ≡ storeSize κ → Every IsByte s → d < κ .slots → ListFits (entrySeen (seen κ s d))
 unfolding seen recordAt
-seen-fits s d l h o = judged-fits _ _ _ (λ k. entryIn-fits (recordAt s d 0)
-    (length-take-le recordSize (drop (recordPlace d 0) s) (omega (arith, length-drop (recordPlace d 0) s)))
-    (every-take IsByte recordSize (drop (recordPlace d 0) s) (every-drop IsByte (recordPlace d 0) s h)) (and-left _ _ k))
+seen-fits κ s d l h o = judged-fits _ _ _ (λ k. entryIn-fits κ (recordAt κ s d 0)
+    (length-take-le recordSize (drop (recordPlace κ d 0) s) (omega (arith, length-drop (recordPlace κ d 0) s, l, place-inside κ d 0 o (omega arith))))
+    (every-take IsByte recordSize (drop (recordPlace κ d 0) s) (every-drop IsByte (recordPlace κ d 0) s h)) (and-left _ _ k))
 
-found-fits : (s : List ℕ) → length s ≡ storeSize → Every IsByte s → Every ListFits (map entrySeen (slotsSeen s))
-unfolding slotsSeen
-found-fits s l h = every-map ListFits entrySeen (λ x. ListFits (entrySeen x)) (λ x f. f) (slotsSeen s)
-    (every-from (λ x. ListFits (entrySeen x)) (seen s) slots 0 (λ d a b. seen-fits s d l h (omega arith)))
+found-fits : (κ : Kind) (s : List ℕ) → length s ≡ storeSize κ → Every IsByte s → Every ListFits (entriesSeen (slotsSeen κ s))
+unfolding entriesSeen slotsSeen
+found-fits κ s l h = every-padded ListFits noEntry entryPlaces (map entrySeen (slotsSeen κ s)) (every-map ListFits entrySeen (λ x. ListFits (entrySeen x)) (λ x f. f) (slotsSeen κ s)
+    (every-from (λ x. ListFits (entrySeen x)) (seen κ s) (κ .slots) 0 (λ d a b. seen-fits κ s d l h (omega arith)))) noEntry-fits
 
 -- ── what is shown of each call ──
 abbrev ContentFits : RecordWrite → Type 0
@@ -237,18 +229,18 @@ stores-fits : (a : Answer) (st : Station) (d n : ℕ) (r : List ℕ) → ListsFi
 unfolding saysStoring
 stores-fits a st d n r f h = record { handed = f; writes = (h, tt) }
 
-scan-fits : (s : List ℕ) → Every IsByte s → EffectFits (scan s)
+scan-fits : (κ : Kind) (s : List ℕ) → KindFits κ → Every IsByte s → EffectFits (scan κ s)
 unfolding scan scanned wrongLength
-scan-fits s h =
-    guard EffectFits 1 _ _ emptyStation _ (says-fits _ _ fits-empty) λ h1.
-    unguarded EffectFits emptyStation _ (
-    cond-rule EffectFits (ltb (lowestBroken (slotsSeen s)) (length (slotsSeen s))) _ _ (λ q. says-fits _ _ fits-empty) λ q.
-    says-fits _ _ (idle-fits _ (entries-length s) (found-fits s (eqb-true (length s) storeSize (not-false _ h1)) h)))
+scan-fits κ s φ h =
+    guard EffectFits 1 _ _ (emptyStation κ) _ (says-fits _ _ (fits-empty κ φ)) λ h1.
+    unguarded EffectFits (emptyStation κ) _ (
+    cond-rule EffectFits (ltb (lowestBroken (slotsSeen κ s)) (length (slotsSeen κ s))) _ _ (λ q. says-fits _ _ (fits-empty κ φ)) λ q.
+    says-fits _ _ (idle-fits κ _ φ (entries-length κ s φ) (found-fits κ s (eqb-true (length s) (storeSize κ) (not-false _ h1)) h)))
 
 -- ── the calls, in a station within its types ──
-free-low : (st : Station) → anyBelow (isFree st) slots ≡ true → highestFree st < slots
+free-low : (st : Station) → anyBelow (isFree st) (st .kind .slots) ≡ true → highestFree st < st .kind .slots
 unfolding highestFree
-free-low st h = greatest-below (isFree st) slots h .0
+free-low st h = greatest-below (isFree st) (st .kind .slots) h .0
 
 -- a row of refusals hands back the station unaltered
 fits-row : (st : Station) → ListsFit st → (n : ℕ) (b : Bool) (rs : List Row) (e : Effect) → (b ≡ false → EffectFits (refusals rs st e)) → EffectFits (refusals (n when b ∷ rs) st e)
@@ -283,7 +275,7 @@ module _ (st : Station) (f : ListsFit st) where
   unfolding liveAt
   live-fits t h8 = every-at LiveFits (st .live) (f .live) (placeOf t st) _ (place-hit st t (not-false _ h8) .0)
 
-  live-used : (t : ℕ) → unsound st ≡ false → eqb t 0 ≡ false → not (isLive t st) ≡ false → Used (st .entries) (liveAt st (placeOf t st))
+  live-used : (t : ℕ) → unsound st ≡ false → eqb t 0 ≡ false → not (isLive t st) ≡ false → Used (st .kind) (st .entries) (liveAt st (placeOf t st))
   unfolding unsound
   live-used t h2 h3 h8 = live-facts st (not-false _ h2) (placeOf t st) (λ e. eqb-false t 0 h3 (sym (place-hit st t (not-false _ h8) .1) ∙ e))
 
@@ -309,30 +301,30 @@ module _ (st : Station) (f : ListsFit st) where
     abbrev l : Live
     l = liveAt st (placeOf t st)
 
-    answered-fits : (s : List ℕ) (k : ℕ) → LiveFits l → Used (st .entries) l → k < keys → (ch : Choice) → choiceOf st l k ≡ ch → noRoom l k ch ≡ false → EffectFits (answered st s i k ch)
+    answered-fits : (s : List ℕ) (k : ℕ) → LiveFits l → Used (st .kind) (st .entries) l → k < keys → (ch : Choice) → choiceOf st l k ≡ ch → noRoom l k ch ≡ false → EffectFits (answered st s i k ch)
     unfolding noRoom answered
     answered-fits s k g u o (own v) e r = says-fits _ st f
     answered-fits s k g u o absent e r = says-fits _ st f
     answered-fits s k g u o (nofit x) e r = says-fits _ st f
-    answered-fits s k g u o (version d) e r = relive _ _ _ (withRead-fits l g (st .entries) k _ u o (entry-fits d (version-entry st l k d e .0) .id) r (version-wrote st l k d e))
+    answered-fits s k g u o (version d) e r = relive _ _ _ (withRead-fits (st .kind) (f .kind) l g (st .entries) k _ u o (entry-fits d (version-entry st l k d e .0) .id) r (version-wrote st l k d e))
 
-    stepped-fits : LiveFits l → Used (st .entries) l → EffectFits (stepped st i l (l .phase))
+    stepped-fits : LiveFits l → Used (st .kind) (st .entries) l → EffectFits (stepped st i l (l .phase))
     unfolding stepped
     stepped-fits g u =
         cond-rule EffectFits (ltb (recordsStored (l .phase)) (writeCount l)) _ _
         (λ q. stores-fits _ _ _ _ _ (more (omega (arith, ltb-true (recordsStored (l .phase)) (writeCount l) q))) (version-bytes _ _ _ (every-everywhere WriteFits (l .writes) (g .writes) noWrite noWrite-fits _ .key8))) λ n1.
         cond-rule EffectFits (eqb (recordsStored (l .phase)) (writeCount l)) _ _
-        (λ q. stores-fits _ _ _ _ _ (more (omega (arith, eqb-true (recordsStored (l .phase)) (writeCount l) q))) (commit-bytes _ (entryFor-fits l g (st .entries) u) (unfold entryFor in omega (arith, length-map (writesOf l) writeKey, writes-length l, write-limit l (u .sets))))) λ n2.
-        says-fits _ _ (setEntry-fits _ (setLive-fits st f i noLive noLive-fits) _ _ (entryFor-fits l g (st .entries) u))
+        (λ q. stores-fits _ _ _ _ _ (more (omega (arith, eqb-true (recordsStored (l .phase)) (writeCount l) q))) (commit-bytes (st .kind) (entryFor l) (f .kind) (entryFor-set (st .kind) (st .entries) l u))) λ n2.
+        says-fits _ _ (setEntry-fits _ (setLive-fits st f i noLive noLive-fits) _ _ (entryFor-fits (st .kind) (f .kind) l g (st .entries) u))
       where
         more : recordsStored (l .phase) ≤ writeCount l → ListsFit (setLive st i (withPhase (oneMore (l .phase)) l))
-        more o = setLive-fits st f i _ (withPhase-fits l g _ (oneMore-fits (l .phase) (g .phase) (omega (arith, o, writes-length l, write-limit l (u .sets)))))
+        more o = setLive-fits st f i _ (withPhase-fits (st .kind) (f .kind) l g _ (oneMore-fits (l .phase) (g .phase) (omega (arith, o, writes-length l, write-limit (st .kind) l (u .sets), f .kind .writes-fit))))
 
   call-fits : (c : Call) (s : List ℕ) → IsTyped c → Every IsByte s → EffectFits (does c st s)
   unfolding does txnOf numberOf start put get commit step abort sweep
   call-fits (Start t) s y h = row 2 _ _ _ λ h2. row 3 _ _ _ λ h3. row 6 _ _ _ λ h6. row 7 _ _ _ λ h7. unguarded EffectFits st _ (relive _ _ _ (opened-fits t (y .0 .0)))
   call-fits (Put t k v) s y h = row 2 _ _ _ λ h2. row 3 _ _ _ λ h3. row 4 _ _ _ λ h4. row 8 _ _ _ λ h8. row 9 _ _ _ λ h9. row 11 _ _ _ λ h11.
-      unguarded EffectFits st _ (relive _ _ _ (withWrite-fits _ (live-fits t h8) (st .entries) k v (live-used t h2 h3 h8) (leb-false keys k h4) (y .0 .1) h11))
+      unguarded EffectFits st _ (relive _ _ _ (withWrite-fits (st .kind) (f .kind) _ (live-fits t h8) (st .entries) k v (live-used t h2 h3 h8) (leb-false keys k h4) (y .0 .1) h11))
   call-fits (Get t k) s y h = row 1 _ _ _ λ h1. row 2 _ _ _ λ h2. row 3 _ _ _ λ h3. row 4 _ _ _ λ h4. row 8 _ _ _ λ h8. row 9 _ _ _ λ h9. row 12 _ _ _ λ h12. row 17 _ _ _ λ h17.
       unguarded EffectFits st _ (answered-fits t s k (live-fits t h8) (live-used t h2 h3 h8) (leb-false keys k h4) _ refl h12)
   call-fits (Commit t c) s y h = row 2 _ _ _ λ h2. row 3 _ _ _ λ h3. row 5 _ _ _ λ h5. row 8 _ _ _ λ h8. row 9 _ _ _ λ h9. row 13 _ _ _ λ h13. row 21 _ _ _ λ h21.
@@ -340,11 +332,11 @@ module _ (st : Station) (f : ListsFit st) where
       cond-rule EffectFits (isHeld t st) _ _ (λ q. says-fits _ st f) λ nh.
       cond-rule EffectFits (eqb (writeCount (l t)) 0) _ _ (λ q. relive _ _ _ noLive-fits) λ nw.
       let w : 1 ≤ writeCount (l t) = omega (arith, eqb-false (writeCount (l t)) 0 nw) in
-      relive _ _ _ (withPhase-fits _ (live-fits t (and-first _ _ h8 (not-of-false _ nh))) _ (closing-fits _ _ (free-low st (not-false _ (and-second _ _ h13 (le-leb _ _ w)))) (clock-fits c (y .0 .1) (and-second _ _ h21 (le-leb _ _ w))))))
+      relive _ _ _ (withPhase-fits (st .kind) (f .kind) _ (live-fits t (and-first _ _ h8 (not-of-false _ nh))) _ (closing-fits (st .kind) (f .kind) _ _ (free-low st (not-false _ (and-second _ _ h13 (le-leb _ _ w)))) (clock-fits c (y .0 .1) (and-second _ _ h21 (le-leb _ _ w))))))
   call-fits (Step t) s y h = row 1 _ _ _ λ h1. row 2 _ _ _ λ h2. row 3 _ _ _ λ h3. row 8 _ _ _ λ h8. row 10 _ _ _ λ h10. unguarded EffectFits st _ (stepped-fits t (live-fits t h8) (live-used t h2 h3 h8))
   call-fits (Abort t) s y h = row 2 _ _ _ λ h2. row 3 _ _ _ λ h3. row 8 _ _ _ λ h8. row 9 _ _ _ λ h9. unguarded EffectFits st _ (relive _ _ _ noLive-fits)
   call-fits (Collect d) s y h = collect-fits st f s d
-  call-fits Scan s y h = scan-fits s h
+  call-fits Scan s y h = scan-fits (st .kind) s (f .kind) h
   call-fits (Sweep n) s y h = row 1 _ _ _ λ h1. row 2 _ _ _ λ h2. row 20 _ _ _ λ h20. unguarded EffectFits st _ (collections-fit n st s f _)
 
 -- records of bytes stored
@@ -354,7 +346,7 @@ stored-bytes [] s g h = h
 stored-bytes (w ∷ ws) s g h = stored-bytes ws _ (g .1) (every-append IsByte (take at s) _ (every-take IsByte at s h) (every-append IsByte (w .content) _ (g .0) (every-drop IsByte (at + recordSize) s h)))
   where
     at : ℕ
-    at = recordPlace (w .slot) (w .index)
+    at = recordPlace (w .kind) (w .slot) (w .index)
 
 module _ (c : Call) (st : Station) (s : List ℕ) (y : IsTyped c) (f : ListsFit st) (h : Every IsByte s) where
   pub fits-kept : ListsFit (does c st s .station)

@@ -10,7 +10,8 @@ use Rattle.model.specs.declared.Live.{Live}
 use Rattle.model.specs.Types.{Station}
 use Rattle.model.specs.declared.Answer.the-variants as A
 use Rattle.model.specs.Lists.{all}
-use Rattle.model.specs.Limits.{keys, storeSize}
+use Rattle.model.specs.Limits.{keys}
+use Rattle.model.specs.Kinds.{storeSize}
 use Rattle.model.specs.Lives.{writesOf, hasWritten, valueUnder, isClosing, withWrites}
 use Rattle.model.specs.Stations.{liveAt, setLive, isLive, placeOf}
 use Rattle.model.specs.Sound.{sound}
@@ -36,12 +37,12 @@ place-is st h t i n e =
     (l, sym (one-place st h i (placeOf t st) (e ∙ sym (place-hit st t l .1)) nz))
 
 -- a get by an open transaction of a key in its write set
-own-read : (st : Station) (s : List ℕ) (t k : ℕ) → sound st ≡ true → length s ≡ storeSize → t ≢ 0 → k < keys → isLive t st ≡ true
+own-read : (st : Station) (s : List ℕ) (t k : ℕ) → sound st ≡ true → length s ≡ storeSize (st .kind) → t ≢ 0 → k < keys → isLive t st ≡ true
     → isClosing (liveAt st (placeOf t st) .phase) ≡ false → hasWritten k (liveAt st (placeOf t st)) ≡ true
     → get st s t k .answer ≡ A.Own (valueUnder k (writesOf (liveAt st (placeOf t st))))
 unfolding get wrongLength unsound noRoom notCarried answered says choiceOf
 own-read st s t k h o n ok z nc w = ap (λ (e : Effect). e .answer) (
-    skipped 1 _ _ st _ (not-of-true _ (eq-eqb (length s) storeSize o))
+    skipped 1 _ _ st _ (not-of-true _ (eq-eqb (length s) (storeSize (st .kind)) o))
     ∙ (skipped 2 _ _ st _ (not-of-true _ h)
     ∙ (skipped 3 _ _ st _ (ne-eqb t 0 n)
     ∙ (skipped 4 _ _ st _ (lt-leb keys k ok)
@@ -55,11 +56,11 @@ own-read st s t k h o n ok z nc w = ap (λ (e : Effect). e .answer) (
     ch = rw w
 
 -- the station with the value put
-after : (st : Station) (s : List ℕ) (t k v : ℕ) → sound (setLive st (placeOf t st) (withWrite k v (liveAt st (placeOf t st)))) ≡ true → length s ≡ storeSize → t ≢ 0 → k < keys
+after : (st : Station) (s : List ℕ) (t k v : ℕ) → sound (setLive st (placeOf t st) (withWrite k v (liveAt st (placeOf t st)))) ≡ true → length s ≡ storeSize (st .kind) → t ≢ 0 → k < keys
     → isLive t st ≡ true → isClosing (liveAt st (placeOf t st) .phase) ≡ false
     → get (setLive st (placeOf t st) (withWrite k v (liveAt st (placeOf t st)))) s t k .answer ≡ A.Own v
 after st s t k v h o n ok z nc =
-    own-read new s t k h o n ok (p .0) (rw (at-place) (unfold withWrite withWrites in nc)) (rw at-place (unfold hasWritten withWrite in rw (writesOf-withWrites _ l) (member-inserted k v (writesOf l))))
+    own-read new s t k h (unfold setLive in o) n ok (p .0) (rw (at-place) (unfold withWrite withWrites in nc)) (rw at-place (unfold hasWritten withWrite in rw (writesOf-withWrites _ l) (member-inserted k v (writesOf l))))
     ∙ ap A.Own (ap (λ (x : Live). valueUnder k (writesOf x)) at-place ∙ (unfold withWrite in (ap (valueUnder k) (writesOf-withWrites _ l) ∙ value-inserted k v (writesOf l))))
   where
     l : Live
@@ -77,7 +78,7 @@ after st s t k v h o n ok z nc =
     at-place : liveAt new (placeOf t new) ≡ withWrite k v l
     at-place = ap (liveAt new) (p .1) ∙ there
 
-pub read-your-writes : (st : Station) (s : List ℕ) (t k v : ℕ) → put st t k v .answer ≡ A.Kept → length s ≡ storeSize → get (put st t k v .station) s t k .answer ≡ A.Own v
+pub read-your-writes : (st : Station) (s : List ℕ) (t k v : ℕ) → put st t k v .answer ≡ A.Kept → length s ≡ storeSize (st .kind) → get (put st t k v .station) s t k .answer ≡ A.Own v
 unfolding put all says does
 read-your-writes st s t k v h o =
     let a = accepted _ st _ refl (ap refusedWith h ∙ (unfold refusedWith in refl)) in

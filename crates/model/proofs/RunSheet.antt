@@ -7,7 +7,7 @@ use Rattle.model.specs.declared.Phase.the-variants.{Closing}
 use Rattle.model.specs.declared.Answer.{Answer}
 use Rattle.model.specs.declared.Answer.the-variants as A
 use Rattle.model.specs.Lists.{_and_, _or_, all, any, first, filter, count, insert, padded, from, member, least, maximum, ascending, distinct, same, anyBelow, greatestBelow}
-use Rattle.model.specs.Limits.{storeSize}
+use Rattle.model.specs.Kinds.{narrowKind, slotStart, storeSize}
 use Rattle.model.specs.Ids.{older, sameId, newerOf, greatest}
 use Rattle.model.specs.Bytes.{bytes, number, idIn, headBytes}
 use Rattle.model.specs.Lives.{writesOf, readsOf, hasWritten, hasRead, valueUnder, isClosing, closingSlot, closingClock, recordsStored, slotMark, withWrites, withReads, withPhase}
@@ -28,7 +28,7 @@ use Rattle.model.specs.Commit.{highestFree, commit}
 use Rattle.model.specs.Step.{oneMore, stepped, step}
 use Rattle.model.specs.Abort.{abort}
 use Rattle.model.specs.Collect.{collect}
-use Rattle.model.specs.Scan.{slotsSeen, entrySeen, isCommitted, breaks, lowestBroken, scanned, scan}
+use Rattle.model.specs.Scan.{slotsSeen, entrySeen, entriesSeen, isCommitted, breaks, lowestBroken, scanned, scan}
 use Rattle.model.specs.Calls.{Call, Start, Put, Get, Commit, Step, Abort, Collect, Scan, does, answers}
 use Rattle.model.specs.Answers.{Values, values, valuesOf}
 
@@ -48,8 +48,8 @@ sheetValues =
     values 0 0 0 ∷ values 0 0 0 ∷ values 0 0 0 ∷ values 40 0 0 ∷ values 63 0 0 ∷ values 1 0 0 ∷ values 2 0 0 ∷ values 63 0 0
     ∷ values 1 0 0 ∷ values 0 0 0 ∷ values 40 100 5 ∷ values 0 0 0 ∷ values 0 100 5 ∷ values 15 0 0 ∷ values 0 0 0 ∷ []
 
-pub sheet-answers : answers sheetCalls emptyStation (replicate storeSize 0) ≡ sheetAnswers
-unfolding sheetCalls sheetAnswers _and_ _or_ all any first filter count insert padded from member ascending distinct same anyBelow greatestBelow older sameId newerOf greatest emptyStation writesOf readsOf wrote wroteAs hasWritten hasRead valueUnder isClosing closingSlot closingClock recordsStored liveAt entryAt setLive setEntry liveTxns heldTxns isLive isHeld placeOf slotOf holds slotMark closingSlots isFree bytes number idIn markIn entryIn valueIn headBytes commitRecord versionRecord zeroRecord entryRules carriesKeys commitRules carriesEntry carriesVersion recordAt withRecord recordOf versionsCarry judged seen isNoWrite isNoRead isNoEntry isNoLive zeroPastCounts setsRight names inUse closingRight placeRight entryRight sound lowerBound conflictsWith least lowestConflict conflicts Option·elim passes keepFirst foremost newest newestWriter keyInTheWay chosen choose newerOn superseded isReadBy isRead stored says saysStoring refusals wrongLength unsound opened start withWrites withWrite put choiceOf withReads withRead versionAt noRoom notCarried answered get withPhase highestFree maximum clocks clockAbove commit entryFor oneMore stepped step abort collect slotsSeen entrySeen isCommitted breaks lowestBroken scanned scan does answers
+pub sheet-answers : answers sheetCalls (emptyStation narrowKind) (replicate (storeSize narrowKind) 0) ≡ sheetAnswers
+unfolding sheetCalls sheetAnswers _and_ _or_ all any first filter count insert padded from member ascending distinct same anyBelow greatestBelow older sameId newerOf greatest emptyStation writesOf readsOf wrote wroteAs hasWritten hasRead valueUnder isClosing closingSlot closingClock recordsStored liveAt entryAt setLive setEntry liveTxns heldTxns isLive isHeld placeOf slotOf holds slotMark closingSlots isFree bytes number idIn markIn entryIn valueIn headBytes commitRecord versionRecord zeroRecord entryRules carriesKeys commitRules carriesEntry carriesVersion slotStart recordAt withRecord recordOf versionsCarry judged seen isNoWrite isNoRead isNoEntry isNoLive zeroPastCounts setsRight names inUse closingRight placeRight entryRight sound lowerBound conflictsWith least lowestConflict conflicts Option·elim passes keepFirst foremost newest newestWriter keyInTheWay chosen choose newerOn superseded isReadBy isRead stored says saysStoring refusals wrongLength unsound opened start withWrites withWrite put choiceOf withReads withRead versionAt noRoom notCarried answered get withPhase highestFree maximum clocks clockAbove commit entryFor oneMore stepped step abort collect slotsSeen entrySeen entriesSeen isCommitted breaks lowestBroken scanned scan does answers
 sheet-answers = refl
 
 pub sheet-values : map valuesOf sheetAnswers ≡ sheetValues

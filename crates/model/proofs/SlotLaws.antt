@@ -1,5 +1,5 @@
 -- Laws of what is read of a slot (specs/Slots), and of the rules of an entry.
-use Prim.Native.Nat.{ℕ, zero, suc, _+_, _*_, _<_, _≤_, suc-le-suc}
+use Prim.Native.Nat.{ℕ, zero, suc, _+_, _<_, _≤_, suc-le-suc}
 use mathlib.Core.Path.{_≡_, refl, sym, ap, subst, _∙_}
 use mathlib.Core.Logic.{_≢_}
 use mathlib.Core.Bool.{Bool, true, false}
@@ -13,7 +13,8 @@ use borrow.Author.Tests.{leb-true, eqb-true, eq-eqb, ne-eqb}
 use Rattle.model.specs.declared.Id.{Id}
 use Rattle.model.specs.Types.{Entry}
 use Rattle.model.specs.Lists.{_and_, first, ascending}
-use Rattle.model.specs.Limits.{keys, slots, writeLimit, recordSize, width, slotSize, storeSize}
+use Rattle.model.specs.Limits.{keys, recordSize}
+use Rattle.model.specs.Kinds.{Kind, width, slotSize, slotStart, storeSize, KindFits}
 use Rattle.model.specs.Entries.{keysOf, wrote, markIn, entryIn, freeMark, entryRules, commitRules, carriesEntry, recordOf}
 use Rattle.model.specs.Records.{zeroRecord, carriesVersion, recordPlace, recordAt, withRecord}
 use Rattle.model.specs.Slots.{free, committed, damaged, versionsCarry, judged, seen, slotBytes}
@@ -22,14 +23,14 @@ use Rattle.model.proofs.ListLaws.{member-finds, getD-all}
 use Rattle.model.proofs.RecordLaws.{length-zero, zero-mark, rules-mark, rules-entry, rules-carries, record-same, record-other, record-elsewhere}
 
 -- ── the rules of an entry ──
-module _ (e : Entry) (h : entryRules e ≡ true) where
+module _ (κ : Kind) (e : Entry) (h : entryRules κ e ≡ true) where
   pub rules-some : 1 ≤ length (keysOf e)
   unfolding entryRules
   rules-some = leb-true 1 (length (keysOf e)) (and-left _ _ (and-left _ _ (and-left _ _ (and-left _ _ h))))
 
-  pub rules-count : length (keysOf e) ≤ writeLimit
+  pub rules-count : length (keysOf e) ≤ κ .writeLimit
   unfolding entryRules
-  rules-count = leb-true (length (keysOf e)) writeLimit (and-right _ _ (and-left _ _ (and-left _ _ (and-left _ _ h))))
+  rules-count = leb-true (length (keysOf e)) (κ .writeLimit) (and-right _ _ (and-left _ _ (and-left _ _ (and-left _ _ h))))
 
   pub rules-txn : e .id .txn ≢ 0
   unfolding entryRules
@@ -52,8 +53,8 @@ pub record-of-low : (e : Entry) (k : ℕ) → wrote e k ≡ true → recordOf e 
 record-of-low e k h = let r = record-of e k h in omega (arith, r .1, r .2)
 
 -- it is one of a slot's records
-pub rules-record : (e : Entry) → entryRules e ≡ true → (k : ℕ) → wrote e k ≡ true → recordOf e k < width
-rules-record e h k w = omega (arith, record-of-low e k w, rules-count e h)
+pub rules-record : (κ : Kind) (e : Entry) → entryRules κ e ≡ true → (k : ℕ) → wrote e k ≡ true → recordOf e k < width κ
+rules-record κ e h k w = omega (arith, record-of-low e k w, rules-count κ e h)
 
 -- ── the three things that may be seen ──
 pub committed-injective : (e e′ : Entry) → committed e ≡ committed e′ → e ≡ e′
@@ -117,71 +118,71 @@ and-frame true b b′ f = f refl
 and-frame false b b′ f = refl
 
 -- slots of the same records look the same
-pub seen-frame : (s s′ : List ℕ) (d d′ : ℕ) → ((n : ℕ) → n < width → recordAt s d n ≡ recordAt s′ d′ n) → seen s d ≡ seen s′ d′
+pub seen-frame : (κ : Kind) (s s′ : List ℕ) (d d′ : ℕ) → ((n : ℕ) → n < width κ → recordAt κ s d n ≡ recordAt κ s′ d′ n) → seen κ s d ≡ seen κ s′ d′
 unfolding seen
-seen-frame s s′ d d′ f = rw (f 0 (lit< tt), and-frame (commitRules c) (versionsCarry (recordAt s d) (e .id) 1 (keysOf e)) (versionsCarry (recordAt s′ d′) (e .id) 1 (keysOf e)) versions)
+seen-frame κ s s′ d d′ f = rw (f 0 (omega arith), and-frame (commitRules κ c) (versionsCarry (recordAt κ s d) (e .id) 1 (keysOf e)) (versionsCarry (recordAt κ s′ d′) (e .id) 1 (keysOf e)) versions)
   where
     c : List ℕ
-    c = recordAt s′ d′ 0
+    c = recordAt κ s′ d′ 0
 
     e : Entry
-    e = entryIn c
+    e = entryIn κ c
 
-    versions : commitRules c ≡ true → versionsCarry (recordAt s d) (e .id) 1 (keysOf e) ≡ versionsCarry (recordAt s′ d′) (e .id) 1 (keysOf e)
-    versions h = versions-frame (recordAt s d) (recordAt s′ d′) (e .id) 1 (keysOf e) (λ m a b. f m (omega (arith, rules-count e (rules-entry c h))))
+    versions : commitRules κ c ≡ true → versionsCarry (recordAt κ s d) (e .id) 1 (keysOf e) ≡ versionsCarry (recordAt κ s′ d′) (e .id) 1 (keysOf e)
+    versions h = versions-frame (recordAt κ s d) (recordAt κ s′ d′) (e .id) 1 (keysOf e) (λ m a b. f m (omega (arith, rules-count κ e (rules-entry κ c h))))
 
-module _ (s : List ℕ) (d : ℕ) where
-  pub seen-free : markIn (recordAt s d 0) ≡ freeMark → seen s d ≡ free
+module _ (κ : Kind) (s : List ℕ) (d : ℕ) where
+  pub seen-free : markIn (recordAt κ s d 0) ≡ freeMark → seen κ s d ≡ free
   unfolding seen judged
-  seen-free h = rw (eq-eqb (markIn (recordAt s d 0)) freeMark h)
+  seen-free h = rw (eq-eqb (markIn (recordAt κ s d 0)) freeMark h)
 
-  pub seen-free-mark : seen s d ≡ free → markIn (recordAt s d 0) ≡ freeMark
+  pub seen-free-mark : seen κ s d ≡ free → markIn (recordAt κ s d 0) ≡ freeMark
   unfolding seen
-  seen-free-mark h = eqb-true (markIn (recordAt s d 0)) freeMark (judged-free _ _ _ h)
+  seen-free-mark h = eqb-true (markIn (recordAt κ s d 0)) freeMark (judged-free _ _ _ h)
 
-  pub seen-committed : (e : Entry) → commitRules (recordAt s d 0) ≡ true → entryIn (recordAt s d 0) ≡ e
-      → ((j : ℕ) → j < length (keysOf e) → carriesVersion (recordAt s d (suc j)) (getD (keysOf e) j 0) (e .id) ≡ true) → seen s d ≡ committed e
+  pub seen-committed : (e : Entry) → KindFits κ → commitRules κ (recordAt κ s d 0) ≡ true → entryIn κ (recordAt κ s d 0) ≡ e
+      → ((j : ℕ) → j < length (keysOf e) → carriesVersion (recordAt κ s d (suc j)) (getD (keysOf e) j 0) (e .id) ≡ true) → seen κ s d ≡ committed e
   unfolding seen
-  seen-committed e h q f = rw (mark, h, q, versions-true (recordAt s d) (e .id) 1 (keysOf e) f′) (unfold judged _and_ in refl)
+  seen-committed e φ h q f = rw (mark, h, q, versions-true (recordAt κ s d) (e .id) 1 (keysOf e) f′) (unfold judged _and_ in refl)
     where
-      mark : eqb (markIn (recordAt s d 0)) freeMark ≡ false
-      mark = ne-eqb (markIn (recordAt s d 0)) freeMark (λ z. lt-irrefl 0 (omega (arith, z, rules-mark (recordAt s d 0) h)))
+      mark : eqb (markIn (recordAt κ s d 0)) freeMark ≡ false
+      mark = ne-eqb (markIn (recordAt κ s d 0)) freeMark (λ z. φ .marked (sym (rules-mark κ (recordAt κ s d 0) h) ∙ z))
 
       e′ : (j : ℕ) → suc j ≡ 1 + j
       e′ j = omega arith
 
-      f′ : (j : ℕ) → j < length (keysOf e) → carriesVersion (recordAt s d (1 + j)) (getD (keysOf e) j 0) (e .id) ≡ true
-      f′ j o = subst (λ (m : ℕ). carriesVersion (recordAt s d m) (getD (keysOf e) j 0) (e .id) ≡ true) (e′ j) (f j o)
+      f′ : (j : ℕ) → j < length (keysOf e) → carriesVersion (recordAt κ s d (1 + j)) (getD (keysOf e) j 0) (e .id) ≡ true
+      f′ j o = subst (λ (m : ℕ). carriesVersion (recordAt κ s d m) (getD (keysOf e) j 0) (e .id) ≡ true) (e′ j) (f j o)
 
   -- a slot that is seen as committed
-  module _ (e : Entry) (h : seen s d ≡ committed e) where
-    judgement : ((commitRules (recordAt s d 0) and versionsCarry (recordAt s d) (entryIn (recordAt s d 0) .id) 1 (keysOf (entryIn (recordAt s d 0)))) ≡ true) × (entryIn (recordAt s d 0) ≡ e)
+  module _ (e : Entry) (h : seen κ s d ≡ committed e) where
+    judgement : ((commitRules κ (recordAt κ s d 0) and versionsCarry (recordAt κ s d) (entryIn κ (recordAt κ s d 0) .id) 1 (keysOf (entryIn κ (recordAt κ s d 0)))) ≡ true) × (entryIn κ (recordAt κ s d 0) ≡ e)
     unfolding seen
     judgement = judged-committed _ _ _ e h
 
-    pub committed-entry : entryIn (recordAt s d 0) ≡ e
+    pub committed-entry : entryIn κ (recordAt κ s d 0) ≡ e
     committed-entry = judgement .1
 
-    pub committed-rules : entryRules e ≡ true
-    committed-rules = subst (λ (x : Entry). entryRules x ≡ true) committed-entry (rules-entry (recordAt s d 0) (and-left _ _ (judgement .0)))
+    pub committed-rules : entryRules κ e ≡ true
+    committed-rules = subst (λ (x : Entry). entryRules κ x ≡ true) committed-entry (rules-entry κ (recordAt κ s d 0) (and-left _ _ (judgement .0)))
 
-    pub committed-carries : carriesEntry (recordAt s d 0) e ≡ true
-    committed-carries = subst (λ (x : Entry). carriesEntry (recordAt s d 0) x ≡ true) committed-entry (rules-carries (recordAt s d 0) (and-left _ _ (judgement .0)))
+    pub committed-carries : carriesEntry κ (recordAt κ s d 0) e ≡ true
+    committed-carries = subst (λ (x : Entry). carriesEntry κ (recordAt κ s d 0) x ≡ true) committed-entry (rules-carries κ (recordAt κ s d 0) (and-left _ _ (judgement .0)))
 
-    committed-versions : versionsCarry (recordAt s d) (e .id) 1 (keysOf e) ≡ true
-    committed-versions = subst (λ (x : Entry). versionsCarry (recordAt s d) (x .id) 1 (keysOf x) ≡ true) committed-entry (and-right _ _ (judgement .0))
+    committed-versions : versionsCarry (recordAt κ s d) (e .id) 1 (keysOf e) ≡ true
+    committed-versions = subst (λ (x : Entry). versionsCarry (recordAt κ s d) (x .id) 1 (keysOf x) ≡ true) committed-entry (and-right _ _ (judgement .0))
 
     -- its nth version record, and that of a key it wrote
-    pub committed-nth : (j : ℕ) → j < length (keysOf e) → carriesVersion (recordAt s d (suc j)) (getD (keysOf e) j 0) (e .id) ≡ true
-    committed-nth j o = subst (λ (m : ℕ). carriesVersion (recordAt s d m) (getD (keysOf e) j 0) (e .id) ≡ true) q (versions-at (recordAt s d) (e .id) 1 (keysOf e) committed-versions j o)
+    pub committed-nth : (j : ℕ) → j < length (keysOf e) → carriesVersion (recordAt κ s d (suc j)) (getD (keysOf e) j 0) (e .id) ≡ true
+    committed-nth j o = subst (λ (m : ℕ). carriesVersion (recordAt κ s d m) (getD (keysOf e) j 0) (e .id) ≡ true) q (versions-at (recordAt κ s d) (e .id) 1 (keysOf e) committed-versions j o)
       where
         q : 1 + j ≡ suc j
         q = omega arith
 
-    pub committed-version : (k : ℕ) → wrote e k ≡ true → carriesVersion (recordAt s d (recordOf e k)) k (e .id) ≡ true
+    pub committed-version : (k : ℕ) → wrote e k ≡ true → carriesVersion (recordAt κ s d (recordOf e k)) k (e .id) ≡ true
     committed-version k w =
         let r = record-of e k w in
-        subst (λ (x : ℕ). carriesVersion (recordAt s d (recordOf e k)) x (e .id) ≡ true) (r .3) (subst (λ (m : ℕ). carriesVersion (recordAt s d m) (getD (keysOf e) (r .0) 0) (e .id) ≡ true) (sym (r .2)) (committed-nth (r .0) (r .1)))
+        subst (λ (x : ℕ). carriesVersion (recordAt κ s d (recordOf e k)) x (e .id) ≡ true) (r .3) (subst (λ (m : ℕ). carriesVersion (recordAt κ s d m) (getD (keysOf e) (r .0) 0) (e .id) ≡ true) (sym (r .2)) (committed-nth (r .0) (r .1)))
 
 -- ── a slot handed on as its bytes ──
 take-inside : (k m n : ℕ) (l : List ℕ) → k + m ≤ n → take m (drop k (take n l)) ≡ take m (drop k l)
@@ -190,39 +191,43 @@ take-inside (suc k) m zero l o = absurd (not-suc-le-zero {n = k + m} (omega arit
 take-inside (suc k) m (suc n) [] o = refl
 take-inside (suc k) m (suc n) (x ∷ xs) o = take-inside k m n xs (omega arith)
 
-pub slot-record : (s : List ℕ) (d n : ℕ) → n < width → recordAt (slotBytes s d) 0 n ≡ recordAt s d n
-unfolding recordAt slotBytes
-slot-record s d n o = take-inside (recordPlace 0 n) recordSize slotSize (drop (slotSize * d) s) (omega arith)
-    ∙ ap (take recordSize) (drop-drop (recordPlace 0 n) (slotSize * d) s ∙ ap (λ (m : ℕ). drop m s) e)
-  where
-    e : slotSize * d + recordPlace 0 n ≡ recordPlace d n
-    e = omega arith
+pub first-slot : (κ : Kind) → slotStart κ 0 ≡ 0
+unfolding slotStart
+first-slot κ = omega arith
 
-pub slot-bytes : (s : List ℕ) (d : ℕ) → seen (slotBytes s d) 0 ≡ seen s d
-slot-bytes s d = seen-frame (slotBytes s d) s 0 d (λ n o. slot-record s d n o)
+pub slot-record : (κ : Kind) (s : List ℕ) (d n : ℕ) → n < width κ → recordAt κ (slotBytes κ s d) 0 n ≡ recordAt κ s d n
+unfolding recordAt slotBytes
+slot-record κ s d n o = take-inside (recordPlace κ 0 n) recordSize (slotSize κ) (drop (slotStart κ d) s) (omega (arith, first-slot κ))
+    ∙ ap (take recordSize) (drop-drop (recordPlace κ 0 n) (slotStart κ d) s ∙ ap (λ (m : ℕ). drop m s) e)
+  where
+    e : slotStart κ d + recordPlace κ 0 n ≡ recordPlace κ d n
+    e = omega (arith, first-slot κ)
+
+pub slot-bytes : (κ : Kind) (s : List ℕ) (d : ℕ) → seen κ (slotBytes κ s d) 0 ≡ seen κ s d
+slot-bytes κ s d = seen-frame κ (slotBytes κ s d) s 0 d (λ n o. slot-record κ s d n o)
 
 -- they are a part of the store
-pub slot-part : (s : List ℕ) (d : ℕ) → seen (take slotSize (drop (slotSize * d) s)) 0 ≡ seen s d
+pub slot-part : (κ : Kind) (s : List ℕ) (d : ℕ) → seen κ (take (slotSize κ) (drop (slotStart κ d) s)) 0 ≡ seen κ s d
 unfolding slotBytes
-slot-part s d = slot-bytes s d
+slot-part κ s d = slot-bytes κ s d
 
 -- ── a record written into a store ──
 -- other slots look as they did
-pub seen-elsewhere : (s : List ℕ) (d n : ℕ) (r : List ℕ) → length s ≡ storeSize → d < slots → n < width → length r ≡ recordSize → (c : ℕ) → c ≢ d → seen (withRecord s d n r) c ≡ seen s c
-seen-elsewhere s d n r z od on l c h = seen-frame (withRecord s d n r) s c c (λ m o. record-elsewhere s d n r z od on l c m h o)
+pub seen-elsewhere : (κ : Kind) (s : List ℕ) (d n : ℕ) (r : List ℕ) → length s ≡ storeSize κ → d < κ .slots → n < width κ → length r ≡ recordSize → (c : ℕ) → c ≢ d → seen κ (withRecord κ s d n r) c ≡ seen κ s c
+seen-elsewhere κ s d n r z od on l c h = seen-frame κ (withRecord κ s d n r) s c c (λ m o. record-elsewhere κ s d n r z od on l c m h o)
 
 -- a version record written into a free slot leaves it free
-pub seen-unmarked : (s : List ℕ) (d n : ℕ) (r : List ℕ) → length s ≡ storeSize → d < slots → suc n < width → length r ≡ recordSize → seen s d ≡ free → seen (withRecord s d (suc n) r) d ≡ free
-seen-unmarked s d n r z od on l h = seen-free (withRecord s d (suc n) r) d (ap markIn (record-other s d (suc n) r z od on l 0 (omega arith)) ∙ seen-free-mark s d h)
+pub seen-unmarked : (κ : Kind) (s : List ℕ) (d n : ℕ) (r : List ℕ) → length s ≡ storeSize κ → d < κ .slots → suc n < width κ → length r ≡ recordSize → seen κ s d ≡ free → seen κ (withRecord κ s d (suc n) r) d ≡ free
+seen-unmarked κ s d n r z od on l h = seen-free κ (withRecord κ s d (suc n) r) d (ap markIn (record-other κ s d (suc n) r z od on l 0 (omega arith)) ∙ seen-free-mark κ s d h)
 
 -- a zeroed commit record frees a slot
-pub seen-cleared : (s : List ℕ) (d : ℕ) → length s ≡ storeSize → d < slots → seen (withRecord s d 0 zeroRecord) d ≡ free
-seen-cleared s d z od = seen-free (withRecord s d 0 zeroRecord) d (ap markIn (record-same s d 0 zeroRecord z od (lit< tt) length-zero) ∙ zero-mark)
+pub seen-cleared : (κ : Kind) (s : List ℕ) (d : ℕ) → length s ≡ storeSize κ → d < κ .slots → seen κ (withRecord κ s d 0 zeroRecord) d ≡ free
+seen-cleared κ s d z od = seen-free κ (withRecord κ s d 0 zeroRecord) d (ap markIn (record-same κ s d 0 zeroRecord z od (omega arith) length-zero) ∙ zero-mark)
 
 -- ── a store of zeros ──
-zeros-mark : (n d : ℕ) → markIn (recordAt (replicate n 0) d 0) ≡ freeMark
+zeros-mark : (κ : Kind) (n d : ℕ) → markIn (recordAt κ (replicate n 0) d 0) ≡ freeMark
 unfolding markIn recordAt
-zeros-mark n d = getD-take recordSize (drop (recordPlace d 0) (replicate n 0)) 0 0 (lit< tt) ∙ (getD-drop (recordPlace d 0) (replicate n 0) 0 0 ∙ getD-all n (recordPlace d 0 + 0) 0)
+zeros-mark κ n d = getD-take recordSize (drop (recordPlace κ d 0) (replicate n 0)) 0 0 (lit< tt) ∙ (getD-drop (recordPlace κ d 0) (replicate n 0) 0 0 ∙ getD-all n (recordPlace κ d 0 + 0) 0)
 
-pub zeros-free : (n d : ℕ) → seen (replicate n 0) d ≡ free
-zeros-free n d = seen-free (replicate n 0) d (zeros-mark n d)
+pub zeros-free : (κ : Kind) (n d : ℕ) → seen κ (replicate n 0) d ≡ free
+zeros-free κ n d = seen-free κ (replicate n 0) d (zeros-mark κ n d)

@@ -11,14 +11,13 @@ use Rattle.model.specs.declared.Live.{Live}
 use Rattle.model.specs.Types.{Station}
 use Rattle.model.specs.declared.Phase.{Phase}
 use Rattle.model.specs.declared.Phase.the-variants.{Unused, Open, Closing}
-use Rattle.model.specs.Limits.{slots}
 use Rattle.model.specs.Lives.{readsOf, isClosing, closingSlot, closingClock, recordsStored, writeCount}
 use Rattle.model.specs.Entries.{wrote}
 use Rattle.model.specs.Stations.{liveAt, entryAt, isLive, isHeld, placeOf, slotOf, holds}
 use Rattle.model.specs.Sound.{isNoLive, placeRight, sound}
 use Rattle.model.proofs.Tests.{and-left, and-right, bool-cases}
 use Rattle.model.proofs.StationLaws.{place-hit, slot-hit, unheld-txn, mark-closing}
-use Rattle.model.proofs.SoundLaws.{sound-at, Used, used-at, Shut, place-used, closing-used, place-shut, unheld-wrote, unheld-clock}
+use Rattle.model.proofs.SoundLaws.{sound-at, held-low, Used, used-at, Shut, place-used, closing-used, place-shut, unheld-wrote, unheld-clock}
 
 module _ (st : Station) (h : sound st ≡ true) where
   -- a transaction has one place, or one slot, and not both
@@ -45,22 +44,26 @@ module _ (st : Station) (h : sound st ≡ true) where
 
   -- an entry that wrote a key is held
   pub wrote-held : (d k : ℕ) → wrote (entryAt st d) k ≡ true → entryAt st d .id .txn ≢ 0
-  wrote-held d k w z = false≢true (sym (unheld-wrote (entryAt st d) (sound-at st h .entry d) z k) ∙ w)
+  wrote-held d k w z = false≢true (sym (unheld-wrote _ (entryAt st d) (sound-at st h .entry d) z k) ∙ w)
+
+  -- a held slot is one of the kind's
+  pub held-below : (d : ℕ) → entryAt st d .id .txn ≢ 0 → d < st .kind .slots
+  held-below = held-low st (sound-at st h)
 
   pub unheld-clockless : (d : ℕ) → entryAt st d .id .txn ≡ 0 → entryAt st d .id .clock ≡ 0
-  unheld-clockless d z = unheld-clock (entryAt st d) (sound-at st h .entry d) z
+  unheld-clockless d z = unheld-clock _ (entryAt st d) (sound-at st h .entry d) z
 
   -- a place with a number is in use; one without is not closing, and has read nothing
-  pub live-facts : (i : ℕ) → liveAt st i .txn ≢ 0 → Used (st .entries) (liveAt st i)
+  pub live-facts : (i : ℕ) → liveAt st i .txn ≢ 0 → Used (st .kind) (st .entries) (liveAt st i)
   live-facts i n = place-used st (liveAt st i) _ (sound-at st h .place i) n
 
 -- a closing transaction
 pub record IsClosing (st : Station) (l : Live) (d c n : ℕ) : Type 0 where
-  pub used : Used (st .entries) l
+  pub used : Used (st .kind) (st .entries) l
   pub keyed : 1 ≤ writeCount l
   pub clocked : 1 ≤ c
   pub within : n ≤ writeCount l + 1
-  pub low : d < slots
+  pub low : d < st .kind .slots
   pub unheld : entryAt st d .id .txn ≡ 0
 
 pub closing-facts : (st : Station) → sound st ≡ true → (i d c n : ℕ) → liveAt st i .phase ≡ Closing d c n → IsClosing st (liveAt st i) d c n
@@ -70,7 +73,7 @@ closing-facts st h i d c n e = record {
   keyed = u .keyed;
   clocked = subst (λ (p : Phase). 1 ≤ closingClock p) e (u .clocked);
   within = subst (λ (p : Phase). recordsStored p ≤ writeCount (liveAt st i) + 1) e (u .within);
-  low = subst (λ (p : Phase). closingSlot p < slots) e (u .low);
+  low = subst (λ (p : Phase). closingSlot p < st .kind .slots) e (u .low);
   unheld = unheld-txn st d (subst (λ (p : Phase). holds st (closingSlot p) ≡ false) e (u .unheld));
 }
   where
@@ -90,5 +93,5 @@ unused-reads st h i z = go (liveAt st i .phase) (sound-at st h .place i)
   where
     go : (p : Phase) → placeRight st p (liveAt st i) ≡ true → take (liveAt st i .«read_count») (liveAt st i .reads) ≡ []
     go Unused k = let c : liveAt st i .«read_count» ≡ 0 = eqb-true _ 0 (and-right _ _ (and-left _ _ (and-left _ _ k))) in rw c
-    go Open k = absurd (used-at _ (liveAt st i) k .numbered z)
-    go (Closing d c n) k = absurd (used-at _ (liveAt st i) (and-left _ _ k) .numbered z)
+    go Open k = absurd (used-at _ _ (liveAt st i) k .numbered z)
+    go (Closing d c n) k = absurd (used-at _ _ (liveAt st i) (and-left _ _ k) .numbered z)

@@ -1,12 +1,13 @@
 -- A sound station stays sound under every call, whatever the store's bytes are.
-use Prim.Native.Nat.{ℕ, zero, suc, _+_, _<_, _≤_}
+use Prim.Native.Nat.{ℕ, suc, _+_, _<_, _≤_}
 use mathlib.Core.Path.{_≡_, refl, sym, ap, subst, _∙_}
 use mathlib.Core.Logic.{_≢_, ⊎-elim}
 use mathlib.Core.Bool.{Bool, true, false, not, true≢false}
 use mathlib.Core.List.{List, _∷_, map, List·Memᴰ, List·Memᴰ·not-nil}
 use lib.Dec.{eqb, ltb, leb}
-use lib.ListN.{length, getD, List·getD-eq-default, length-map, List·getD-map}
-use native.Mathlib.Nat.{suc-ne-zero}
+use lib.ListN.{length, drop, getD, replicate, List·getD-eq-default, List·getD-map}
+use lib.Seq.{getD-drop}
+use native.Mathlib.Nat.{suc-ne-zero, lt-irrefl}
 use native.Mathlib.Decide.{ℕ-discrete, decLt}
 use native.Mathlib.Omega.{arith}
 use borrow.Author.Tests.{ltb-true, leb-false, eqb-true, eqb-false, not-true, not-false, le-leb}
@@ -17,14 +18,15 @@ use Rattle.model.specs.Types.{Entry, Station}
 use Rattle.model.specs.declared.Phase.{Phase}
 use Rattle.model.specs.declared.Phase.the-variants.{Unused, Open, Closing}
 use Rattle.model.specs.declared.Answer.{Answer}
-use Rattle.model.specs.Lists.{_and_, _or_, all, from, ascending, distinct, anyBelow}
-use Rattle.model.specs.Limits.{keys, livePlaces, slots, writeLimit, readLimit, storeSize}
+use Rattle.model.specs.Lists.{_and_, _or_, all, ascending, distinct, anyBelow}
+use Rattle.model.specs.Limits.{keys, livePlaces, entryPlaces, readLimit}
+use Rattle.model.specs.Kinds.{Kind, storeSize}
 use Rattle.model.specs.Ids.{sameId}
 use Rattle.model.specs.Lives.{noLive, writesOf, readsOf, hasWritten, hasRead, isClosing, closingSlot, closingClock, recordsStored, slotMark, withWrites, withReads, withPhase, writeCount}
 use Rattle.model.specs.Entries.{noEntry, wrote, wroteAs, isNoEntry, entryFor}
 use Rattle.model.specs.Stations.{emptyStation, liveAt, entryAt, setLive, setEntry, liveTxns, heldTxns, isLive, isHeld, placeOf, holds, closingSlots, isFree, idleStation}
 use Rattle.model.specs.Slots.{Seen, free, committed, damaged, seen}
-use Rattle.model.specs.Sound.{isNoWrite, isNoRead, isNoLive, zeroPastCounts, setsRight, placeRight, entryRight, sound}
+use Rattle.model.specs.Sound.{isNoWrite, isNoRead, zeroPastCounts, setsRight, placeRight, entryRight, sound}
 use Rattle.model.specs.Reading.{Choice, own, absent, nofit, version}
 use Rattle.model.specs.Supersedence.{isReadBy, isRead}
 use Rattle.model.specs.Effects.{Effect, says, saysStoring, Row, _when_, refusals}
@@ -36,20 +38,20 @@ use Rattle.model.specs.Commit.{highestFree, commit}
 use Rattle.model.specs.Step.{oneMore, stepped, step}
 use Rattle.model.specs.Abort.{abort}
 use Rattle.model.specs.Collect.{collect}
-use Rattle.model.specs.Scan.{slotsSeen, entrySeen, scan}
+use Rattle.model.specs.Scan.{slotsSeen, entrySeen, entriesSeen, scan}
 use Rattle.model.specs.Sweep.{sweep}
 use Rattle.model.specs.Calls.{Call, Start, Put, Get, Commit, Step, Abort, Collect, Scan, Sweep, does}
 use Rattle.model.proofs.CollectionLaws.{collections-keep}
-use Rattle.model.proofs.Tests.{and-left, and-right, and-intro, and-second, or-left, or-right, not-of-false, and-none-left, and-none-right, and-first}
-use Rattle.model.proofs.ListLaws.{all-cons, all-replicate, any-none, getD-mem, greatest-below}
+use Rattle.model.proofs.Tests.{and-left, and-right, and-intro, and-second, or-left, or-right, or-intro-left, not-of-false, and-none-left, and-none-right, and-first}
+use Rattle.model.proofs.ListLaws.{all-of, all-replicate, any-none, getD-all, getD-mem, greatest-below}
 use Rattle.model.proofs.DistinctLaws.{distinct-of, member-never}
 use Rattle.model.proofs.RefusalLaws.{guard, unguarded, cond-rule}
 use Rattle.model.proofs.SlotLaws.{committed-rules}
-use Rattle.model.proofs.ScanLaws.{seen-at, txnSeen, KeepsRules, txn-seen, scan-length, scan-finds, scan-or, entries-length}
+use Rattle.model.proofs.ScanLaws.{KeepsRules, txn-seen, scan-length, scan-finds, scan-or, scan-entry, scan-beyond}
 use Rattle.model.proofs.StationLaws.{mark-at, place-hit, unheld-txn, unheld-of, held-inside, not-live, not-held, liveAt-same, liveAt-other, setLive-entry, entryAt-other, slotMark-closing}
 use Rattle.model.proofs.ClockLaws.{clock-real}
 use Rattle.model.proofs.GetLaws.{version-wrote}
-use Rattle.model.proofs.SoundLaws.{Sound, sound-at, sound-of, Used, Shut, place-used, place-shut, place-is-open, place-open, place-closing, place-in, sound-setLive, sound-relive, noLive-right, sound-unlive, setEntry-out, sound-setEntry, used-withWrite, used-withRead, entryFor-sound, entry-of-rules, unheld-wrote, names-setEntry}
+use Rattle.model.proofs.SoundLaws.{noEntry-none, Sound, sound-at, sound-of, sets-of, Used, Shut, place-used, place-shut, place-is-open, place-open, place-closing, place-in, sound-setLive, sound-relive, noLive-right, sound-unlive, setEntry-out, sound-setEntry, used-withWrite, used-withRead, entryFor-sound, entry-of-rules, unheld-wrote, names-setEntry}
 
 -- ── what is shown of each call ──
 -- what a call owes: the station handed back is sound
@@ -74,7 +76,7 @@ record Live-at (st : Station) (t : ℕ) : Type 0 where
   pub inside-live : placeOf t st < length (st .live)
   pub number : (liveAt st (placeOf t st)) .txn ≡ t
   pub real : (liveAt st (placeOf t st)) .txn ≢ 0
-  pub used : Used (st .entries) (liveAt st (placeOf t st))
+  pub used : Used (st .kind) (st .entries) (liveAt st (placeOf t st))
 
 live-at : (st : Station) (t : ℕ) → sound st ≡ true → t ≢ 0 → isLive t st ≡ true → Live-at st t
 live-at st t h n z =
@@ -84,13 +86,13 @@ live-at st t h n z =
     record { whole = s; inside-live = r .0; number = r .1; real = q; used = place-used st _ _ (s .place (placeOf t st)) q }
 
 -- ── start ──
-opened-used : (es : List Entry) (t : ℕ) → t ≢ 0 → Used es (opened t)
-unfolding opened setsRight writesOf readsOf ascending zeroPastCounts isNoWrite isNoRead sameId _and_ all
-opened-used es t n = record { numbered = n; sets = refl; named = refl; zeros = refl }
+opened-used : (κ : Kind) (es : List Entry) (t : ℕ) → t ≢ 0 → Used κ es (opened t)
+unfolding opened writesOf readsOf ascending zeroPastCounts isNoWrite isNoRead sameId _and_ all
+opened-used κ es t n = record { numbered = n; sets = sets-of κ (opened t) (omega arith) (omega arith) refl refl; named = refl; zeros = refl }
 
 opened-sound : (st : Station) (t : ℕ) → Sound st → t ≢ 0 → isLive 0 st ≡ true → isLive t st ≡ false → isHeld t st ≡ false → Sound (setLive st (placeOf 0 st) (opened t))
 unfolding opened slotMark
-opened-sound st t s n z nl nh = sound-setLive st (placeOf 0 st) (opened t) s (place-hit st 0 z .0) (place-open st (opened t) Open refl (opened-used (st .entries) t n))
+opened-sound st t s n z nl nh = sound-setLive st (placeOf 0 st) (opened t) s (place-hit st 0 z .0) (place-open st (opened t) Open refl (opened-used (st .kind) (st .entries) t n))
     (λ j nj nz. not-live st t nl nz j) (λ d nz e. not-held st t nh nz d (sym e)) (λ j nj nz e. nz refl)
 
 pub start-keeps : (st : Station) (t : ℕ) → sound st ≡ true → Keeps (start st t)
@@ -104,10 +106,10 @@ start-keeps st t h =
 
 -- ── put ──
 put-sound : (st : Station) (t k v : ℕ) → Live-at st t → isClosing ((liveAt st (placeOf t st)) .phase) ≡ false → k < keys
-    → (not (hasWritten k (liveAt st (placeOf t st))) and leb writeLimit ((liveAt st (placeOf t st)) .«write_count»)) ≡ false
+    → (not (hasWritten k (liveAt st (placeOf t st))) and leb (st .kind .writeLimit) ((liveAt st (placeOf t st)) .«write_count»)) ≡ false
     → Sound (setLive st (placeOf t st) (withWrite k v (liveAt st (placeOf t st))))
 put-sound st t k v a c o r = sound-relive st i (withWrite k v l) (a .whole) (a .inside-live)
-    (place-open st (withWrite k v l) _ phase (used-withWrite (st .entries) k v l (a .used) o r))
+    (place-open st (withWrite k v l) _ phase (used-withWrite (st .kind) (st .entries) k v l (a .used) o r))
     (unfold withWrite withWrites in refl) (unfold withWrite withWrites in refl)
   where
     i : ℕ
@@ -145,7 +147,7 @@ get-sound : (st : Station) (t k : ℕ) (i : Id) → Live-at st t → isClosing (
     → (not (hasRead k (liveAt st (placeOf t st))) and leb readLimit ((liveAt st (placeOf t st)) .«read_count»)) ≡ false
     → wroteAs (st .entries) i k ≡ true → Sound (setLive st (placeOf t st) (withRead k i (liveAt st (placeOf t st))))
 get-sound st t k id a c o r w = sound-relive st i (withRead k id l) (a .whole) (a .inside-live)
-    (place-open st (withRead k id l) _ phase (used-withRead (st .entries) k id l (a .used) o r w))
+    (place-open st (withRead k id l) _ phase (used-withRead (st .kind) (st .entries) k id l (a .used) o r w))
     (unfold withRead withReads in refl) (unfold withRead withReads in refl)
   where
     i : ℕ
@@ -179,15 +181,15 @@ get-keeps st s t k h =
     unguarded Keeps st _ (answered-sound st s t k h (live-at st t h (eqb-false t 0 h3) (not-false _ h8)) h9 (leb-false keys k h4) _ refl h12)
 
 -- ── commit ──
-used-withPhase : (es : List Entry) (p : Phase) (l : Live) → Used es l → Used es (withPhase p l)
+used-withPhase : (κ : Kind) (es : List Entry) (p : Phase) (l : Live) → Used κ es l → Used κ es (withPhase p l)
 unfolding withPhase setsRight zeroPastCounts writesOf readsOf
-used-withPhase es p l u = record { numbered = u .numbered; sets = u .sets; named = u .named; zeros = u .zeros }
+used-withPhase κ es p l u = record { numbered = u .numbered; sets = u .sets; named = u .named; zeros = u .zeros }
 
-commit-sound : (st : Station) (t c : ℕ) → Live-at st t → c ≢ 0 → 1 ≤ writeCount (liveAt st (placeOf t st)) → anyBelow (isFree st) slots ≡ true
+commit-sound : (st : Station) (t c : ℕ) → Live-at st t → c ≢ 0 → 1 ≤ writeCount (liveAt st (placeOf t st)) → anyBelow (isFree st) (st .kind .slots) ≡ true
     → Sound (setLive st (placeOf t st) (withPhase (Closing (highestFree st) c 0) (liveAt st (placeOf t st))))
 unfolding withPhase slotMark
 commit-sound st t c a n o f = sound-setLive st i m s (a .inside-live)
-    (place-closing st m _ (unfold isClosing in refl) (used-withPhase (st .entries) _ l (a .used)) shut)
+    (place-closing st m _ (unfold isClosing in refl) (used-withPhase (st .kind) (st .entries) _ l (a .used)) shut)
     (λ j nj nz e. nj (s .liveOnce j i e (λ z. nz (sym e ∙ z))))
     (λ d nz e. s .apart i d nz e)
     (λ j nj nz e. member-never (suc (highestFree st)) (closingSlots st) (not-true _ (unfold isFree in and-right _ _ (r .1))) (suc-ne-zero _) j (mark-at st j ∙ e))
@@ -204,8 +206,8 @@ commit-sound st t c a n o f = sound-setLive st i m s (a .inside-live)
     m : Live
     m = withPhase (Closing (highestFree st) c 0) (liveAt st (placeOf t st))
 
-    r : (highestFree st < slots) × (isFree st (highestFree st) ≡ true)
-    r = unfold highestFree in (let g = greatest-below (isFree st) slots f in (g .0, g .1))
+    r : (highestFree st < st .kind .slots) × (isFree st (highestFree st) ≡ true)
+    r = unfold highestFree in (let g = greatest-below (isFree st) (st .kind .slots) f in (g .0, g .1))
 
     shut : Shut st m
     shut = record {
@@ -261,7 +263,7 @@ more-sound : (st : Station) (t : ℕ) → Live-at st t → isClosing ((liveAt st
     → Sound (setLive st (placeOf t st) (withPhase (oneMore ((liveAt st (placeOf t st)) .phase)) (liveAt st (placeOf t st))))
 unfolding withPhase
 more-sound st t a c o = sound-relive st i m (a .whole) (a .inside-live)
-    (place-closing st m (oneMore (l .phase)) (oneMore-closing (l .phase) ∙ c) (used-withPhase (st .entries) (oneMore (l .phase)) l (a .used)) shut)
+    (place-closing st m (oneMore (l .phase)) (oneMore-closing (l .phase) ∙ c) (used-withPhase (st .kind) (st .entries) (oneMore (l .phase)) l (a .used)) shut)
     refl (oneMore-mark (l .phase))
   where
     i : ℕ
@@ -316,7 +318,7 @@ done-sound st t a c = go (decLt d (length (st₁ .entries)))
 
     -- the slot's entry wrote nothing
     nothing : (k : ℕ) → wrote (entryAt st₁ d) k ≡ false
-    nothing k = rw (setLive-entry st i noLive d) (unheld-wrote (entryAt st d) (s .entry d) (unheld-txn st d (was .unheld)) k)
+    nothing k = rw (setLive-entry st i noLive d) (unheld-wrote _ (entryAt st d) (s .entry d) (unheld-txn st d (was .unheld)) k)
 
     -- another place is one of the old station
     other : (j : ℕ) → (j ≡ i → ⊥) → liveAt st₁ j ≡ liveAt st j
@@ -340,7 +342,7 @@ done-sound st t a c = go (decLt d (length (st₁ .entries)))
     holds-other k n h = unheld-of (setEntry st₁ d e) k (ap (λ (f : Entry). f .id .txn) (entryAt-other st₁ d e k n) ∙ unheld-txn st₁ k h)
 
     places : (j : ℕ) → placeRight (setEntry st₁ d e) ((liveAt st₁ j) .phase) (liveAt st₁ j) ≡ true
-    places j = place-in st₁ (liveAt st₁ j) (setEntry st₁ d e)
+    places j = place-in st₁ (liveAt st₁ j) (setEntry st₁ d e) (unfold setEntry in refl)
         (λ r m h. names-setEntry st₁ d e r h (and-none-right _ _ (nothing (r .key))))
         ((liveAt st₁ j) .phase) (λ q h. holds-other _ (slot-other j q) h) (s₁ .place j)
 
@@ -356,8 +358,14 @@ done-sound st t a c = go (decLt d (length (st₁ .entries)))
     held : (k : ℕ) → k ≢ d → l .txn ≢ 0 → (entryAt st₁ k) .id .txn ≢ l .txn
     held k n nz z = s .apart i k nz (sym z ∙ ap (λ (f : Entry). f .id .txn) (setLive-entry st i noLive k))
 
+    right : entryRight (st₁ .kind) e ≡ true
+    right = unfold setLive in entry-of-rules (st .kind) e (entryFor-sound st s i c)
+
+    low : st₁ .kind .slots ≤ d → isNoEntry e ≡ true
+    low = unfold setLive in (λ o. absurd (lt-irrefl d (omega (arith, was .low, o))))
+
     go : Dec (d < length (st₁ .entries)) → Sound (setEntry st₁ d e)
-    go (yes o) = sound-setEntry st₁ d e s₁ o (entry-of-rules e (entryFor-sound st s i c)) places (unfold entryFor in held) (unfold entryFor in live)
+    go (yes o) = sound-setEntry st₁ d e s₁ o right low places (unfold entryFor in held) (unfold entryFor in live)
     go (no o) = subst Sound (sym (setEntry-out st₁ d e (omega arith))) s₁
 
 pub step-keeps : (st : Station) (s : List ℕ) (t : ℕ) → sound st ≡ true → Keeps (step st s t)
@@ -387,13 +395,13 @@ unread st e h i r m = go (decLt i (length (st .live)))
     go (yes o) = any-none _ _ (any-none _ (st .live) h _ (getD-mem (st .live) i _ o)) r m
     go (no o) = absurd (List·Memᴰ·not-nil (rw (List·getD-eq-default (st .live) _ {n = i} (omega arith)) at m))
 
-noEntry-right : entryRight noEntry ≡ true
-unfolding entryRight isNoEntry sameId _and_ _or_ all
-noEntry-right = refl
+noEntry-right : (κ : Kind) → entryRight κ noEntry ≡ true
+unfolding entryRight
+noEntry-right κ = or-intro-left _ _ noEntry-none
 
 collect-sound : (st : Station) (d : ℕ) → Sound st → holds st d ≡ true → isRead st (entryAt st d) ≡ false → Sound (setEntry st d noEntry)
-collect-sound st d s h n = sound-setEntry st d noEntry s o noEntry-right
-    (λ i. place-in st (liveAt st i) (setEntry st d noEntry)
+collect-sound st d s h n = sound-setEntry st d noEntry s o (noEntry-right (st .kind)) (λ p. noEntry-none)
+    (λ i. place-in st (liveAt st i) (setEntry st d noEntry) (unfold setEntry in refl)
     (λ r m q. names-setEntry st d noEntry r q (and-none-left _ _ (unread st (entryAt st d) n i r m)))
     ((liveAt st i) .phase) (λ q u. free (closingSlot ((liveAt st i) .phase)) u) (s .place i))
     (λ c nc nz. absurd (nz refl)) (λ i nz. nz)
@@ -420,56 +428,89 @@ collect-keeps st s d h =
     unguarded Keeps st _ (stores-keeps _ _ _ _ _ (sound-of _ (collect-sound st d (sound-at st h) (not-false _ (or-right _ _ h14)) h16)))
 
 -- ── scan ──
-pub sound-empty : sound emptyStation ≡ true
-unfolding sound emptyStation entryRight isNoEntry placeRight isNoLive isNoWrite isNoRead sameId _and_ _or_ all distinct liveTxns heldTxns closingSlots slotMark
-sound-empty = refl
+-- a station with no live transaction
+module _ (κ : Kind) (es : List Entry) where
+  idle-sound : all (entryRight κ) es ≡ true → all isNoEntry (drop (κ .slots) es) ≡ true → distinct (map (λ (e : Entry). e .id .txn) es) ≡ true → sound (idleStation κ es) ≡ true
+  unfolding sound liveTxns heldTxns closingSlots slotMark distinct _or_
+  idle-sound right past once = and-intro _ _ (and-intro _ _ (and-intro _ _ (and-intro _ _ right past)
+      (all-replicate (λ l. placeRight (idleStation κ es) (l .phase) l) livePlaces noLive (noLive-right (idleStation κ es))))
+      once) refl
+
+-- unused entries are right, and have no number
+all-none : (κ : Kind) (n : ℕ) → all (entryRight κ) (replicate n noEntry) ≡ true
+all-none κ n = all-replicate (entryRight κ) n noEntry (noEntry-right κ)
+
+past-none : (n m : ℕ) → all isNoEntry (drop n (replicate m noEntry)) ≡ true
+past-none n m = all-of isNoEntry (drop n (replicate m noEntry)) noEntry (λ i o. rw (getD-drop n (replicate m noEntry) i noEntry, getD-all m (n + i) noEntry) noEntry-none)
+
+pub sound-empty : (κ : Kind) → sound (emptyStation κ) ≡ true
+unfolding emptyStation
+sound-empty κ = idle-sound κ (replicate entryPlaces noEntry) (all-none κ entryPlaces) (past-none (κ .slots) entryPlaces) (unfold distinct _or_ in refl)
 
 -- what is seen of a slot, as an entry, keeps the rules
-seen-right : (s : List ℕ) (d : ℕ) → entryRight (entrySeen (seen s d)) ≡ true
-seen-right s d = go (seen s d) refl
+seen-right : (κ : Kind) (s : List ℕ) (d : ℕ) → entryRight κ (entrySeen (seen κ s d)) ≡ true
+seen-right κ s d = go (seen κ s d) refl
   where
-    go : (x : Seen) → seen s d ≡ x → entryRight (entrySeen x) ≡ true
-    go free h = unfold entrySeen in noEntry-right
-    go (committed e) h = unfold entrySeen in entry-of-rules e (committed-rules s d e h)
-    go damaged h = unfold entrySeen in noEntry-right
-
-all-seen : (s : List ℕ) (n i : ℕ) → all entryRight (map entrySeen (from n i (seen s))) ≡ true
-unfolding from all
-all-seen s zero i = refl
-all-seen s (suc n) i = all-cons entryRight (entrySeen (seen s i)) (map entrySeen (from n (suc i) (seen s))) (seen-right s i) (all-seen s n (suc i))
+    go : (x : Seen) → seen κ s d ≡ x → entryRight κ (entrySeen x) ≡ true
+    go free h = unfold entrySeen in noEntry-right κ
+    go (committed e) h = unfold entrySeen in entry-of-rules κ e (committed-rules κ s d e h)
+    go damaged h = unfold entrySeen in noEntry-right κ
 
 -- the station made of what is seen
-abbrev found : List Seen → Station
-found xs = idleStation (map entrySeen xs)
+abbrev found : Kind → List ℕ → Station
+found κ s = idleStation κ (entriesSeen (slotsSeen κ s))
 
--- no number stands twice where the rules are kept
-held-distinct : (s : List ℕ) → KeepsRules s → distinct (map (λ (e : Entry). e .id .txn) (map entrySeen (slotsSeen s))) ≡ true
-unfolding entrySeen
-held-distinct s k = distinct-of _ (λ i j oi oj e n. go i j (size i oi) (size j oj) (sym (at i (size i oi)) ∙ (e ∙ at j (size j oj))) (λ z. n (at i (size i oi) ∙ z)) (ℕ-discrete i j))
+-- its entries, slot by slot
+module _ (κ : Kind) (s : List ℕ) where
+  found-at : (P : Entry → Type 0) → ((d : ℕ) → d < κ .slots → P (entrySeen (seen κ s d))) → P noEntry → (d : ℕ) → P (entryAt (found κ s) d)
+  found-at P f z d = go (decLt d (κ .slots))
+    where
+      go : Dec (d < κ .slots) → P (entryAt (found κ s) d)
+      go (yes o) = subst P (sym (scan-entry κ s d o)) (f d o)
+      go (no o) = subst P (sym (scan-beyond κ s d (omega arith))) z
+
+  found-right : all (entryRight κ) (entriesSeen (slotsSeen κ s)) ≡ true
+  found-right = all-of (entryRight κ) (entriesSeen (slotsSeen κ s)) noEntry (λ d o. unfold entryAt in found-at (λ e. entryRight κ e ≡ true) (λ d o. seen-right κ s d) (noEntry-right κ) d)
+
+  found-past : all isNoEntry (drop (κ .slots) (entriesSeen (slotsSeen κ s))) ≡ true
+  found-past = all-of isNoEntry (drop (κ .slots) (entriesSeen (slotsSeen κ s))) noEntry (λ d o.
+      rw (getD-drop (κ .slots) (entriesSeen (slotsSeen κ s)) d noEntry, beyond d) noEntry-none)
+    where
+      beyond : (d : ℕ) → getD (entriesSeen (slotsSeen κ s)) (κ .slots + d) noEntry ≡ noEntry
+      beyond d = unfold entryAt in scan-beyond κ s (κ .slots + d) (omega arith)
+
+  -- no number stands twice where the rules are kept
+  held-distinct : KeepsRules κ s → distinct (map (λ (e : Entry). e .id .txn) (entriesSeen (slotsSeen κ s))) ≡ true
+  held-distinct k = distinct-of _ (λ i j oi oj e n. go i j (sym (at i) ∙ (e ∙ at j)) (λ z. n (at i ∙ z)) (ℕ-discrete i j))
+    where
+      at : (i : ℕ) → getD (map (λ (e : Entry). e .id .txn) (entriesSeen (slotsSeen κ s))) i 0 ≡ entryAt (found κ s) i .id .txn
+      at i = unfold entryAt in List·getD-map (λ (e : Entry). e .id .txn) (entriesSeen (slotsSeen κ s)) i noEntry
+
+      low : (i : ℕ) → entryAt (found κ s) i .id .txn ≢ 0 → (i < κ .slots) × (entryAt (found κ s) i ≡ entrySeen (seen κ s i))
+      low i n = pick (decLt i (κ .slots))
+        where
+          pick : Dec (i < κ .slots) → (i < κ .slots) × (entryAt (found κ s) i ≡ entrySeen (seen κ s i))
+          pick (yes o) = (o, scan-entry κ s i o)
+          pick (no o) = absurd (n (ap (λ (e : Entry). e .id .txn) (scan-beyond κ s i (omega arith))))
+
+      go : (i j : ℕ) → entryAt (found κ s) i .id .txn ≡ entryAt (found κ s) j .id .txn → entryAt (found κ s) i .id .txn ≢ 0 → Dec (i ≡ j) → i ≡ j
+      go i j e n (yes q) = q
+      go i j e n (no q) =
+          let a = low i n in
+          let b = low j (λ z. n (e ∙ z)) in
+          let ti = ap (λ (x : Entry). x .id .txn) (a .1) in
+          let tj = ap (λ (x : Entry). x .id .txn) (b .1) in
+          absurd (k .single i j _ _ (a .0) (b .0) q (txn-seen (seen κ s i) (λ z. n (ti ∙ z))) (txn-seen (seen κ s j) (λ z. n (e ∙ (tj ∙ z)))) (sym ti ∙ (e ∙ tj)))
+
+  found-sound : KeepsRules κ s → sound (found κ s) ≡ true
+  found-sound k = idle-sound κ (entriesSeen (slotsSeen κ s)) found-right found-past (held-distinct k)
+
+pub scan-keeps : (κ : Kind) (s : List ℕ) → Keeps (scan κ s)
+scan-keeps κ s = go (ℕ-discrete (length s) (storeSize κ))
   where
-    size : (i : ℕ) → i < length (map (λ (e : Entry). e .id .txn) (map entrySeen (slotsSeen s))) → i < slots
-    size i o = omega (arith, o, length-map (map entrySeen (slotsSeen s)) (λ (e : Entry). e .id .txn), entries-length s)
-
-    at : (i : ℕ) → i < slots → getD (map (λ (e : Entry). e .id .txn) (map entrySeen (slotsSeen s))) i 0 ≡ txnSeen (seen s i)
-    at i o = List·getD-map (λ (e : Entry). e .id .txn) (map entrySeen (slotsSeen s)) i (entrySeen free)
-        ∙ ap (λ (e : Entry). e .id .txn) (List·getD-map entrySeen (slotsSeen s) i free ∙ ap entrySeen (seen-at s i free o))
-
-    go : (i j : ℕ) → i < slots → j < slots → txnSeen (seen s i) ≡ txnSeen (seen s j) → txnSeen (seen s i) ≢ 0 → Dec (i ≡ j) → i ≡ j
-    go i j oi oj e n (yes q) = q
-    go i j oi oj e n (no q) = absurd (k .single i j _ _ oi oj q (txn-seen (seen s i) n) (txn-seen (seen s j) (λ z. n (e ∙ z))) e)
-
-found-sound : (s : List ℕ) → KeepsRules s → sound (found (slotsSeen s)) ≡ true
-unfolding sound liveTxns heldTxns closingSlots slotMark distinct _or_ slotsSeen
-found-sound s k = and-intro _ _ (and-intro _ _ (and-intro _ _ (all-seen s slots 0)
-    (all-replicate (λ l. placeRight (found (slotsSeen s)) (l .phase) l) livePlaces noLive (noLive-right (found (slotsSeen s)))))
-    (held-distinct s k)) refl
-
-pub scan-keeps : (s : List ℕ) → Keeps (scan s)
-scan-keeps s = go (ℕ-discrete (length s) storeSize)
-  where
-    go : Dec (length s ≡ storeSize) → Keeps (scan s)
-    go (no n) = rw (scan-length s n) (says-keeps _ _ sound-empty)
-    go (yes l) = ⊎-elim (λ k. rw (scan-finds s l k) (says-keeps _ _ (found-sound s k))) (λ r. rw (r .2) (says-keeps _ _ sound-empty)) (scan-or s l)
+    go : Dec (length s ≡ storeSize κ) → Keeps (scan κ s)
+    go (no n) = rw (scan-length κ s n) (says-keeps _ _ (sound-empty κ))
+    go (yes l) = ⊎-elim (λ k. rw (scan-finds κ s l k) (says-keeps _ _ (found-sound κ s k))) (λ r. rw (r .2) (says-keeps _ _ (sound-empty κ))) (scan-or κ s l)
 
 -- ── sweep ──
 pub sweep-keeps : (st : Station) (s : List ℕ) (n : ℕ) → sound st ≡ true → Keeps (sweep st s n)
@@ -481,9 +522,9 @@ sweep-keeps st s n h =
     unguarded Keeps st _ (collections-keep (λ x _. sound x ≡ true) (λ x z d k c. collect-keeps x z d k) n st s h)
 
 -- ── every call ──
-pub sound-scan : (s : List ℕ) → sound ((scan s) .station) ≡ true
+pub sound-scan : (κ : Kind) (s : List ℕ) → sound ((scan κ s) .station) ≡ true
 unfolding Keeps
-sound-scan s = scan-keeps s
+sound-scan κ s = scan-keeps κ s
 
 pub sound-kept : (c : Call) (st : Station) (s : List ℕ) → sound st ≡ true → sound ((does c st s) .station) ≡ true
 unfolding Keeps does
@@ -494,5 +535,5 @@ sound-kept (Commit t c) st s h = commit-keeps st t c h
 sound-kept (Step t) st s h = step-keeps st s t h
 sound-kept (Abort t) st s h = abort-keeps st t h
 sound-kept (Collect d) st s h = collect-keeps st s d h
-sound-kept Scan st s h = scan-keeps s
+sound-kept Scan st s h = scan-keeps (st .kind) s
 sound-kept (Sweep n) st s h = sweep-keeps st s n h

@@ -6,6 +6,7 @@ use mathlib.Core.List.{List, [], _∷_}
 use lib.Dec.{eqb, ltb}
 use lib.ListN.{length}
 use Rattle.model.specs.Types.{Station}
+use Rattle.model.specs.Kinds.{Kind}
 use Rattle.model.specs.declared.Answer.{Answer}
 use Rattle.model.specs.Stations.{liveAt, isHeld, placeOf}
 use Rattle.model.specs.Reading.{Choice, own, absent, nofit, version}
@@ -65,6 +66,6 @@ unfolding StoresNothing abort
 abort-stores-nothing st t = refusals-store-nothing _ st _ (says-stores-nothing _ _)
 
 -- "It writes nothing."
-pub scan-stores-nothing : (s : List ℕ) → scan s .stores ≡ []
+pub scan-stores-nothing : (κ : Kind) (s : List ℕ) → scan κ s .stores ≡ []
 unfolding StoresNothing scan scanned
-scan-stores-nothing s = refusals-store-nothing _ _ _ (cond-stores-nothing (ltb (lowestBroken (slotsSeen s)) (length (slotsSeen s))) _ _ (says-stores-nothing _ _) (says-stores-nothing _ _))
+scan-stores-nothing κ s = refusals-store-nothing _ _ _ (cond-stores-nothing (ltb (lowestBroken (slotsSeen κ s)) (length (slotsSeen κ s))) _ _ (says-stores-nothing _ _) (says-stores-nothing _ _))

@@ -11,11 +11,12 @@ use lib.Seq.{getD-set-same, getD-set-other}
 use native.Mathlib.Nat.{lt-irrefl}
 use native.Mathlib.Decide.{ℕ-discrete}
 use native.Mathlib.Omega.{arith}
-use borrow.Author.Tests.{not-true, eq-eqb, ne-eqb, le-ltb, lt-ltb, lt-leb}
+use borrow.Author.Tests.{not-true, eqb-false, eq-eqb, ne-eqb, le-ltb, lt-ltb, lt-leb}
 use Rattle.model.specs.Types.{Entry, Station}
 use Rattle.model.specs.declared.Answer.the-variants as A
 use Rattle.model.specs.Lists.{_and_, _or_, all, any}
-use Rattle.model.specs.Limits.{slots, storeSize, sweepLimit}
+use Rattle.model.specs.Limits.{sweepLimit}
+use Rattle.model.specs.Kinds.{storeSize}
 use Rattle.model.specs.Ids.{older}
 use Rattle.model.specs.Entries.{noEntry, keysOf, wrote, carriesEntry}
 use Rattle.model.specs.Stations.{entryAt, setEntry, holds}
@@ -32,9 +33,10 @@ use Rattle.model.proofs.IdLaws.{older-irrefl, older-trans}
 use Rattle.model.proofs.InsideLaws.{noEntry-wrote}
 use Rattle.model.proofs.OrderLaws.{IsOldest, oldest-is, oldest-none}
 use Rattle.model.proofs.RefusalLaws.{refusals-none, skipped, hit}
-use Rattle.model.proofs.StationLaws.{entry-get, entryAt-same, entryAt-other, setEntry-length}
+use Rattle.model.proofs.StationLaws.{entry-get, entryAt-same, entryAt-other}
+use Rattle.model.proofs.SoundFacts.{held-below}
 use Rattle.model.proofs.SoundKept.{collect-keeps, Keeps}
-use Rattle.model.proofs.CollectionLaws.{newer-writer, Collected, collected-station, stored-append, Ends, Goes, ends-or-goes, ends, nextStation, nextStore, goes, collections-keep, collect-length}
+use Rattle.model.proofs.CollectionLaws.{newer-writer, Collected, stored-append, Ends, Goes, ends-or-goes, ends, nextStation, nextStore, goes, collections-keep, collect-length}
 
 -- ── collecting an entry that is superseded changes no other entry's 15 or 16 ──
 module _ (es : List Entry) (d : ℕ) (sup : superseded es (getD es d noEntry) ≡ true) where
@@ -128,10 +130,10 @@ pub record IsSweep (st : Station) (s : List ℕ) (n : ℕ) (e : Effect) : Type 0
   pub count : e .answer ≡ A.Swept (length slots)
   pub ended : (length slots ≡ n) ⊎ (NoneLeft (e .station) ⊎ StoppedBy17 (e .station) (stored (e .stores) s))
 
-module _ (st : Station) (s : List ℕ) (l : length s ≡ storeSize) (h : sound st ≡ true) (w : length (st .entries) ≡ slots) where
-  length-right : wrongLength s ≡ false
+module _ (st : Station) (s : List ℕ) (l : length s ≡ storeSize (st .kind)) (h : sound st ≡ true) where
+  length-right : wrongLength (st .kind) s ≡ false
   unfolding wrongLength
-  length-right = not-of-true _ (eq-eqb (length s) storeSize l)
+  length-right = not-of-true _ (eq-eqb (length s) (storeSize (st .kind)) l)
 
   is-sound : unsound st ≡ false
   unfolding unsound
@@ -140,18 +142,21 @@ module _ (st : Station) (s : List ℕ) (l : length s ≡ storeSize) (h : sound s
   -- a collect of the oldest that may be is refused with 17, or not at all
   only-17 : (d : ℕ) → IsOldest (mayCollect st) (st .entries) d → refusedWith (collect st s d .answer) ≢ 0 → collect st s d .answer ≡ A.Refused 17 0
   unfolding collect mayCollect
-  only-17 d is n = go (carriesEntry (recordAt s d 0) (entryAt st d)) refl
+  only-17 d is n = go (carriesEntry (st .kind) (recordAt (st .kind) s d 0) (entryAt st d)) refl
     where
       may : mayCollect st (entryAt st d) ≡ true
       may = subst (λ (x : Entry). mayCollect st x ≡ true) (entry-get st d (is .low)) (is .passes)
 
-      r14 : (leb slots d or not (holds st d)) ≡ false
-      r14 = unfold holds in or-none _ _ (lt-leb slots d (omega (arith, is .low, w))) (not-of-true _ (and-left _ _ (and-left _ _ may)))
+      held : not (eqb (entryAt st d .id .txn) 0) ≡ true
+      held = and-left _ _ (and-left _ _ may)
 
-      upto : collect st s d ≡ refusals (17 when not (carriesEntry (recordAt s d 0) (entryAt st d)) ∷ []) st (saysStoring (A.Collected (entryAt st d .id)) (setEntry st d noEntry) d 0 zeroRecord)
+      r14 : (leb (st .kind .slots) d or not (holds st d)) ≡ false
+      r14 = unfold holds in or-none _ _ (lt-leb (st .kind .slots) d (held-below st h d (eqb-false _ 0 (not-true _ held)))) (not-of-true _ held)
+
+      upto : collect st s d ≡ refusals (17 when not (carriesEntry (st .kind) (recordAt (st .kind) s d 0) (entryAt st d)) ∷ []) st (saysStoring (A.Collected (entryAt st d .id)) (setEntry st d noEntry) d 0 zeroRecord)
       upto = skipped 1 _ _ st _ length-right ∙ (skipped 2 _ _ st _ is-sound ∙ (skipped 14 _ _ st _ r14 ∙ (skipped 15 _ _ st _ (not-of-true _ (and-right _ _ (and-left _ _ may))) ∙ skipped 16 _ _ st _ (not-true _ (and-right _ _ may)))))
 
-      go : (b : Bool) → carriesEntry (recordAt s d 0) (entryAt st d) ≡ b → collect st s d .answer ≡ A.Refused 17 0
+      go : (b : Bool) → carriesEntry (st .kind) (recordAt (st .kind) s d 0) (entryAt st d) ≡ b → collect st s d .answer ≡ A.Refused 17 0
       go true e = absurd (n (ap (λ (x : Effect). refusedWith (x .answer)) (upto ∙ (skipped 17 _ _ st _ (not-of-true _ e) ∙ refusals-none st _)) ∙ (unfold saysStoring in unfold refusedWith in refl)))
       go false e = ap (λ (x : Effect). x .answer) (upto ∙ hit 17 _ _ st _ (not-of-false _ e)) ∙ (unfold says in refl)
 
@@ -162,23 +167,22 @@ pub record AreCollects (st : Station) (s : List ℕ) (n : ℕ) (cs : List Collec
   pub collects : Collects slots st s (stationAfter cs st) (stored (recordsOf cs) s)
   pub ended : (length slots ≡ n) ⊎ (NoneLeft (stationAfter cs st) ⊎ StoppedBy17 (stationAfter cs st) (stored (recordsOf cs) s))
 
-are-collects : (n : ℕ) (st : Station) (s : List ℕ) → length s ≡ storeSize → sound st ≡ true → length (st .entries) ≡ slots → AreCollects st s n (collections n st s)
+are-collects : (n : ℕ) (st : Station) (s : List ℕ) → length s ≡ storeSize (st .kind) → sound st ≡ true → AreCollects st s n (collections n st s)
 unfolding Collects stationAfter recordsOf stored
-are-collects zero st s l h w = unfold collections in record { slots = []; long = refl; collects = (refl, refl); ended = inl refl }
-are-collects (suc n) st s l h w = go (ends-or-goes st s) (λ st₁ s₁ l₁ h₁ w₁. are-collects n st₁ s₁ l₁ h₁ w₁)
+are-collects zero st s l h = unfold collections in record { slots = []; long = refl; collects = (refl, refl); ended = inl refl }
+are-collects (suc n) st s l h = go (ends-or-goes st s) (λ st₁ s₁ l₁ h₁. are-collects n st₁ s₁ l₁ h₁)
   where
     stop : Ends st s → NoneLeft st ⊎ StoppedBy17 st s
     stop (inl e) = inl (unfold oldestToCollect in oldest-none (mayCollect st) (st .entries) e)
-    stop (inr x) = let is = oldest-is (mayCollect st) (st .entries) (x .0) (unfold oldestToCollect in x .1) in inr (x .0, is, only-17 st s l h w (x .0) is (x .2))
+    stop (inr x) = let is = oldest-is (mayCollect st) (st .entries) (x .0) (unfold oldestToCollect in x .1) in inr (x .0, is, only-17 st s l h (x .0) is (x .2))
 
     go : Ends st s ⊎ Goes st s
-        → ((st₁ : Station) (s₁ : List ℕ) → length s₁ ≡ storeSize → sound st₁ ≡ true → length (st₁ .entries) ≡ slots → AreCollects st₁ s₁ n (collections n st₁ s₁))
+        → ((st₁ : Station) (s₁ : List ℕ) → length s₁ ≡ storeSize (st₁ .kind) → sound st₁ ≡ true → AreCollects st₁ s₁ n (collections n st₁ s₁))
         → AreCollects st s (suc n) (collections (suc n) st s)
     go (inl e) ih = rw (ends st s e (suc n)) (record { slots = []; long = refl; collects = (refl, refl); ended = inr (stop e) })
     go (inr g) ih =
         let d = g .slot in
-        let r = ih (nextStation st s g) (nextStore st s g) (collect-length st s d l (g .taken)) (unfold Keeps in collect-keeps st s d h)
-        (ap (λ (x : Station). length (x .entries)) (collected-station st s d (g .taken)) ∙ (setEntry-length st d noEntry ∙ w)) in
+        let r = ih (nextStation st s g) (nextStore st s g) (collect-length st s d l (g .taken)) (unfold Keeps in collect-keeps st s d h) in
         let a : collect st s d .answer ≡ A.Collected (entryAt st d .id) = ap (λ (x : Effect). x .answer) (g .taken .comes-to) ∙ (unfold saysStoring in refl) in
         let q = sym (stored-append (collect st s d .stores) (recordsOf (collections n (nextStation st s g) (nextStore st s g))) s) in
         let k = collections n (nextStation st s g) (nextStore st s g) in
@@ -194,20 +198,20 @@ are-collects (suc n) st s l h w = go (ends-or-goes st s) (λ st₁ s₁ l₁ h�
         })
 
 -- ── sweep, its rows passed ──
-pub sweep-on : (st : Station) (s : List ℕ) (n : ℕ) → length s ≡ storeSize → sound st ≡ true → 1 ≤ n → n ≤ sweepLimit
+pub sweep-on : (st : Station) (s : List ℕ) (n : ℕ) → length s ≡ storeSize (st .kind) → sound st ≡ true → 1 ≤ n → n ≤ sweepLimit
     → sweep st s n ≡ saysStoringAll (A.Swept (length (collections n st s))) (stationAfter (collections n st s) st) (recordsOf (collections n st s))
 unfolding sweep wrongLength unsound
 sweep-on st s n l h o m =
-    skipped 1 _ _ st _ (not-of-true _ (eq-eqb (length s) storeSize l))
+    skipped 1 _ _ st _ (not-of-true _ (eq-eqb (length s) (storeSize (st .kind)) l))
     ∙ (skipped 2 _ _ st _ (not-of-true _ h)
     ∙ (skipped 20 _ _ st _ (or-none _ _ (ne-eqb n 0 (λ z. lt-irrefl 0 (omega arith))) (le-ltb sweepLimit n m))
     ∙ refusals-none st _))
 
 -- (a) a sweep is c collects, c its answer, each answered collected, each of the least id that may be collected at its time; and c is the limit, or
 -- none may be collected then, or the least that may is one whose record 17 names
-pub sweep-is-collects : (st : Station) (s : List ℕ) (n : ℕ) → length s ≡ storeSize → sound st ≡ true → length (st .entries) ≡ slots → 1 ≤ n → n ≤ sweepLimit → IsSweep st s n (sweep st s n)
-sweep-is-collects st s n l h w o m =
-    let r = are-collects n st s l h w in
+pub sweep-is-collects : (st : Station) (s : List ℕ) (n : ℕ) → length s ≡ storeSize (st .kind) → sound st ≡ true → 1 ≤ n → n ≤ sweepLimit → IsSweep st s n (sweep st s n)
+sweep-is-collects st s n l h o m =
+    let r = are-collects n st s l h in
     rw (sweep-on st s n l h o m) (record { slots = r .slots; collects = r .collects; count = ap A.Swept (sym (r .long)); ended = r .ended })
 
 -- ── sweeps add ──
@@ -247,18 +251,18 @@ pub record Adds (st : Station) (s : List ℕ) (one two both : Effect) : Type 0 w
   pub counts : (a b : ℕ) → one .answer ≡ A.Swept a → two .answer ≡ A.Swept b → both .answer ≡ A.Swept (a + b)
 
 module _ (st : Station) (s : List ℕ) where
-  pub sweep-1 : length s ≢ storeSize → (n : ℕ) → sweep st s n ≡ says (A.Refused 1 0) st
+  pub sweep-1 : length s ≢ storeSize (st .kind) → (n : ℕ) → sweep st s n ≡ says (A.Refused 1 0) st
   unfolding sweep wrongLength
   sweep-1 l n = hit 1 _ _ st _ (not-of-false _ (ne-eqb _ _ l))
 
-  pub sweep-2 : length s ≡ storeSize → sound st ≡ false → (n : ℕ) → sweep st s n ≡ says (A.Refused 2 0) st
+  pub sweep-2 : length s ≡ storeSize (st .kind) → sound st ≡ false → (n : ℕ) → sweep st s n ≡ says (A.Refused 2 0) st
   unfolding sweep wrongLength unsound
-  sweep-2 l h n = skipped 1 _ _ st _ (not-of-true _ (eq-eqb (length s) storeSize l)) ∙ hit 2 _ _ st _ (not-of-false _ h)
+  sweep-2 l h n = skipped 1 _ _ st _ (not-of-true _ (eq-eqb (length s) (storeSize (st .kind)) l)) ∙ hit 2 _ _ st _ (not-of-false _ h)
 
-  pub sweep-20 : length s ≡ storeSize → sound st ≡ true → (n : ℕ) → (n ≡ 0) ⊎ (sweepLimit < n) → sweep st s n ≡ says (A.Refused 20 0) st
+  pub sweep-20 : length s ≡ storeSize (st .kind) → sound st ≡ true → (n : ℕ) → (n ≡ 0) ⊎ (sweepLimit < n) → sweep st s n ≡ says (A.Refused 20 0) st
   unfolding sweep wrongLength unsound
   sweep-20 l h n x =
-      skipped 1 _ _ st _ (not-of-true _ (eq-eqb (length s) storeSize l)) ∙ (skipped 2 _ _ st _ (not-of-true _ h)
+      skipped 1 _ _ st _ (not-of-true _ (eq-eqb (length s) (storeSize (st .kind)) l)) ∙ (skipped 2 _ _ st _ (not-of-true _ h)
       ∙ hit 20 _ _ st _ (⊎-elim (λ z. or-intro-left _ _ (eq-eqb n 0 z)) (λ z. or-intro-right _ _ (lt-ltb sweepLimit n z)) x))
 
   module _ (m n : ℕ) (om : 1 ≤ m) (on : 1 ≤ n) (o : m + n ≤ sweepLimit) where
@@ -267,7 +271,7 @@ module _ (st : Station) (s : List ℕ) where
     unfolding says stored
     refused-add x p = rw (p m, p n, p (m + n)) (record { station = refl; bytes = refl; counts = λ a b e f. let z : _≡_ {A = ℕ} 0 1 = cc in absurd (omega arith) })
 
-    collects-add : length s ≡ storeSize → sound st ≡ true → Adds st s (sweep st s m) (sweep (sweep st s m .station) (stored (sweep st s m .stores) s) n) (sweep st s (m + n))
+    collects-add : length s ≡ storeSize (st .kind) → sound st ≡ true → Adds st s (sweep st s m) (sweep (sweep st s m .station) (stored (sweep st s m .stores) s) n) (sweep st s (m + n))
     collects-add l h =
         rw (sweep-on st s m l h om (omega arith), sweep-on st₁ s₁ n l₁ h₁ on (omega arith), sweep-on st s (m + n) l h (omega arith) o) (record {
           station = sym (ap (λ (cs : List Collection). stationAfter cs st) split ∙ station-append (collections m st s) (collections n st₁ s₁) st);
@@ -282,8 +286,8 @@ module _ (st : Station) (s : List ℕ) where
         s₁ : List ℕ
         s₁ = stored (recordsOf (collections m st s)) s
 
-        l₁ : length (stored (recordsOf (collections m st s)) s) ≡ storeSize
-        l₁ = collections-keep (λ _ x. length x ≡ storeSize) (λ x z d k c. collect-length x z d k c) m st s l
+        l₁ : length (stored (recordsOf (collections m st s)) s) ≡ storeSize (stationAfter (collections m st s) st .kind)
+        l₁ = collections-keep (λ y x. length x ≡ storeSize (y .kind)) (λ x z d k c. collect-length x z d k c) m st s l
 
         h₁ : sound (stationAfter (collections m st s) st) ≡ true
         h₁ = collections-keep (λ x _. sound x ≡ true) (λ x z d k c. unfold Keeps in collect-keeps x z d k) m st s h
@@ -292,8 +296,8 @@ module _ (st : Station) (s : List ℕ) where
         split = collections-split m n st s
 
     pub sweep-adds : Adds st s (sweep st s m) (sweep (sweep st s m .station) (stored (sweep st s m .stores) s) n) (sweep st s (m + n))
-    sweep-adds = by-length (ℕ-discrete (length s) storeSize)
+    sweep-adds = by-length (ℕ-discrete (length s) (storeSize (st .kind)))
       where
-        by-length : Dec (length s ≡ storeSize) → Adds st s (sweep st s m) (sweep (sweep st s m .station) (stored (sweep st s m .stores) s) n) (sweep st s (m + n))
+        by-length : Dec (length s ≡ storeSize (st .kind)) → Adds st s (sweep st s m) (sweep (sweep st s m .station) (stored (sweep st s m .stores) s) n) (sweep st s (m + n))
         by-length (no l) = refused-add 1 (sweep-1 l)
         by-length (yes l) = ⊎-elim (λ h. collects-add l h) (λ h. refused-add 2 (sweep-2 l h)) (bool-cases (sound st))

@@ -36,7 +36,7 @@ does (Commit t c) st s = commit st t c
 does (Step t) st s = step st s t
 does (Abort t) st s = abort st t
 does (Collect d) st s = collect st s d
-does Scan st s = scan s
+does Scan st s = scan (st .kind) s
 does (Sweep n) st s = sweep st s n
 
 -- the call that needs no station

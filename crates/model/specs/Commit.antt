@@ -8,7 +8,7 @@ use Rattle.model.specs.Types.{Station}
 use Rattle.model.specs.declared.Phase.the-variants.{Closing}
 use Rattle.model.specs.declared.Answer.the-variants as A
 use Rattle.model.specs.Lists.{_and_, member, anyBelow, greatestBelow}
-use Rattle.model.specs.Limits.{slots, lastClock}
+use Rattle.model.specs.Limits.{lastClock}
 use Rattle.model.specs.Lives.{noLive, writeCount, isClosing, withPhase}
 use Rattle.model.specs.Stations.{liveAt, entryAt, setLive, isLive, isHeld, placeOf, slotOf, isFree}
 use Rattle.model.specs.Clocks.{clocks, clockAbove}
@@ -16,7 +16,7 @@ use Rattle.model.specs.Effects.{Effect, says, _when_, refusals, unsound}
 
 -- "the highest-numbered free drawer"
 unfoldable pub highestFree : Station → ℕ
-highestFree st = greatestBelow (isFree st) slots
+highestFree st = greatestBelow (isFree st) (st .kind .slots)
 
 unfoldable pub commit : Station → ℕ → ℕ → Effect
 commit st t c =
@@ -27,7 +27,7 @@ commit st t c =
     ∷ 5 when eqb c 0
     ∷ 8 when (not (isLive t st) and not (isHeld t st))
     ∷ 9 when isClosing (l .phase)
-    ∷ 13 when (leb 1 (writeCount l) and not (anyBelow (isFree st) slots))
+    ∷ 13 when (leb 1 (writeCount l) and not (anyBelow (isFree st) (st .kind .slots)))
     -- 02 §3: "(21: write list not empty, and some entry or closing ticket has clock 2^64 − 1, after 13.)"
     ∷ 21 when (leb 1 (writeCount l) and member lastClock (clocks st))
     ∷ []

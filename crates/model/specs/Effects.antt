@@ -7,12 +7,13 @@ use lib.ListN.{length}
 use Rattle.model.specs.Types.{Station, Outcome}
 use Rattle.model.specs.declared.Answer.{Answer}
 use Rattle.model.specs.declared.Answer.the-variants as A
-use Rattle.model.specs.Limits.{storeSize}
+use Rattle.model.specs.Kinds.{Kind, storeSize}
 use Rattle.model.specs.Records.{withRecord}
 use Rattle.model.specs.Sound.{sound}
 
--- one store call: record n of a slot
+-- one store call: record n of a slot, of a store of this kind
 pub record RecordWrite : Type 0 where
+  pub kind : Kind
   pub slot : ℕ
   pub index : ℕ
   pub content : List ℕ
@@ -25,7 +26,7 @@ pub record Effect : Type 0 where
 -- the store after some record writes
 unfoldable pub stored : List RecordWrite → List ℕ → List ℕ
 stored [] s = s
-stored (w ∷ ws) s = stored ws (withRecord s (w .slot) (w .index) (w .content))
+stored (w ∷ ws) s = stored ws (withRecord (w .kind) s (w .slot) (w .index) (w .content))
 
 -- what the call hands back beside the store
 unfoldable pub outcomeOf : Effect → Outcome
@@ -39,7 +40,7 @@ unfoldable pub says : Answer → Station → Effect
 says a st = saysStoringAll a st []
 
 unfoldable pub saysStoring : Answer → Station → ℕ → ℕ → List ℕ → Effect
-saysStoring a st d n r = saysStoringAll a st (record { slot = d; index = n; content = r } ∷ [])
+saysStoring a st d n r = saysStoringAll a st (record { kind = st .kind; slot = d; index = n; content = r } ∷ [])
 
 -- ── 01 'What a refused call says' ──
 -- a row: the number returned, and when
@@ -59,8 +60,8 @@ refusals (r ∷ rs) st e = cond (r .applies) (says (A.Refused (r .returned) 0) s
 
 -- ── tests that several calls share ──
 -- row 1
-unfoldable pub wrongLength : List ℕ → Bool
-wrongLength s = not (eqb (length s) storeSize)
+unfoldable pub wrongLength : Kind → List ℕ → Bool
+wrongLength κ s = not (eqb (length s) (storeSize κ))
 
 -- row 2
 unfoldable pub unsound : Station → Bool

@@ -8,8 +8,9 @@ use lib.ListN.{length, take, drop, getD}
 use Rattle.model.specs.declared.Id.{Id}
 use Rattle.model.specs.declared.Live.{Live}
 use Rattle.model.specs.Types.{Entry}
-use Rattle.model.specs.Lists.{_and_, any, first, member, ascending, same, padded}
-use Rattle.model.specs.Limits.{keys, writeLimit}
+use Rattle.model.specs.Lists.{_and_, any, first, member, ascending, same}
+use Rattle.model.specs.Limits.{keys, keysSize}
+use Rattle.model.specs.Kinds.{Kind}
 use Rattle.model.specs.Ids.{sameId, noId}
 use Rattle.model.specs.Bytes.{headBytes, idIn}
 use Rattle.model.specs.Lives.{writesOf, writeKey, closingClock}
@@ -37,10 +38,10 @@ unfoldable pub isNoEntry : Entry → Bool
 isNoEntry e = sameId (e .id) noId and eqb (length (keysOf e)) 0
 
 -- ── the rules of the commit record (slip), which an entry keeps: "count 1 to 8, ticket and clock at least 1, the first count keys strictly
--- ascending and below 64" ──
-unfoldable pub entryRules : Entry → Bool
-entryRules e =
-    leb 1 (length (keysOf e)) and leb (length (keysOf e)) writeLimit
+-- ascending and below 64"; 8 is the narrow kind's limit ──
+unfoldable pub entryRules : Kind → Entry → Bool
+entryRules κ e =
+    leb 1 (length (keysOf e)) and leb (length (keysOf e)) (κ .writeLimit)
     and leb 1 (e .id .txn) and leb 1 (e .id .clock)
     and ascending 0 keys (keysOf e)
 
@@ -48,16 +49,13 @@ entryRules e =
 unfoldable pub entryFor : Live → Entry
 entryFor l = record { id = record { clock = closingClock (l .phase); txn = l .txn }; keys = map writeKey (writesOf l) }
 
--- ── its bytes. "Commit slip: mark 1, count 1, two zeros, ticket 4, clock 8, keys 8." ──
--- "Mark is 0 (drawer free, the rest not read) or 1 (committed)."
+-- ── its bytes. "Commit slip: mark 1, count 1, two zeros, ticket 4, clock 8, keys 8." (sizes) ──
+-- "Mark is 0 (drawer free, the rest not read) or 1 (committed)."; 1 is the narrow kind's
 abbrev pub freeMark : ℕ
 freeMark = 0
 
-abbrev pub committedMark : ℕ
-committedMark = 1
-
-unfoldable pub commitRecord : Entry → List ℕ
-commitRecord e = headBytes committedMark (length (keysOf e)) (e .id) ++ padded 0 writeLimit (keysOf e)
+unfoldable pub commitRecord : Kind → Entry → List ℕ
+commitRecord κ e = headBytes (κ .mark) (length (keysOf e)) (e .id) ++ κ .encode (keysOf e)
 
 unfoldable pub markIn : List ℕ → ℕ
 markIn r = getD r 0 0
@@ -66,21 +64,23 @@ abbrev pub countIn : List ℕ → ℕ
 countIn r = getD r 1 0
 
 abbrev pub keyBytes : List ℕ → List ℕ
-keyBytes r = take writeLimit (drop 16 r)
+keyBytes r = take keysSize (drop 16 r)
 
-unfoldable pub entryIn : List ℕ → Entry
-entryIn r = record { id = idIn r; keys = take (countIn r) (keyBytes r) }
+unfoldable pub entryIn : Kind → List ℕ → Entry
+entryIn κ r = record { id = idIn r; keys = κ .decode (countIn r) (keyBytes r) }
 
--- count and key bytes are those of a write set: "the remaining key bytes zero"
-unfoldable pub carriesKeys : List ℕ → List ℕ → Bool
-carriesKeys r ks = eqb (countIn r) (length ks) and same (keyBytes r) (padded 0 writeLimit ks)
+-- count and key bytes are those of a write set: "the remaining key bytes zero", or "count equal to its ones"
+unfoldable pub carriesKeys : Kind → List ℕ → List ℕ → Bool
+carriesKeys κ r ks = eqb (countIn r) (length ks) and same (keyBytes r) (κ .encode ks)
 
--- a commit record with mark 1 keeps the rules
-unfoldable pub commitRules : List ℕ → Bool
-commitRules r = eqb (markIn r) committedMark and eqb (getD r 2 0) 0 and eqb (getD r 3 0) 0 and carriesKeys r (keysOf (entryIn r)) and entryRules (entryIn r)
+-- a commit record that is marked keeps the rules: with the other kind's mark it does not
+unfoldable pub commitRules : Kind → List ℕ → Bool
+commitRules κ r =
+    eqb (markIn r) (κ .mark) and eqb (getD r 2 0) 0 and eqb (getD r 3 0) 0
+    and carriesKeys κ r (keysOf (entryIn κ r)) and entryRules κ (entryIn κ r)
 
 -- a commit record carries an entry: "id, keys, count, mark and zeros"
-unfoldable pub carriesEntry : List ℕ → Entry → Bool
-carriesEntry r e =
-    eqb (markIn r) committedMark and eqb (getD r 2 0) 0 and eqb (getD r 3 0) 0
-    and sameId (idIn r) (e .id) and carriesKeys r (keysOf e)
+unfoldable pub carriesEntry : Kind → List ℕ → Entry → Bool
+carriesEntry κ r e =
+    eqb (markIn r) (κ .mark) and eqb (getD r 2 0) 0 and eqb (getD r 3 0) 0
+    and sameId (idIn r) (e .id) and carriesKeys κ r (keysOf e)

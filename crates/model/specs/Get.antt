@@ -25,7 +25,7 @@ withRead k i l = withReads (insert readKey (record { key = k; id = i }) (readsOf
 
 -- the version record of key k in slot d
 unfoldable pub versionAt : Station → List ℕ → ℕ → ℕ → List ℕ
-versionAt st s k d = recordAt s d (recordOf (entryAt st d) k)
+versionAt st s k d = recordAt (st .kind) s d (recordOf (entryAt st d) k)
 
 -- row 12: "a version would be answered, its key is not in the read list, which has 16"
 unfoldable pub noRoom : Live → ℕ → Choice → Bool
@@ -53,7 +53,7 @@ unfoldable pub get : Station → List ℕ → ℕ → ℕ → Effect
 get st s t k =
     let i : ℕ = placeOf t st in let l : Live = liveAt st i in let ch : Choice = choiceOf st l k in
     refusals (
-    1 when wrongLength s
+    1 when wrongLength (st .kind) s
     ∷ 2 when unsound st
     ∷ 3 when eqb t 0
     ∷ 4 when leb keys k

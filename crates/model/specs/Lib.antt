@@ -1,10 +1,11 @@
-pub mod Types
 pub mod Lists
 pub mod Limits
 pub mod KeySets
+pub mod Bytes
+pub mod Kinds
+pub mod Types
 pub mod Listed
 pub mod Ids
-pub mod Bytes
 pub mod Lives
 pub mod Entries
 pub mod Stations

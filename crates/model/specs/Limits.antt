@@ -1,20 +1,20 @@
 -- 01 'Words': the limits, by name.
-use Prim.Native.Nat.{ℕ, _+_, _*_, _^_}
+use Prim.Native.Nat.{ℕ, _^_}
 
 -- "Key: 0 to 63."
 abbrev pub keys : ℕ
 keys = 64
 
--- "A station holds eight live places and 64 drawer entries."
+-- "A station holds eight live places and 64 drawer entries.": a wide one (02 §6) uses the first 32
 abbrev pub livePlaces : ℕ
 livePlaces = 8
 
-abbrev pub slots : ℕ
-slots = 64
+abbrev pub entryPlaces : ℕ
+entryPlaces = 64
 
--- "a write list (at most 8 keys ..) and a read list (at most 16 keys ..)"
-abbrev pub writeLimit : ℕ
-writeLimit = 8
+-- "a write list (at most 8 keys ..) and a read list (at most 16 keys ..)": the room for a write list; its limit follows the kind (Kinds)
+abbrev pub writePlaces : ℕ
+writePlaces = 8
 
 abbrev pub readLimit : ℕ
 readLimit = 16
@@ -23,19 +23,12 @@ readLimit = 16
 abbrev pub sweepLimit : ℕ
 sweepLimit = 64
 
--- "64 drawers of 9 slips of 24 bytes": a commit record, and a version record for each key of a write set
+-- "64 drawers of 9 slips of 24 bytes"; in a commit record "keys 8" (bytes)
 abbrev pub recordSize : ℕ
 recordSize = 24
 
-abbrev pub width : ℕ
-width = writeLimit + 1
-
-abbrev pub slotSize : ℕ
-slotSize = recordSize * width
-
--- "Store: 13,824 lent bytes"
-abbrev pub storeSize : ℕ
-storeSize = slotSize * slots
+abbrev pub keysSize : ℕ
+keysSize = 8
 
 -- "Ticket: 1 to 2^32 − 1", "Value: a whole number below 2^64", "Clock: 1 to 2^64 − 1"; a key or a slot is handed over in a byte
 abbrev pub txnRange : ℕ

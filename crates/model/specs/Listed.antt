@@ -5,6 +5,7 @@ use mathlib.Core.List.{List, map}
 use Rattle.model.specs.declared as machine
 use Rattle.model.specs.Types.{Entry, Station, Outcome}
 use Rattle.model.specs.KeySets.{keySet, setNumber}
+use Rattle.model.specs.Kinds.{narrowKind}
 
 -- ── numbers to lists ──
 abbrev pub listedEntry : machine.Entry.Entry → Entry
@@ -14,7 +15,7 @@ abbrev pub listedEntries : List machine.Entry.Entry → List Entry
 listedEntries es = map listedEntry es
 
 abbrev pub listed : machine.Station.Station → Station
-listed st = record { live = st .live; entries = listedEntries (st .entries) }
+listed st = record { kind = narrowKind; live = st .live; entries = listedEntries (st .entries) }
 
 abbrev pub listedOutcome : machine.Outcome.Outcome → Outcome
 listedOutcome o = record { answer = o .answer; station = listed (o .station) }

@@ -10,7 +10,7 @@ use Rattle.model.specs.declared.Live.{Live}
 use Rattle.model.specs.declared.Phase.{Phase}
 use Rattle.model.specs.declared.Phase.the-variants.{Unused, Open, Closing}
 use Rattle.model.specs.Lists.{first, member, padded}
-use Rattle.model.specs.Limits.{writeLimit, readLimit}
+use Rattle.model.specs.Limits.{writePlaces, readLimit}
 use Rattle.model.specs.Ids.{noId}
 
 -- ── unused: "All fields of unused places, entries and list positions are zero." ──
@@ -22,7 +22,7 @@ noRead = record { key = 0; id = noId }
 
 -- with empty lists
 abbrev pub blank : ℕ → Phase → Live
-blank t p = record { txn = t; phase = p; «write_count» = 0; writes = replicate writeLimit noWrite; «read_count» = 0; reads = replicate readLimit noRead }
+blank t p = record { txn = t; phase = p; «write_count» = 0; writes = replicate writePlaces noWrite; «read_count» = 0; reads = replicate readLimit noRead }
 
 abbrev pub noLive : Live
 noLive = blank 0 Unused
@@ -89,7 +89,7 @@ slotMark (Closing d c n) = suc d
 
 -- ── it with other writes, other reads, another phase ──
 unfoldable pub withWrites : List Write → Live → Live
-withWrites ws l = record { txn = l .txn; phase = l .phase; «write_count» = length ws; writes = padded noWrite writeLimit ws; «read_count» = l .«read_count»; reads = l .reads }
+withWrites ws l = record { txn = l .txn; phase = l .phase; «write_count» = length ws; writes = padded noWrite writePlaces ws; «read_count» = l .«read_count»; reads = l .reads }
 
 unfoldable pub withReads : List Read → Live → Live
 withReads rs l = record { txn = l .txn; phase = l .phase; «write_count» = l .«write_count»; writes = l .writes; «read_count» = length rs; reads = padded noRead readLimit rs }

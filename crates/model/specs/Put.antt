@@ -7,7 +7,7 @@ use Rattle.model.specs.declared.Live.{Live}
 use Rattle.model.specs.Types.{Station}
 use Rattle.model.specs.declared.Answer.the-variants as A
 use Rattle.model.specs.Lists.{_and_, insert}
-use Rattle.model.specs.Limits.{keys, writeLimit}
+use Rattle.model.specs.Limits.{keys}
 use Rattle.model.specs.Lives.{writesOf, writeKey, hasWritten, isClosing, withWrites}
 use Rattle.model.specs.Stations.{liveAt, setLive, isLive, placeOf}
 use Rattle.model.specs.Effects.{Effect, says, _when_, refusals, unsound}
@@ -24,7 +24,7 @@ put st t k v =
     ∷ 4 when leb keys k
     ∷ 8 when not (isLive t st)
     ∷ 9 when isClosing (l .phase)
-    ∷ 11 when (not (hasWritten k l) and leb writeLimit (l .«write_count»))
+    ∷ 11 when (not (hasWritten k l) and leb (st .kind .writeLimit) (l .«write_count»))
     ∷ []
     ) st
     (says A.Kept (setLive st i (withWrite k v l)))

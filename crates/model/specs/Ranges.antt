@@ -13,7 +13,8 @@ use Rattle.model.specs.declared.Station.{Station}
 use Rattle.model.specs.Types as L
 use Rattle.model.specs.declared.Phase.{Phase}
 use Rattle.model.specs.Lists.{ascending}
-use Rattle.model.specs.Limits.{keys, livePlaces, slots, writeLimit, readLimit, txnRange, numberRange, byteRange}
+use Rattle.model.specs.Limits.{keys, livePlaces, entryPlaces, writePlaces, readLimit, txnRange, numberRange, byteRange}
+use Rattle.model.specs.Kinds.{KindFits}
 use Rattle.model.specs.Lives.{closingSlot, closingClock, recordsStored}
 
 module _ {A : Type 0} where
@@ -46,7 +47,7 @@ pub record LiveFits (l : Live) : Type 0 where
   pub txn32 : l .txn < txnRange
   pub phase : PhaseFits (l .phase)
   pub writes8 : IsByte (l .«write_count»)
-  pub write-places : length (l .writes) ≡ writeLimit
+  pub write-places : length (l .writes) ≡ writePlaces
   pub writes : Every WriteFits (l .writes)
   pub reads8 : IsByte (l .«read_count»)
   pub read-places : length (l .reads) ≡ readLimit
@@ -59,7 +60,7 @@ pub record EntryFits (e : Entry) : Type 0 where
 pub record StationFits (st : Station) : Type 0 where
   pub live-places : length (st .live) ≡ livePlaces
   pub live : Every LiveFits (st .live)
-  pub entry-places : length (st .entries) ≡ slots
+  pub entry-places : length (st .entries) ≡ entryPlaces
   pub entries : Every EntryFits (st .entries)
 
 -- ── and the definitions' stations that are such a station's: write sets that are numbers of 64 bits ──
@@ -68,7 +69,8 @@ pub record ListFits (e : L.Entry) : Type 0 where
   pub ascends : ascending 0 keys (e .keys) ≡ true
 
 pub record ListsFit (st : L.Station) : Type 0 where
+  pub kind : KindFits (st .kind)
   pub live-places : length (st .live) ≡ livePlaces
   pub live : Every LiveFits (st .live)
-  pub entry-places : length (st .entries) ≡ slots
+  pub entry-places : length (st .entries) ≡ entryPlaces
   pub entries : Every ListFits (st .entries)

@@ -6,7 +6,8 @@ use lib.Dec.{eqb}
 use lib.ListN.{take, drop, getD, replicate}
 use Rattle.model.specs.declared.Id.{Id}
 use Rattle.model.specs.Lists.{_and_}
-use Rattle.model.specs.Limits.{recordSize, width}
+use Rattle.model.specs.Limits.{recordSize}
+use Rattle.model.specs.Kinds.{Kind, slotStart}
 use Rattle.model.specs.Ids.{sameId}
 use Rattle.model.specs.Bytes.{bytes, number, headBytes, idIn}
 
@@ -27,12 +28,12 @@ zeroRecord = replicate recordSize 0
 
 -- ── "64 drawers of 9 slips of 24 bytes. Slip 0 of a drawer is its commit slip, slips 1 to 8 its version slips." ──
 -- where record n of slot d begins
-abbrev pub recordPlace : ℕ → ℕ → ℕ
-recordPlace d n = recordSize * (width * d + n)
+abbrev pub recordPlace : Kind → ℕ → ℕ → ℕ
+recordPlace κ d n = slotStart κ d + recordSize * n
 
-unfoldable pub recordAt : List ℕ → ℕ → ℕ → List ℕ
-recordAt s d n = take recordSize (drop (recordPlace d n) s)
+unfoldable pub recordAt : Kind → List ℕ → ℕ → ℕ → List ℕ
+recordAt κ s d n = take recordSize (drop (recordPlace κ d n) s)
 
 -- "One store call writes one whole slip"
-unfoldable pub withRecord : List ℕ → ℕ → ℕ → List ℕ → List ℕ
-withRecord s d n r = take (recordPlace d n) s ++ (r ++ drop (recordPlace d n + recordSize) s)
+unfoldable pub withRecord : Kind → List ℕ → ℕ → ℕ → List ℕ → List ℕ
+withRecord κ s d n r = take (recordPlace κ d n) s ++ (r ++ drop (recordPlace κ d n + recordSize) s)

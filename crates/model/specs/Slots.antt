@@ -1,5 +1,5 @@
 -- 01 'Slip bytes': what is read of a slot (drawer).
-use Prim.Native.Nat.{ℕ, suc, _*_}
+use Prim.Native.Nat.{ℕ, suc}
 use mathlib.Core.Bool.{Bool, true, false}
 use mathlib.Core.List.{List, [], _∷_}
 use lib.Dec.{eqb}
@@ -7,7 +7,7 @@ use lib.ListN.{take, drop}
 use Rattle.model.specs.declared.Id.{Id}
 use Rattle.model.specs.Types.{Entry}
 use Rattle.model.specs.Lists.{_and_}
-use Rattle.model.specs.Limits.{slotSize}
+use Rattle.model.specs.Kinds.{Kind, slotSize, slotStart}
 use Rattle.model.specs.Entries.{keysOf, markIn, entryIn, freeMark, commitRules}
 use Rattle.model.specs.Records.{carriesVersion, recordAt}
 
@@ -29,13 +29,13 @@ judged false true e = committed e
 judged false false e = damaged
 
 -- "Mark is 0 (drawer free, the rest not read) or 1 (committed)."
-unfoldable pub seen : List ℕ → ℕ → Seen
-seen s d =
-    let r : List ℕ = recordAt s d 0 in
+unfoldable pub seen : Kind → List ℕ → ℕ → Seen
+seen κ s d =
+    let r : List ℕ = recordAt κ s d 0 in
     judged (eqb (markIn r) freeMark)
-    (commitRules r and versionsCarry (recordAt s d) (entryIn r .id) 1 (keysOf (entryIn r)))
-    (entryIn r)
+    (commitRules κ r and versionsCarry (recordAt κ s d) (entryIn κ r .id) 1 (keysOf (entryIn κ r)))
+    (entryIn κ r)
 
 -- "A drawer is handed on as its 216 bytes out of the store": those bytes, in which it is slot 0
-unfoldable pub slotBytes : List ℕ → ℕ → List ℕ
-slotBytes s d = take slotSize (drop (slotSize * d) s)
+unfoldable pub slotBytes : Kind → List ℕ → ℕ → List ℕ
+slotBytes κ s d = take (slotSize κ) (drop (slotStart κ d) s)

@@ -7,25 +7,26 @@ use lib.ListN.{getD, replicate, set}
 use Rattle.model.specs.declared.Live.{Live}
 use Rattle.model.specs.Types.{Entry, Station}
 use Rattle.model.specs.Lists.{_and_, first, member}
-use Rattle.model.specs.Limits.{livePlaces, slots}
+use Rattle.model.specs.Limits.{livePlaces, entryPlaces}
+use Rattle.model.specs.Kinds.{Kind}
 use Rattle.model.specs.Lives.{noLive, liveBeyond, slotMark}
 use Rattle.model.specs.Entries.{noEntry}
 
 -- ── stations, built here alone ──
 -- no live transaction, and these entries
-abbrev pub idleStation : List Entry → Station
-idleStation es = record { live = replicate livePlaces noLive; entries = es }
+abbrev pub idleStation : Kind → List Entry → Station
+idleStation κ es = record { kind = κ; live = replicate livePlaces noLive; entries = es }
 
 -- "An empty station is made from nothing"
-unfoldable pub emptyStation : Station
-emptyStation = idleStation (replicate slots noEntry)
+unfoldable pub emptyStation : Kind → Station
+emptyStation κ = idleStation κ (replicate entryPlaces noEntry)
 
 -- another transaction at a place; another entry in a slot
 unfoldable pub setLive : Station → ℕ → Live → Station
-setLive st i l = record { live = set (st .live) i l; entries = st .entries }
+setLive st i l = record { kind = st .kind; live = set (st .live) i l; entries = st .entries }
 
 unfoldable pub setEntry : Station → ℕ → Entry → Station
-setEntry st d e = record { live = st .live; entries = set (st .entries) d e }
+setEntry st d e = record { kind = st .kind; live = st .live; entries = set (st .entries) d e }
 
 -- ── places and slots ──
 unfoldable pub liveAt : Station → ℕ → Live

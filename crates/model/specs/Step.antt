@@ -31,7 +31,7 @@ stepped st i l p =
     -- "The first n steps store version slips 1 to n."
     cond (ltb j (writeCount l)) (saysStoring (A.Stored (w .key)) on d (j + 1) (versionRecord (w .key) (entryFor l .id) (w .value)))
     -- "Step n + 1 stores the commit slip."
-    (cond (eqb j (writeCount l)) (saysStoring (A.Slipped d) on d 0 (commitRecord (entryFor l)))
+    (cond (eqb j (writeCount l)) (saysStoring (A.Slipped d) on d 0 (commitRecord (st .kind) (entryFor l)))
     -- "Step n + 2 stores nothing: it makes the entry, ends the ticket and acknowledges (§3.3)."
     (says (A.Done (entryFor l .id)) (setEntry (setLive st i noLive) d (entryFor l))))
 
@@ -39,7 +39,7 @@ unfoldable pub step : Station → List ℕ → ℕ → Effect
 step st s t =
     let i : ℕ = placeOf t st in let l : Live = liveAt st i in
     refusals (
-    1 when wrongLength s
+    1 when wrongLength (st .kind) s
     ∷ 2 when unsound st
     ∷ 3 when eqb t 0
     ∷ 8 when not (isLive t st)

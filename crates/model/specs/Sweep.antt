@@ -52,7 +52,7 @@ unfoldable pub sweep : Station → List ℕ → ℕ → Effect
 sweep st s n =
     let cs : List Collection = collections n st s in
     refusals (
-    1 when wrongLength s
+    1 when wrongLength (st .kind) s
     ∷ 2 when unsound st
     ∷ 20 when (eqb n 0 or ltb sweepLimit n)
     ∷ []

@@ -5,14 +5,16 @@ use mathlib.Core.List.{List}
 use Rattle.model.specs.declared.Id.{Id}
 use Rattle.model.specs.declared.Live.{Live}
 use Rattle.model.specs.declared.Answer.{Answer}
+use Rattle.model.specs.Kinds.{Kind}
 
 -- 01 'Words': "An entry (a held drawer) is a committed transaction: its id and write set.": the keys ascend
 pub record Entry : Type 0 where
   pub id : Id
   pub keys : List ℕ
 
--- 01 'Words': "A station holds eight live places and 64 drawer entries."
+-- 01 'Words': "A station holds eight live places and 64 drawer entries."; and "the limits above are constants of the station's kind" (02 §6)
 pub record Station : Type 0 where
+  pub kind : Kind
   pub live : List Live
   pub entries : List Entry
 

@@ -3,7 +3,8 @@
 ghost use mathlib.Core.Path.{_≡_};
 ghost use Prim.Native.Nat.{_≤_};
 ghost use lib.ListN.{length};
-ghost use Rattle.model.specs.Limits.{writeLimit, readLimit};
+ghost use Rattle.model.specs.Limits.{writePlaces, readLimit};
+ghost use Rattle.model.specs.Kinds.{narrowKind};
 ghost use Rattle.model.specs.Ids.{sameId};
 ghost use Rattle.model.specs.Listed.{listedEntry, listed};
 ghost use Rattle.model.specs.Lives.{blank, readsOf, writeCount};
@@ -124,7 +125,7 @@ impl Station {
 
     // The station made from nothing. Measured: made of blank and no_entry it is not inlined, and a scan costs a copy more.
     pub fn empty() -> Station
-        ensures { λ r. ⌜ listed r ≡ emptyStation ⌝ }
+        ensures { λ r. ⌜ listed r ≡ emptyStation narrowKind ⌝ }
     {
         let id = Id { clock: 0, txn: 0 };
         let write = Write { key: 0, value: 0 };
@@ -189,7 +190,7 @@ pub fn same_id(a: Id, b: Id) -> bool
 
 // How many keys the transaction writes.
 pub fn write_count(l: Live) -> u8
-    ensures { λ r. ⌜ r ≤ writeLimit ⌝ }
+    ensures { λ r. ⌜ r ≤ writePlaces ⌝ }
     ensures { λ r. ⌜ r ≡ writeCount l ⌝ }
 {
     let n = l.write_count;

@@ -8,7 +8,7 @@ use native.Mathlib.Nat.{suc-ne-zero, pow-succ'}
 use native.Mathlib.Omega.{arith}
 use borrow.Rule.Slice.PartMut.{midOf, putMid, mid-len, same-len-mid}
 use Rattle.model.specs.declared.Id.{Id}
-use Rattle.model.specs.Limits.{writeLimit, recordSize, byteRange}
+use Rattle.model.specs.Limits.{keysSize, recordSize, byteRange}
 use Rattle.model.specs.Bytes.{bytes, number, headBytes}
 use Rattle.model.proofs.RecordLaws.{length-bytes}
 use Rattle.model.proofs.RestLaws.{rest-next}
@@ -49,7 +49,7 @@ spread-all (suc n) (x ∷ xs) e = ap (λ (l : List ℕ). x ∷ l) (spread-all n 
 
 -- the key bytes, read one by one
 pub keys-read : (s : List ℕ) → length s ≡ recordSize
-    → _≡_ {A = List ℕ} (getD s 16 0 ∷ getD s 17 0 ∷ getD s 18 0 ∷ getD s 19 0 ∷ getD s 20 0 ∷ getD s 21 0 ∷ getD s 22 0 ∷ getD s 23 0 ∷ []) (take writeLimit (drop 16 s))
+    → _≡_ {A = List ℕ} (getD s 16 0 ∷ getD s 17 0 ∷ getD s 18 0 ∷ getD s 19 0 ∷ getD s 20 0 ∷ getD s 21 0 ∷ getD s 22 0 ∷ getD s 23 0 ∷ []) (take keysSize (drop 16 s))
 keys-read s h = rw (spread-all recordSize s h)
 
 -- four bytes stored, and two numbers written after them

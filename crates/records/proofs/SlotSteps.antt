@@ -14,9 +14,10 @@ use borrow.Author.Tests.{eq-eqb, ne-eqb}
 use Rattle.model.specs.declared.Id.{Id}
 use Rattle.model.specs.Types.{Entry}
 use Rattle.model.specs.Lists.{_and_}
-use Rattle.model.specs.Limits.{recordSize, slotSize}
+use Rattle.model.specs.Limits.{recordSize}
+use Rattle.model.specs.Kinds.{narrowKind, slotSize, slotStart}
 use Rattle.model.specs.KeySets.{keySet}
-use Rattle.model.specs.Entries.{markIn, entryIn, freeMark, committedMark, carriesKeys, entryRules, commitRules, keysOf}
+use Rattle.model.specs.Entries.{markIn, entryIn, freeMark, carriesKeys, entryRules, commitRules, keysOf}
 use Rattle.model.specs.Records.{carriesVersion, recordPlace, recordAt}
 use Rattle.model.specs.Slots.{committed, versionsCarry, judged, seen}
 use Rattle.model.proofs.Tests.{and-intro, and-none-left, and-none-right, and-assoc}
@@ -29,11 +30,11 @@ use Rattle.records.proofs.FieldLaws.{entry-fields, rules-fields}
 
 -- ── the version records ──
 -- record n, as a part of the slot's bytes
-pub part-record : (w : List ℕ) (n : ℕ) → take (recordSize * (n + 1) + recordSize - recordSize * (n + 1)) (drop (recordSize * (n + 1)) w) ≡ recordAt w 0 (n + 1)
-unfolding recordAt
+pub part-record : (w : List ℕ) (n : ℕ) → take (recordSize * (n + 1) + recordSize - recordSize * (n + 1)) (drop (recordSize * (n + 1)) w) ≡ recordAt narrowKind w 0 (n + 1)
+unfolding recordAt slotStart
 part-record w n =
     let e : recordSize * (n + 1) + recordSize - recordSize * (n + 1) ≡ recordSize = omega arith in
-    let f : recordSize * (n + 1) ≡ recordPlace 0 (n + 1) = omega arith in
+    let f : recordSize * (n + 1) ≡ recordPlace narrowKind 0 (n + 1) = omega arith in
     ap (λ (k : ℕ). take k (drop (recordSize * (n + 1)) w)) e ∙ ap (λ (k : ℕ). take recordSize (drop k w)) f
 
 pub part-length : (w : List ℕ) (a k : ℕ) → a + k ≤ length w → length (take (a + k - a) (drop a w)) ≡ k
@@ -56,62 +57,62 @@ module _ (r : ℕ → List ℕ) (i : Id) (ks : List ℕ) (m n : ℕ) where
 
 -- ── the slot ──
 abbrev head : List ℕ → Bool
-head r = eqb (markIn r) committedMark and eqb (getD r 2 0) 0 and eqb (getD r 3 0) 0
+head r = eqb (markIn r) (narrowKind .mark) and eqb (getD r 2 0) 0 and eqb (getD r 3 0) 0
 
 module _ (w : List ℕ) where
-  first-byte : markIn (recordAt w 0 0) ≡ getD w 0 0
-  unfolding markIn recordAt
+  first-byte : markIn (recordAt narrowKind w 0 0) ≡ getD w 0 0
+  unfolding markIn recordAt slotStart
   first-byte = getD-take recordSize w 0 0 (lit< tt)
 
   abbrev kept : Bool
-  kept = commitRules (recordAt w 0 0) and versionsCarry (recordAt w 0) (entryIn (recordAt w 0 0) .id) 1 (keysOf (entryIn (recordAt w 0 0)))
+  kept = commitRules narrowKind (recordAt narrowKind w 0 0) and versionsCarry (recordAt narrowKind w 0) (entryIn narrowKind (recordAt narrowKind w 0 0) .id) 1 (keysOf (entryIn narrowKind (recordAt narrowKind w 0 0)))
 
-  slot-is : (a b : Bool) → eqb (markIn (recordAt w 0 0)) freeMark ≡ a → kept ≡ b → seen w 0 ≡ judged a b (entryIn (recordAt w 0 0))
+  slot-is : (a b : Bool) → eqb (markIn (recordAt narrowKind w 0 0)) freeMark ≡ a → kept ≡ b → seen narrowKind w 0 ≡ judged a b (entryIn narrowKind (recordAt narrowKind w 0 0))
   unfolding seen
-  slot-is a b p q = ap₂ (λ (x y : Bool). judged x y (entryIn (recordAt w 0 0))) p q
+  slot-is a b p q = ap₂ (λ (x y : Bool). judged x y (entryIn narrowKind (recordAt narrowKind w 0 0))) p q
 
-  pub slot-free : getD w 0 0 ≡ freeMark → seenAs Free ≡ seen w 0
+  pub slot-free : getD w 0 0 ≡ freeMark → seenAs Free ≡ seen narrowKind w 0
   unfolding seenAs judged
   slot-free h = sym (slot-is true kept (eq-eqb _ freeMark (first-byte ∙ h)) refl)
 
-  module _ (l : length w ≡ slotSize) (m : getD w 0 0 ≢ freeMark) where
-    mark-set : eqb (markIn (recordAt w 0 0)) freeMark ≡ false
-    mark-set = ne-eqb (markIn (recordAt w 0 0)) freeMark (λ e. m (sym first-byte ∙ e))
+  module _ (l : length w ≡ slotSize narrowKind) (m : getD w 0 0 ≢ freeMark) where
+    mark-set : eqb (markIn (recordAt narrowKind w 0 0)) freeMark ≡ false
+    mark-set = ne-eqb (markIn (recordAt narrowKind w 0 0)) freeMark (λ e. m (sym first-byte ∙ e))
 
-    slot-damaged : kept ≡ false → seenAs Damaged ≡ seen w 0
+    slot-damaged : kept ≡ false → seenAs Damaged ≡ seen narrowKind w 0
     unfolding seenAs judged
     slot-damaged h = sym (slot-is false false mark-set h)
 
     -- the rules by the fields
-    rules-are : commitRules (take recordSize w) ≡ (head (take recordSize w) and fieldRules (fieldsIn (take recordSize w)))
+    rules-are : commitRules narrowKind (take recordSize w) ≡ (head (take recordSize w) and fieldRules (fieldsIn (take recordSize w)))
     unfolding commitRules
     rules-are =
-        sym (and-assoc (head (take recordSize w)) (carriesKeys (take recordSize w) (keysOf (entryIn (take recordSize w)))) (entryRules (entryIn (take recordSize w))))
+        sym (and-assoc (head (take recordSize w)) (carriesKeys narrowKind (take recordSize w) (keysOf (entryIn narrowKind (take recordSize w)))) (entryRules narrowKind (entryIn narrowKind (take recordSize w))))
         ∙ ap (λ (b : Bool). head (take recordSize w) and b) (rules-fields (take recordSize w) (length-take-le recordSize w (omega arith)))
 
     -- by its mark and zeros, by its fields' rules, and by its version records
-    pub slot-no-commit : head (take recordSize w) ≡ false → seenAs Damaged ≡ seen w 0
-    unfolding recordAt
+    pub slot-no-commit : head (take recordSize w) ≡ false → seenAs Damaged ≡ seen narrowKind w 0
+    unfolding recordAt slotStart
     slot-no-commit h = slot-damaged (and-none-left _ _ (rules-are ∙ and-none-left _ _ h))
 
     module _ (f : Fields) (q : f ≡ fieldsIn (take recordSize w)) where
-      entry-is : entryIn (take recordSize w) ≡ record { id = f .id; keys = firstKeys f }
+      entry-is : entryIn narrowKind (take recordSize w) ≡ record { id = f .id; keys = firstKeys f }
       entry-is = entry-fields (take recordSize w) ∙ ap (λ (x : Fields). record { id = x .id; keys = firstKeys x }) (sym q)
 
-      versions-are : versionsCarry (recordAt w 0) (entryIn (take recordSize w) .id) 1 (keysOf (entryIn (take recordSize w))) ≡ versionsCarry (recordAt w 0) (f .id) 1 (firstKeys f)
-      versions-are = ap (λ (x : Entry). versionsCarry (recordAt w 0) (x .id) 1 (keysOf x)) entry-is
+      versions-are : versionsCarry (recordAt narrowKind w 0) (entryIn narrowKind (take recordSize w) .id) 1 (keysOf (entryIn narrowKind (take recordSize w))) ≡ versionsCarry (recordAt narrowKind w 0) (f .id) 1 (firstKeys f)
+      versions-are = ap (λ (x : Entry). versionsCarry (recordAt narrowKind w 0) (x .id) 1 (keysOf x)) entry-is
 
-      pub slot-no-rules : fieldRules f ≡ false → seenAs Damaged ≡ seen w 0
-      unfolding recordAt
+      pub slot-no-rules : fieldRules f ≡ false → seenAs Damaged ≡ seen narrowKind w 0
+      unfolding recordAt slotStart
       slot-no-rules h = slot-damaged (and-none-left _ _ (rules-are ∙ and-none-right _ _ (ap fieldRules (sym q) ∙ h)))
 
-      pub slot-no-versions : versionsCarry (recordAt w 0) (f .id) 1 (firstKeys f) ≡ false → seenAs Damaged ≡ seen w 0
-      unfolding recordAt
+      pub slot-no-versions : versionsCarry (recordAt narrowKind w 0) (f .id) 1 (firstKeys f) ≡ false → seenAs Damaged ≡ seen narrowKind w 0
+      unfolding recordAt slotStart
       slot-no-versions h = slot-damaged (and-none-right _ _ (versions-are ∙ h))
 
-      pub slot-committed : head (take recordSize w) ≡ true → fieldRules f ≡ true → versionsCarry (recordAt w 0) (f .id) 1 (firstKeys f) ≡ true
-          → (set : ℕ) → keySet set ≡ firstKeys f → seenAs (Committed (record { id = f .id; keys = set })) ≡ seen w 0
-      unfolding seenAs judged recordAt
+      pub slot-committed : head (take recordSize w) ≡ true → fieldRules f ≡ true → versionsCarry (recordAt narrowKind w 0) (f .id) 1 (firstKeys f) ≡ true
+          → (set : ℕ) → keySet set ≡ firstKeys f → seenAs (Committed (record { id = f .id; keys = set })) ≡ seen narrowKind w 0
+      unfolding seenAs judged recordAt slotStart
       slot-committed h k v set e =
           ap committed (ap (λ (ks : List ℕ). record { id = f .id; keys = ks }) e ∙ sym entry-is)
           ∙ sym (slot-is false true mark-set (and-intro _ _ (rules-are ∙ and-intro _ _ h (ap fieldRules (sym q) ∙ k)) (versions-are ∙ v)))

@@ -13,11 +13,12 @@ ghost use mathlib.Core.List.{_++_};
 ghost use lib.Dec.{eqb};
 ghost use lib.ListN.{length, take, drop, getD};
 ghost use Rattle.model.specs.Lists.{_and_, all, ascending, same};
-ghost use Rattle.model.specs.Limits.{keys, writeLimit, recordSize, slotSize, byteRange};
+ghost use Rattle.model.specs.Limits.{keys, keysSize, recordSize, byteRange};
+ghost use Rattle.model.specs.Kinds.{narrowKind, slotSize};
 ghost use Rattle.model.specs.Bytes.{bytes, number, idIn, headBytes};
 ghost use Rattle.model.specs.KeySets.{keySet};
 ghost use Rattle.model.specs.Listed.{listedEntry};
-ghost use Rattle.model.specs.Entries.{markIn, committedMark, commitRecord, carriesEntry};
+ghost use Rattle.model.specs.Entries.{markIn, commitRecord, carriesEntry};
 ghost use Rattle.model.specs.Records.{valueIn, versionRecord, zeroRecord, carriesVersion, recordAt};
 ghost use Rattle.model.specs.Slots.{versionsCarry, seen};
 ghost use Rattle.records.specs.Fields.{fieldsIn, firstKeys, fieldRules};
@@ -76,7 +77,7 @@ pub fn id_in(r: &[u8]) -> Id
 
 // Key bytes are those of an entry.
 fn same_keys(part: &[u8], keys: [u8; Station::WRITES]) -> bool
-    requires { ⌜ length (now part) ≡ writeLimit ⌝ }
+    requires { ⌜ length (now part) ≡ keysSize ⌝ }
     ensures { λ r. ⌜ r ≡ same (now (part .entry)) keys ⌝ }
 {
     let mut i = 0;
@@ -92,7 +93,7 @@ fn same_keys(part: &[u8], keys: [u8; Station::WRITES]) -> bool
 // A commit record has its mark and its two zeros.
 fn is_commit(r: &[u8]) -> bool
     requires { ⌜ length (now r) ≡ recordSize ⌝ }
-    ensures { λ b. ⌜ b ≡ (eqb (markIn (now (r .entry))) committedMark and eqb (getD (now (r .entry)) 2 0) 0 and eqb (getD (now (r .entry)) 3 0) 0) ⌝ }
+    ensures { λ b. ⌜ b ≡ (eqb (markIn (now (r .entry))) (narrowKind .mark) and eqb (getD (now (r .entry)) 2 0) 0 and eqb (getD (now (r .entry)) 3 0) 0) ⌝ }
 {
     if r[0] != COMMITTED_MARK {
         return false;
@@ -106,8 +107,8 @@ fn is_commit(r: &[u8]) -> bool
 // A commit record carries an entry.
 pub fn carries_entry(r: &[u8], e: Entry) -> bool
     requires { ⌜ length (now r) ≡ recordSize ⌝ }
-    requires { ⌜ length (keySet (e .keys)) ≤ writeLimit ⌝ }
-    ensures { λ b. ⌜ b ≡ carriesEntry (now (r .entry)) (listedEntry e) ⌝ }
+    requires { ⌜ length (keySet (e .keys)) ≤ keysSize ⌝ }
+    ensures { λ b. ⌜ b ≡ carriesEntry narrowKind (now (r .entry)) (listedEntry e) ⌝ }
 {
     if !is_commit(r) {
         return false;
@@ -158,7 +159,7 @@ fn fields_in(r: &[u8]) -> Fields
 
 // The first `count` keys rise strictly and are keys.
 fn keys_ascend(ks: [u8; Station::WRITES], count: usize) -> bool
-    requires { ⌜ count ≤ writeLimit ⌝ }
+    requires { ⌜ count ≤ keysSize ⌝ }
     ensures { λ r. ⌜ r ≡ ascending 0 keys (take count ks) ⌝ }
 {
     let mut low: u8 = 0;
@@ -179,7 +180,7 @@ fn keys_ascend(ks: [u8; Station::WRITES], count: usize) -> bool
 
 // The key bytes from `count` on are zero.
 fn rest_zero(keys: [u8; Station::WRITES], count: usize) -> bool
-    requires { ⌜ count ≤ writeLimit ⌝ }
+    requires { ⌜ count ≤ keysSize ⌝ }
     ensures { λ r. ⌜ r ≡ all (eqb 0) (drop count keys) ⌝ }
 {
     let mut i = count;
@@ -219,9 +220,9 @@ fn keeps_rules(f: Fields) -> bool
 
 // The set of the commit record's keys, or 0, which is no write set, where a version record does not carry its key and the id. Records above the count are leftovers and are not read.
 fn carried_set(w: &[u8], f: Fields) -> u64
-    requires { ⌜ length (now w) ≡ slotSize ⌝ }
+    requires { ⌜ length (now w) ≡ slotSize narrowKind ⌝ }
     requires { ⌜ fieldRules f ≡ true ⌝ }
-    ensures { λ r. ⌜ (r ≡ 0 → versionsCarry (recordAt (now (w .entry)) 0) (f .id) 1 (firstKeys f) ≡ false) × (0 < r → (versionsCarry (recordAt (now (w .entry)) 0) (f .id) 1 (firstKeys f) ≡ true) × (keySet r ≡ firstKeys f)) ⌝ }
+    ensures { λ r. ⌜ (r ≡ 0 → versionsCarry (recordAt narrowKind (now (w .entry)) 0) (f .id) 1 (firstKeys f) ≡ false) × (0 < r → (versionsCarry (recordAt narrowKind (now (w .entry)) 0) (f .id) 1 (firstKeys f) ≡ true) × (keySet r ≡ firstKeys f)) ⌝ }
 {
     let keys = f.keys;
     let count = f.count as usize;
@@ -241,8 +242,8 @@ fn carried_set(w: &[u8], f: Fields) -> u64
 
 // What a slot's 216 bytes are read as; a free slot's are not read on.
 pub fn read_slot(w: &[u8]) -> Slot
-    requires { ⌜ length (now w) ≡ slotSize ⌝ }
-    ensures { λ r. ⌜ seenAs r ≡ seen (now (w .entry)) 0 ⌝ }
+    requires { ⌜ length (now w) ≡ slotSize narrowKind ⌝ }
+    ensures { λ r. ⌜ seenAs r ≡ seen narrowKind (now (w .entry)) 0 ⌝ }
 {
     if w[0] == FREE_MARK {
         return Slot::Free;
@@ -289,7 +290,7 @@ fn write_head(part: &mut [u8], first: u8, second: u8, id: Id)
 }
 
 fn write_keys(part: &mut [u8], keys: [u8; Station::WRITES])
-    requires { ⌜ length (now part) ≡ writeLimit ⌝ }
+    requires { ⌜ length (now part) ≡ keysSize ⌝ }
     ensures { λ _. ⌜ now (part .exit) ≡ keys ⌝ }
 {
     let mut i = 0;
@@ -311,8 +312,8 @@ pub fn write_version(part: &mut [u8], key: u8, id: Id, value: u64)
 // A commit record over the part lent.
 pub fn write_commit(part: &mut [u8], e: Entry)
     requires { ⌜ length (now part) ≡ recordSize ⌝ }
-    requires { ⌜ length (keySet (e .keys)) ≤ writeLimit ⌝ }
-    ensures { λ _. ⌜ now (part .exit) ≡ commitRecord (listedEntry e) ⌝ }
+    requires { ⌜ length (keySet (e .keys)) ≤ keysSize ⌝ }
+    ensures { λ _. ⌜ now (part .exit) ≡ commitRecord narrowKind (listedEntry e) ⌝ }
 {
     let id = e.id;
     let keys = key_bytes(e.keys);

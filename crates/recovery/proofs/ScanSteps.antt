@@ -3,7 +3,7 @@ use Prim.Native.Nat.{ℕ, suc, _+_, _*_, _-_, _<_, _≤_}
 use mathlib.Core.Path.{_≡_, refl, sym, ap, ap₂, subst, _∙_}
 use mathlib.Core.Logic.{_≢_}
 use mathlib.Core.Bool.{Bool, true, false}
-use mathlib.Core.List.{List, [], _∷_, _++_, map, append-assoc, append-nil}
+use mathlib.Core.List.{List, [], _∷_, _++_, map, append-assoc}
 use lib.ListN.{length, take, drop, getD, replicate, set, length-set, length-map}
 use lib.Seq.{take-all, take-suc, take-at, length-take-le}
 use native.Mathlib.Nat.{not-suc-le-zero}
@@ -16,14 +16,15 @@ use Rattle.model.specs.declared as machine
 use Rattle.model.specs.Types.{Entry, Station}
 use Rattle.model.specs.declared.Answer.{Answer}
 use Rattle.model.specs.declared.Answer.the-variants as A
-use Rattle.model.specs.Lists.{any, count, member}
-use Rattle.model.specs.Limits.{slots, slotSize, storeSize}
+use Rattle.model.specs.Lists.{padded, any, count, member}
+use Rattle.model.specs.Limits.{entryPlaces}
+use Rattle.model.specs.Kinds.{narrowKind, slotSize, storeSize, slotStart}
 use Rattle.model.specs.Listed.{listedEntry, listedEntries, listed, listedOutcome}
 use Rattle.model.specs.Entries.{noEntry}
 use Rattle.model.specs.Stations.{emptyStation, idleStation}
 use Rattle.model.specs.Slots.{Seen, free, committed, damaged, seen}
 use Rattle.model.specs.Effects.{outcomeOf, says}
-use Rattle.model.specs.Scan.{slotsSeen, entrySeen, isCommitted, breaks, scan}
+use Rattle.model.specs.Scan.{slotsSeen, entrySeen, entriesSeen, isCommitted, breaks, scan}
 use Rattle.model.proofs.ListLaws.{count-yes, count-no, member-yes, member-no}
 use Rattle.model.proofs.ListedLaws.{listed-set}
 use Rattle.model.proofs.SlotLaws.{slot-part}
@@ -45,15 +46,15 @@ module _ (ts : List ℕ) (n i t : ℕ) where
   column-end h = ap (member t) (taken-end ts n i h)
 
 -- ── a slot's bytes ──
-pub part-slot : (s : List ℕ) (d : ℕ) → seen (take (slotSize * d + slotSize - slotSize * d) (drop (slotSize * d) s)) 0 ≡ seen s d
+pub part-slot : (s : List ℕ) (d : ℕ) → seen narrowKind (take (slotSize narrowKind * d + (slotSize narrowKind) - (slotSize narrowKind) * d) (drop (slotSize narrowKind * d) s)) 0 ≡ seen narrowKind s d
 part-slot s d =
-    let e : slotSize * d + slotSize - slotSize * d ≡ slotSize = omega arith in
-    ap (λ (k : ℕ). seen (take k (drop (slotSize * d) s)) 0) e ∙ slot-part s d
+    let e : (slotSize narrowKind) * d + (slotSize narrowKind) - (slotSize narrowKind) * d ≡ slotSize narrowKind = omega arith in
+    ap (λ (k : ℕ). seen narrowKind (take k (drop (slotSize narrowKind * d) s)) 0) e ∙ (unfold slotStart in slot-part narrowKind s d)
 
-pub part-length : (s : List ℕ) (d : ℕ) → length s ≡ storeSize → d < slots → length (take (slotSize * d + slotSize - slotSize * d) (drop (slotSize * d) s)) ≡ slotSize
-part-length s d l o = mid-len (slotSize * d) (slotSize * d + slotSize) s (omega arith) ∙ omega arith
+pub part-length : (s : List ℕ) (d : ℕ) → length s ≡ storeSize narrowKind → d < entryPlaces → length (take (slotSize narrowKind * d + (slotSize narrowKind) - (slotSize narrowKind) * d) (drop (slotSize narrowKind * d) s)) ≡ slotSize narrowKind
+part-length s d l o = mid-len (slotSize narrowKind * d) (slotSize narrowKind * d + slotSize narrowKind) s (omega arith) ∙ omega arith
 
-pub slot-seen : (s : List ℕ) (d : ℕ) (r x : Slot) → seenAs r ≡ seen (take (slotSize * d + slotSize - slotSize * d) (drop (slotSize * d) s)) 0 → r ≡ x → seen s d ≡ seenAs x
+pub slot-seen : (s : List ℕ) (d : ℕ) (r x : Slot) → seenAs r ≡ seen narrowKind (take (slotSize narrowKind * d + (slotSize narrowKind) - (slotSize narrowKind) * d) (drop (slotSize narrowKind * d) s)) 0 → r ≡ x → seen narrowKind s d ≡ seenAs x
 slot-seen s d r x q h = sym (part-slot s d) ∙ sym q ∙ ap seenAs h
 
 -- ── one slot more ──
@@ -70,10 +71,10 @@ map-more : {A : Type 0} (f : Seen → A) (xs : List Seen) (x : Seen) → map f (
 map-more f [] x = refl
 map-more f (y ∷ ys) x = ap (λ l. f y ∷ l) (map-more f ys x)
 
-slots-more : (s : List ℕ) (d : ℕ) → d < slots → take (d + 1) (slotsSeen s) ≡ take d (slotsSeen s) ++ (seen s d ∷ [])
+slots-more : (s : List ℕ) (d : ℕ) → d < entryPlaces → take (d + 1) (slotsSeen narrowKind s) ≡ take d (slotsSeen narrowKind s) ++ (seen narrowKind s d ∷ [])
 slots-more s d o =
-    let h : d < length (slotsSeen s) = omega (arith, seen-length s) in
-    rw (add-one d, take-suc (slotsSeen s) d free h, seen-at s d free o)
+    let h : d < length (slotsSeen narrowKind s) = omega (arith, seen-length narrowKind s) in
+    rw (add-one d, take-suc (slotsSeen narrowKind s) d free h, seen-at narrowKind s d free o)
 
 -- ── a column: what f reads of the slots passed, and the unused value in the others ──
 set-after : {A : Type 0} (xs ys : List A) (z y : A) → set (xs ++ (z ∷ ys)) (length xs) y ≡ xs ++ (y ∷ ys)
@@ -82,57 +83,58 @@ set-after (x ∷ xs) ys z y = ap (λ l. x ∷ l) (set-after xs ys z y)
 
 module _ {A : Type 0} (f : Seen → A) (z : A) (s : List ℕ) where
   unfoldable pub column : ℕ → List A
-  column d = map f (take d (slotsSeen s)) ++ replicate (slots - d) z
+  column d = map f (take d (slotsSeen narrowKind s)) ++ replicate (entryPlaces - d) z
 
-  column-length : (d : ℕ) → d ≤ slots → length (map f (take d (slotsSeen s))) ≡ d
-  column-length d o = length-map (take d (slotsSeen s)) f ∙ length-take-le d (slotsSeen s) (omega (arith, o, seen-length s))
+  column-length : (d : ℕ) → d ≤ entryPlaces → length (map f (take d (slotsSeen narrowKind s))) ≡ d
+  column-length d o = length-map (take d (slotsSeen narrowKind s)) f ∙ length-take-le d (slotsSeen narrowKind s) (omega (arith, o, seen-length narrowKind s))
 
-  column-take : (d : ℕ) → d ≤ slots → take d (column d) ≡ map f (take d (slotsSeen s))
+  column-take : (d : ℕ) → d ≤ entryPlaces → take d (column d) ≡ map f (take d (slotsSeen narrowKind s))
   unfolding column
-  column-take d o = take-at (map f (take d (slotsSeen s))) (replicate (slots - d) z) d (column-length d o)
+  column-take d o = take-at (map f (take d (slotsSeen narrowKind s))) (replicate (entryPlaces - d) z) d (column-length d o)
 
-  column-all : (d : ℕ) → slots ≤ d → column d ≡ map f (slotsSeen s)
-  unfolding column
-  column-all d o =
-      let e : slots - d ≡ 0 = omega arith in
-      ap₂ (λ (xs : List Seen) (n : ℕ). map f xs ++ replicate n z) (take-all d (slotsSeen s) (omega (arith, seen-length s))) e ∙ append-nil (map f (slotsSeen s))
-
-  module _ (d : ℕ) (o : d < slots) where
+  module _ (d : ℕ) (o : d < entryPlaces) where
     abbrev rest : List A
-    rest = replicate (slots - (d + 1)) z
+    rest = replicate (entryPlaces - (d + 1)) z
 
-    column-here : column d ≡ map f (take d (slotsSeen s)) ++ (z ∷ rest)
+    column-here : column d ≡ map f (take d (slotsSeen narrowKind s)) ++ (z ∷ rest)
     unfolding column
-    column-here = let e : slots - d ≡ suc (slots - (d + 1)) = omega arith in ap (λ (n : ℕ). map f (take d (slotsSeen s)) ++ replicate n z) e
+    column-here = let e : entryPlaces - d ≡ suc (entryPlaces - (d + 1)) = omega arith in ap (λ (n : ℕ). map f (take d (slotsSeen narrowKind s)) ++ replicate n z) e
 
-    column-next : map f (take d (slotsSeen s)) ++ (f (seen s d) ∷ rest) ≡ column (d + 1)
+    column-next : map f (take d (slotsSeen narrowKind s)) ++ (f (seen narrowKind s d) ∷ rest) ≡ column (d + 1)
     unfolding column
     column-next =
-        sym (append-assoc (map f (take d (slotsSeen s))) (f (seen s d) ∷ []) rest)
-        ∙ ap (λ (l : List A). l ++ rest) (sym (map-more f (take d (slotsSeen s)) (seen s d)) ∙ ap (map f) (sym (slots-more s d o)))
+        sym (append-assoc (map f (take d (slotsSeen narrowKind s))) (f (seen narrowKind s d) ∷ []) rest)
+        ∙ ap (λ (l : List A). l ++ rest) (sym (map-more f (take d (slotsSeen narrowKind s)) (seen narrowKind s d)) ∙ ap (map f) (sym (slots-more s d o)))
 
     -- the slot at hand is stored, or is left unused
-    column-set : set (column d) d (f (seen s d)) ≡ column (d + 1)
+    column-set : set (column d) d (f (seen narrowKind s d)) ≡ column (d + 1)
     column-set =
-        ap₂ (λ (l : List A) (n : ℕ). set l n (f (seen s d))) column-here (sym (column-length d (omega arith)))
-        ∙ set-after (map f (take d (slotsSeen s))) rest z (f (seen s d))
+        ap₂ (λ (l : List A) (n : ℕ). set l n (f (seen narrowKind s d))) column-here (sym (column-length d (omega arith)))
+        ∙ set-after (map f (take d (slotsSeen narrowKind s))) rest z (f (seen narrowKind s d))
         ∙ column-next
 
-    column-left : f (seen s d) ≡ z → column d ≡ column (d + 1)
-    column-left h = column-here ∙ ap (λ (y : A). map f (take d (slotsSeen s)) ++ (y ∷ rest)) (sym h) ∙ column-next
+    column-left : f (seen narrowKind s d) ≡ z → column d ≡ column (d + 1)
+    column-left h = column-here ∙ ap (λ (y : A). map f (take d (slotsSeen narrowKind s)) ++ (y ∷ rest)) (sym h) ∙ column-next
+
+-- all of them
+column-all : (s : List ℕ) (d : ℕ) → d ≡ narrowKind .slots → column entrySeen noEntry s d ≡ entriesSeen (slotsSeen narrowKind s)
+unfolding column entriesSeen padded
+column-all s d o =
+    let e : entryPlaces - d ≡ entryPlaces - length (map entrySeen (slotsSeen narrowKind s)) = omega (arith, o, length-map (slotsSeen narrowKind s) entrySeen, seen-length narrowKind s) in
+    ap₂ (λ (xs : List Seen) (n : ℕ). map entrySeen xs ++ replicate n noEntry) (take-all d (slotsSeen narrowKind s) (omega (arith, o, seen-length narrowKind s))) e
 
 -- ── what holds of the first d slots: the entries, the column of numbers, the figure; and none breaks the rules ──
 pub record Passed (s : List ℕ) (es : List machine.Entry.Entry) (ts : List ℕ) (n d : ℕ) : Type 0 where
-  pub below : d ≤ slots
+  pub below : d ≤ entryPlaces
   pub few : n ≤ d
-  pub txn-places : length ts ≡ slots
-  pub figure : n ≡ count isCommitted (take d (slotsSeen s))
+  pub txn-places : length ts ≡ entryPlaces
+  pub figure : n ≡ count isCommitted (take d (slotsSeen narrowKind s))
   pub entries : listedEntries es ≡ column entrySeen noEntry s d
   pub txns : ts ≡ column txnSeen 0 s d
-  pub unbroken : (j : ℕ) → j < d → breaks (take j (slotsSeen s)) (seen s j) ≡ false
+  pub unbroken : (j : ℕ) → j < d → breaks (take j (slotsSeen narrowKind s)) (seen narrowKind s j) ≡ false
 
 -- no slot passed yet
-pub passed-none : (s : List ℕ) (st : machine.Station.Station) → listed st ≡ emptyStation → Passed s (st .entries) (replicate slots 0) 0 0
+pub passed-none : (s : List ℕ) (st : machine.Station.Station) → listed st ≡ (emptyStation narrowKind) → Passed s (st .entries) (replicate entryPlaces 0) 0 0
 unfolding count emptyStation column
 passed-none s st q = record {
   below = omega arith;
@@ -144,38 +146,38 @@ passed-none s st q = record {
   unbroken = λ j o. absurd (not-suc-le-zero o);
 }
 
-module _ (s : List ℕ) (es : List machine.Entry.Entry) (ts : List ℕ) (n d : ℕ) (p : Passed s es ts n d) (o : d < slots) where
+module _ (s : List ℕ) (es : List machine.Entry.Entry) (ts : List ℕ) (n d : ℕ) (p : Passed s es ts n d) (o : d < entryPlaces) where
   -- a slot that keeps the rules and counts for m
-  more : (es′ : List machine.Entry.Entry) (ts′ : List ℕ) (m : ℕ) → m ≤ 1 → breaks (take d (slotsSeen s)) (seen s d) ≡ false → count isCommitted (seen s d ∷ []) ≡ m → length ts′ ≡ slots
+  more : (es′ : List machine.Entry.Entry) (ts′ : List ℕ) (m : ℕ) → m ≤ 1 → breaks (take d (slotsSeen narrowKind s)) (seen narrowKind s d) ≡ false → count isCommitted (seen narrowKind s d ∷ []) ≡ m → length ts′ ≡ entryPlaces
       → listedEntries es′ ≡ column entrySeen noEntry s (d + 1) → ts′ ≡ column txnSeen 0 s (d + 1) → Passed s es′ ts′ (n + m) (d + 1)
   more es′ ts′ m om h g l a b = record {
     below = omega arith;
     few = omega arith;
     txn-places = l;
-    figure = omega (arith, ap (count isCommitted) (slots-more s d o), count-more (take d (slotsSeen s)) (seen s d));
+    figure = omega (arith, ap (count isCommitted) (slots-more s d o), count-more (take d (slotsSeen narrowKind s)) (seen narrowKind s d));
     entries = a;
     txns = b;
     unbroken = λ j oj. upto j oj (ℕ-discrete j d);
   }
     where
-      upto : (j : ℕ) → j < d + 1 → Dec (j ≡ d) → breaks (take j (slotsSeen s)) (seen s j) ≡ false
-      upto j oj (yes e) = subst (λ (k : ℕ). breaks (take k (slotsSeen s)) (seen s k) ≡ false) (sym e) h
+      upto : (j : ℕ) → j < d + 1 → Dec (j ≡ d) → breaks (take j (slotsSeen narrowKind s)) (seen narrowKind s j) ≡ false
+      upto j oj (yes e) = subst (λ (k : ℕ). breaks (take k (slotsSeen narrowKind s)) (seen narrowKind s k) ≡ false) (sym e) h
       upto j oj (no f) = p .unbroken j (omega arith)
 
   -- a free slot
-  pub passed-free : seen s d ≡ free → Passed s es ts n (d + 1)
+  pub passed-free : seen narrowKind s d ≡ free → Passed s es ts n (d + 1)
   unfolding breaks count isCommitted entrySeen
   passed-free x =
       subst (λ (k : ℕ). Passed s es ts k (d + 1)) (omega arith)
-      (more es ts 0 (omega arith) (ap (breaks (take d (slotsSeen s))) x) (ap (λ y. count isCommitted (y ∷ [])) x) (p .txn-places)
+      (more es ts 0 (omega arith) (ap (breaks (take d (slotsSeen narrowKind s))) x) (ap (λ y. count isCommitted (y ∷ [])) x) (p .txn-places)
       (p .entries ∙ column-left entrySeen noEntry s d o (ap entrySeen x))
       (p .txns ∙ column-left txnSeen 0 s d o (ap txnSeen x)))
 
   -- a committed one, whose number no lower slot has
-  module _ (e : machine.Entry.Entry) (x : seen s d ≡ committed (listedEntry e)) where
-    repeated : breaks (take d (slotsSeen s)) (seen s d) ≡ member (e .id .txn) (take d ts)
+  module _ (e : machine.Entry.Entry) (x : seen narrowKind s d ≡ committed (listedEntry e)) where
+    repeated : breaks (take d (slotsSeen narrowKind s)) (seen narrowKind s d) ≡ member (e .id .txn) (take d ts)
     unfolding breaks
-    repeated = ap (breaks (take d (slotsSeen s))) x ∙ ap (member (e .id .txn)) (sym (ap (take d) (p .txns) ∙ column-take txnSeen 0 s d (p .below)))
+    repeated = ap (breaks (take d (slotsSeen narrowKind s))) x ∙ ap (member (e .id .txn)) (sym (ap (take d) (p .txns) ∙ column-take txnSeen 0 s d (p .below)))
 
     pub passed-committed : member (e .id .txn) (take d ts) ≡ false → Passed s (set es d e) (set ts d (e .id .txn)) (n + 1) (d + 1)
     unfolding count isCommitted entrySeen
@@ -184,24 +186,24 @@ module _ (s : List ℕ) (es : List machine.Entry.Entry) (ts : List ℕ) (n d : �
         (listed-set es d e ∙ ap₂ (λ (l : List Entry) (y : Entry). set l d y) (p .entries) (sym (ap entrySeen x)) ∙ column-set entrySeen noEntry s d o)
         (ap₂ (λ (l : List ℕ) (y : ℕ). set l d y) (p .txns) (sym (ap txnSeen x)) ∙ column-set txnSeen 0 s d o)
 
-    pub refused-repeated : length s ≡ storeSize → member (e .id .txn) (take d ts) ≡ true → scan s ≡ says (A.Refused 18 d) emptyStation
-    refused-repeated l g = scan-refused s l d o (repeated ∙ g) (p .unbroken)
+    pub refused-repeated : length s ≡ storeSize narrowKind → member (e .id .txn) (take d ts) ≡ true → scan narrowKind s ≡ says (A.Refused 18 d) (emptyStation narrowKind)
+    refused-repeated l g = scan-refused narrowKind s l d o (repeated ∙ g) (p .unbroken)
 
-  pub refused-damaged : length s ≡ storeSize → seen s d ≡ damaged → scan s ≡ says (A.Refused 18 d) emptyStation
+  pub refused-damaged : length s ≡ storeSize narrowKind → seen narrowKind s d ≡ damaged → scan narrowKind s ≡ says (A.Refused 18 d) (emptyStation narrowKind)
   unfolding breaks
-  refused-damaged l x = scan-refused s l d o (ap (breaks (take d (slotsSeen s))) x) (p .unbroken)
+  refused-damaged l x = scan-refused narrowKind s l d o (ap (breaks (take d (slotsSeen narrowKind s))) x) (p .unbroken)
 
 -- all slots passed
-pub found-all : (s : List ℕ) (es : List machine.Entry.Entry) (ts : List ℕ) (n d : ℕ) → Passed s es ts n d → slots ≤ d → length s ≡ storeSize
-    → scan s ≡ says (A.Found n) (record { live = emptyStation .live; entries = listedEntries es })
+pub found-all : (s : List ℕ) (es : List machine.Entry.Entry) (ts : List ℕ) (n d : ℕ) → Passed s es ts n d → entryPlaces ≤ d → length s ≡ storeSize narrowKind
+    → scan narrowKind s ≡ says (A.Found n) (record { kind = narrowKind; live = (emptyStation narrowKind) .live; entries = listedEntries es })
 unfolding emptyStation
 found-all s es ts n d p o l =
-    scan-finds s l (none-keeps s (λ j oj. p .unbroken j (omega arith)))
-    ∙ ap₂ (λ (k : ℕ) (e : List Entry). says (A.Found k) (idleStation e))
-    (sym (p .figure ∙ ap (count isCommitted) (take-all d (slotsSeen s) (omega (arith, seen-length s)))))
-    (sym (p .entries ∙ column-all entrySeen noEntry s d o))
+    scan-finds narrowKind s l (none-keeps narrowKind s (λ j oj. p .unbroken j (omega arith)))
+    ∙ ap₂ (λ (k : ℕ) (e : List Entry). says (A.Found k) (idleStation narrowKind e))
+    (sym (p .figure ∙ ap (count isCommitted) (take-all d (slotsSeen narrowKind s) (omega (arith, seen-length narrowKind s)))))
+    (sym (p .entries ∙ column-all s d (omega (arith, o, p .below))))
 
 -- an answer and a station, as the scan's outcome
-pub handed-back : (s : List ℕ) (a : Answer) (st : machine.Station.Station) (t : Station) → listed st ≡ t → scan s ≡ says a t → listedOutcome (record { answer = a; station = st }) ≡ outcomeOf (scan s)
+pub handed-back : (s : List ℕ) (a : Answer) (st : machine.Station.Station) (t : Station) → listed st ≡ t → scan narrowKind s ≡ says a t → listedOutcome (record { answer = a; station = st }) ≡ outcomeOf (scan narrowKind s)
 unfolding outcomeOf says
 handed-back s a st t q h = ap (λ (x : Station). record { answer = a; station = x }) q ∙ sym (ap outcomeOf h)

@@ -6,7 +6,8 @@ use records::Slot;
 ghost use mathlib.Core.Path.{_≡_};
 ghost use Prim.Native.Nat.{_≤_};
 ghost use lib.ListN.{length, take};
-ghost use Rattle.model.specs.Limits.{slots};
+ghost use Rattle.model.specs.Limits.{entryPlaces};
+ghost use Rattle.model.specs.Kinds.{narrowKind};
 ghost use Rattle.model.specs.Lists.{member};
 ghost use Rattle.model.specs.Listed.{listedOutcome};
 ghost use Rattle.model.specs.Effects.{outcomeOf};
@@ -14,8 +15,8 @@ ghost use Rattle.model.specs.Scan.{scan};
 
 // One of the first `below` numbers is the transaction's.
 fn has_txn(txns: &[u32; Station::SLOTS], below: usize, txn: u32) -> bool
-    requires { ⌜ below ≤ slots ⌝ }
-    requires { ⌜ length (now txns) ≡ slots ⌝ }
+    requires { ⌜ below ≤ entryPlaces ⌝ }
+    requires { ⌜ length (now txns) ≡ entryPlaces ⌝ }
     ensures { λ r. ⌜ r ≡ member txn (take below (now (txns .entry))) ⌝ }
 {
     let mut i = 0;
@@ -30,7 +31,7 @@ fn has_txn(txns: &[u32; Station::SLOTS], below: usize, txn: u32) -> bool
 
 // From the lowest slot up: the first that breaks the rules is refused. The numbers found stand in a column of their own.
 pub fn scan(store: &[u8]) -> Outcome
-    ensures { λ r. ⌜ listedOutcome r ≡ outcomeOf (scan (now (store .entry))) ⌝ }
+    ensures { λ r. ⌜ listedOutcome r ≡ outcomeOf (scan narrowKind (now (store .entry))) ⌝ }
 {
     let empty = Station::empty();
     if store.len() != Station::STORE {

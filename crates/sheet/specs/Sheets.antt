@@ -5,10 +5,10 @@ use mathlib.Core.List.{List, [], _∷_, _++_}
 use mathlib.Core.Option.{Option, some, none}
 use lib.Dec.{eqb}
 use lib.ListN.{length, replicate}
+use Rattle.model.specs.Kinds.{narrowKind, storeSize}
 use Rattle.model.specs.Types.{Station}
 use Rattle.model.specs.declared.Answer.{Answer}
 use Rattle.model.specs.declared.Answer.the-variants as A
-use Rattle.model.specs.Limits.{storeSize}
 use Rattle.model.specs.Stations.{emptyStation}
 use Rattle.model.specs.Effects.{Effect, stored, says}
 use Rattle.model.specs.Calls.{Call, does}
@@ -35,7 +35,7 @@ pub record Desk : Type 0 where
 
 -- "Program `runsheet` .. starting from a zero store"
 unfoldable pub newDesk : Desk
-newDesk = record { station = emptyStation; store = replicate storeSize 0; line = 1 }
+newDesk = record { station = (emptyStation narrowKind); store = replicate (storeSize narrowKind) 0; line = 1 }
 
 -- what a line comes to: its call's effect, or row 19, which "alters nothing"
 unfoldable pub lineEffect : Option Call → Station → List ℕ → Effect

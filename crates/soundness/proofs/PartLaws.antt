@@ -22,6 +22,7 @@ use Rattle.model.proofs.KeySetLaws.{set-ascends}
 use Rattle.model.proofs.ListedLaws.{zeroEntry, listed-any}
 use Rattle.model.specs.Lists.{_and_, _or_, all, ascending}
 use Rattle.model.specs.Limits.{keys}
+use Rattle.model.specs.Kinds.{Kind}
 use Rattle.model.specs.Ids.{sameId}
 use Rattle.model.specs.Lives.{writeKey, slotMark, liveBeyond}
 use Rattle.model.specs.Entries.{noEntry}
@@ -34,28 +35,28 @@ use Rattle.soundness.proofs.Loops.{column-more, column-end}
 use Rattle.model.proofs.RestLaws.{all-split}
 
 -- ── a write set within its limit ──
-module _ (l : Live) (n : ℕ) where
-  pub writes-is : n ≡ l .«write_count» → n ≤ 8 → writesRight l ≡ (setRight writeKey anyWrite isNoWrite 0 n (l .writes) and true)
+module _ (κ : Kind) (l : Live) (n : ℕ) where
+  pub writes-is : n ≡ l .«write_count» → n ≤ κ .writeLimit → writesRight κ l ≡ (setRight writeKey anyWrite isNoWrite 0 n (l .writes) and true)
   unfolding writesRight _and_
-  writes-is e h = rw (← e, le-leb n 8 h) (sym (and-true _))
+  writes-is e h = rw (← e, le-leb n (κ .writeLimit) h) (sym (and-true _))
 
-  pub writes-long : n ≡ l .«write_count» → 8 < n → writesRight l ≡ false
+  pub writes-long : n ≡ l .«write_count» → κ .writeLimit < n → writesRight κ l ≡ false
   unfolding writesRight _and_
-  writes-long e h = rw (← e, lt-leb n 8 h)
+  writes-long e h = rw (← e, lt-leb n (κ .writeLimit) h)
 
 -- ── slots ──
-module _ (ts : List ℕ) (m : ℕ) where
-  pub free-none : m ≡ 0 → slotFree ts m ≡ true
+module _ (κ : Kind) (ts : List ℕ) (m : ℕ) where
+  pub free-none : m ≡ 0 → slotFree κ ts m ≡ true
   unfolding slotFree _or_
   free-none e = rw (eq-eqb m 0 e)
 
-  pub free-high : m ≢ 0 → 64 < m → slotFree ts m ≡ false
+  pub free-high : m ≢ 0 → κ .slots < m → slotFree κ ts m ≡ false
   unfolding slotFree _or_ _and_
-  free-high n h = rw (ne-eqb m 0 n, lt-leb m 64 h)
+  free-high n h = rw (ne-eqb m 0 n, lt-leb m (κ .slots) h)
 
-  pub free-is : m ≢ 0 → m ≤ 64 → slotFree ts m ≡ eqb (getD ts (m + 7) 0) 0
+  pub free-is : m ≢ 0 → m ≤ κ .slots → slotFree κ ts m ≡ eqb (getD ts (m + 7) 0) 0
   unfolding slotFree _or_ _and_
-  free-is n h = rw (ne-eqb m 0 n, le-leb m 64 h)
+  free-is n h = rw (ne-eqb m 0 n, le-leb m (κ .slots) h)
 
 -- ── a read, by the slot of its transaction ──
 module _ (es : List Entry) (ts : List ℕ) (r : Read) (d : ℕ) (e : d ≡ slotIn ts (r .id .txn)) where
@@ -72,21 +73,21 @@ pub named-listed : (es : List machine.Entry.Entry) (d : ℕ) (r : Read) → isNa
 named-listed es d r = ap (λ (e : Entry). isNamed e r) (listed-any es d)
 
 -- a place that is wrong but for its reads; a place that is right so
-module _ (es : List Entry) (ts : List ℕ) (l : Live) where
-  pub place-wrong : shape l ≡ false → placeFits es ts l ≡ false
+module _ (κ : Kind) (es : List Entry) (ts : List ℕ) (l : Live) where
+  pub place-wrong : shape κ l ≡ false → placeFits κ es ts l ≡ false
   unfolding placeFits _and_
   place-wrong e = rw e
 
-  pub place-reads : shape l ≡ true → placeFits es ts l ≡ readsRight (namedBy es ts) l
+  pub place-reads : shape κ l ≡ true → placeFits κ es ts l ≡ readsRight (namedBy es ts) l
   unfolding placeFits _and_
   place-reads e = rw e
 
 -- by the phase
-pub unused-shape : (p : Phase) (l : Live) → isUnused p ≡ true → shapeRight p l ≡ isNoLive l
+pub unused-shape : (κ : Kind) (p : Phase) (l : Live) → isUnused p ≡ true → shapeRight κ p l ≡ isNoLive l
 unfolding isUnused shapeRight
-unused-shape Unused l h = refl
-unused-shape Open l h = absurd (true≢false (sym h))
-unused-shape (Closing d c n) l h = absurd (true≢false (sym h))
+unused-shape κ Unused l h = refl
+unused-shape κ Open l h = absurd (true≢false (sym h))
+unused-shape κ (Closing d c n) l h = absurd (true≢false (sym h))
 
 -- ── columns ──
 pub mark-at : (ls : List Live) (i : ℕ) → getD (markColumn ls) i 0 ≡ slotMark (getD ls i liveBeyond .phase)
@@ -161,16 +162,16 @@ module _ {A : Type 0} (key : A → ℕ) (good isZero : A → Bool) where
       ∙ ap₂ (λ (a b : Bool). a and b and all isZero (drop n xs)) (sym (ascending-cons-is lo keys (key x) (map key (take n xs)))) (sym (all-cons-is good x (take n xs)))
 
 -- ── entries: the machine's, by how many keys it has ──
-module _ (e : machine.Entry.Entry) (n : ℕ) (q : n ≡ length (keySet (e .keys))) where
-  pub entry-none : n ≡ 0 → entryRight (listedEntry e) ≡ (eqb (e .id .clock) 0 and eqb (e .id .txn) 0)
+module _ (κ : Kind) (e : machine.Entry.Entry) (n : ℕ) (q : n ≡ length (keySet (e .keys))) where
+  pub entry-none : n ≡ 0 → entryRight κ (listedEntry e) ≡ (eqb (e .id .clock) 0 and eqb (e .id .txn) 0)
   unfolding sameId
-  entry-none h = right-none (listedEntry e) (omega (arith, q, h))
+  entry-none h = right-none κ (listedEntry e) (omega (arith, q, h))
 
-  pub entry-some : n ≢ 0 → entryRight (listedEntry e) ≡ (leb n 8 and leb 1 (e .id .txn) and leb 1 (e .id .clock))
-  entry-some h = rw q (right-some (listedEntry e) (λ z. h (q ∙ z)) (set-ascends (e .keys)))
+  pub entry-some : n ≢ 0 → entryRight κ (listedEntry e) ≡ (leb n (κ .writeLimit) and leb 1 (e .id .txn) and leb 1 (e .id .clock))
+  entry-some h = rw q (right-some κ (listedEntry e) (λ z. h (q ∙ z)) (set-ascends (e .keys)))
 
-pub right-listed : (es : List machine.Entry.Entry) (d : ℕ) → entryRight (getD (listedEntries es) d noEntry) ≡ entryRight (listedEntry (getD es d zeroEntry))
-right-listed es d = ap entryRight (listed-any es d)
+pub right-listed : (κ : Kind) (es : List machine.Entry.Entry) (d : ℕ) → entryRight κ (getD (listedEntries es) d noEntry) ≡ entryRight κ (listedEntry (getD es d zeroEntry))
+right-listed κ es d = ap (entryRight κ) (listed-any es d)
 
 -- a number that is not 0 is at least 1
 pub some-clock : (n : ℕ) → not (eqb n 0) ≡ leb 1 n

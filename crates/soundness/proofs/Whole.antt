@@ -5,11 +5,12 @@ use mathlib.Core.Logic.{_⊎_, inl, inr}
 use mathlib.Core.Bool.{Bool, true, false, true≢false}
 use mathlib.Core.List.{List, [], _∷_, map}
 use lib.Dec.{eqb, leb}
-use lib.ListN.{length, take, getD, length-map}
+use lib.ListN.{drop, length, take, getD, length-map}
 use lib.Seq.{getD-append-add, drop-at}
 use native.Mathlib.Nat.{suc-ne-zero}
 use native.Mathlib.Omega.{arith}
 use borrow.Author.Tests.{ltb-true, leb-true, leb-false, eqb-true, lt-ltb, le-leb, eq-eqb}
+use Rattle.model.specs.Kinds.{Kind}
 use Rattle.model.specs.declared.Id.{Id}
 use Rattle.model.specs.declared.Write.{Write}
 use Rattle.model.specs.declared.Read.{Read}
@@ -19,7 +20,7 @@ use Rattle.model.specs.declared.Phase.{Phase}
 use Rattle.model.specs.declared.Phase.the-variants.{Unused, Open, Closing}
 use Rattle.model.specs.Lists.{_and_, all, any, first, distinct, ascending, same}
 use Rattle.model.specs.Lives.{writesOf, readsOf, writeCount, writeKey, readKey, closingSlot, closingClock, recordsStored, slotMark}
-use Rattle.model.specs.Entries.{wroteAs, noEntry}
+use Rattle.model.specs.Entries.{isNoEntry, wroteAs, noEntry}
 use Rattle.model.specs.Stations.{entryAt, liveTxns, heldTxns, holds, closingSlots}
 use Rattle.model.specs.Sound.{isNoWrite, isNoRead, isNoLive, names, placeRight, entryRight, sound}
 use Rattle.model.proofs.Tests.{and-left, and-right, and-intro, bool-cases, same-test}
@@ -39,28 +40,28 @@ unfolding all
 all-any [] = refl
 all-any (w ∷ ws) = all-any ws
 
-module _ (es : List Entry) (l : Live) where
-  pub lists-of : Used es l → listsRight l ≡ true
+module _ (κ : Kind) (es : List Entry) (l : Live) where
+  pub lists-of : Used κ es l → listsRight κ l ≡ true
   unfolding listsRight writesRight writesOf
   lists-of u =
       and-intro _ _
-      (and-intro _ _ (le-leb 1 (l .txn) (omega (arith, u .numbered))) (le-leb (l .«read_count») 16 (read-limit l (u .sets))))
-      (and-intro _ _ (le-leb (l .«write_count») 8 (write-limit l (u .sets)))
-      (set-is writeKey anyWrite isNoWrite 0 (l .«write_count») (l .writes) ∙ and-intro _ _ (and-intro _ _ (writes-ascending l (u .sets)) (all-any (writesOf l))) (writes-zero l (u .zeros))))
+      (and-intro _ _ (le-leb 1 (l .txn) (omega (arith, u .numbered))) (le-leb (l .«read_count») 16 (read-limit κ l (u .sets))))
+      (and-intro _ _ (le-leb (l .«write_count») (κ .writeLimit) (write-limit κ l (u .sets)))
+      (set-is writeKey anyWrite isNoWrite 0 (l .«write_count») (l .writes) ∙ and-intro _ _ (and-intro _ _ (writes-ascending κ l (u .sets)) (all-any (writesOf l))) (writes-zero l (u .zeros))))
 
-  pub reads-of : Used es l → readsRight (names es) l ≡ true
+  pub reads-of : Used κ es l → readsRight (names es) l ≡ true
   unfolding readsOf
-  reads-of u = set-is readKey (names es) isNoRead 0 (l .«read_count») (l .reads) ∙ and-intro _ _ (and-intro _ _ (reads-ascending l (u .sets)) (u .named)) (reads-zero l (u .zeros))
+  reads-of u = set-is readKey (names es) isNoRead 0 (l .«read_count») (l .reads) ∙ and-intro _ _ (and-intro _ _ (reads-ascending κ l (u .sets)) (u .named)) (reads-zero l (u .zeros))
 
-  pub used-lists : listsRight l ≡ true → readsRight (names es) l ≡ true → Used es l
+  pub used-lists : listsRight κ l ≡ true → readsRight (names es) l ≡ true → Used κ es l
   unfolding listsRight writesRight writesOf readsOf
   used-lists h r =
-      let w : writesRight l ≡ true = and-right _ _ h in
+      let w : writesRight κ l ≡ true = and-right _ _ h in
       let x = sym (set-is writeKey anyWrite isNoWrite 0 (l .«write_count») (l .writes)) ∙ and-right _ _ w in
       let y = sym (set-is readKey (names es) isNoRead 0 (l .«read_count») (l .reads)) ∙ r in
       record {
         numbered = λ (z : l .txn ≡ 0). omega (arith, leb-true 1 (l .txn) (and-left _ _ (and-left _ _ h)));
-        sets = sets-of l (leb-true (l .«write_count») 8 (and-left _ _ w)) (leb-true (l .«read_count») 16 (and-right _ _ (and-left _ _ h))) (and-left _ _ (and-left _ _ x)) (and-left _ _ (and-left _ _ y));
+        sets = sets-of κ l (leb-true (l .«write_count») (κ .writeLimit) (and-left _ _ w)) (leb-true (l .«read_count») 16 (and-right _ _ (and-left _ _ h))) (and-left _ _ (and-left _ _ x)) (and-left _ _ (and-left _ _ y));
         named = and-right _ _ (and-left _ _ y);
         zeros = zeros-of l (and-right _ _ x) (and-right _ _ y);
       }
@@ -90,51 +91,51 @@ module _ (st : Station) (l : Live) (d c n : ℕ) (e : l .phase ≡ Closing d c n
       (and-intro _ _ (le-leb 1 (writeCount l) (s .keyed)) (le-leb 1 c (subst (λ (p : Phase). 1 ≤ closingClock p) e (s .clocked))))
       (le-leb n (writeCount l + 1) (subst (λ (p : Phase). recordsStored p ≤ writeCount l + 1) e (s .within)))
 
-  pub shut-counts : countsRight c n (writeCount l) ≡ true → (d < 64) × (holds st d ≡ false) → Shut st l
+  pub shut-counts : countsRight c n (writeCount l) ≡ true → (d < st .kind .slots) × (holds st d ≡ false) → Shut st l
   unfolding countsRight closingClock recordsStored closingSlot
   shut-counts h f =
       record {
         keyed = leb-true 1 (writeCount l) (and-left _ _ (and-left _ _ h));
         clocked = subst (λ (p : Phase). 1 ≤ closingClock p) (sym e) (leb-true 1 c (and-right _ _ (and-left _ _ h)));
         within = subst (λ (p : Phase). recordsStored p ≤ writeCount l + 1) (sym e) (leb-true n (writeCount l + 1) (and-right _ _ h));
-        low = subst (λ (p : Phase). closingSlot p < 64) (sym e) (f .0);
+        low = subst (λ (p : Phase). closingSlot p < st .kind .slots) (sym e) (f .0);
         unheld = subst (λ (p : Phase). holds st (closingSlot p) ≡ false) (sym e) (f .1);
       }
 
-module _ (st : Station) (ts : List ℕ) (at-slot : (d : ℕ) → d < 64 → getD ts (suc d + 7) 0 ≡ entryAt st d .id .txn) where
-  pub slot-free : (d : ℕ) → d < 64 → holds st d ≡ false → slotFree ts (suc d) ≡ true
-  slot-free d h n = free-is ts (suc d) (suc-ne-zero d) (omega arith) ∙ eq-eqb (getD ts (suc d + 7) 0) 0 (at-slot d h ∙ unheld-txn st d n)
+module _ (st : Station) (ts : List ℕ) (at-slot : (d : ℕ) → d < st .kind .slots → getD ts (suc d + 7) 0 ≡ entryAt st d .id .txn) where
+  pub slot-free : (d : ℕ) → d < st .kind .slots → holds st d ≡ false → slotFree (st .kind) ts (suc d) ≡ true
+  slot-free d h n = free-is (st .kind) ts (suc d) (suc-ne-zero d) (omega arith) ∙ eq-eqb (getD ts (suc d + 7) 0) 0 (at-slot d h ∙ unheld-txn st d n)
 
-  pub free-slot : (d : ℕ) → slotFree ts (suc d) ≡ true → (d < 64) × (holds st d ≡ false)
+  pub free-slot : (d : ℕ) → slotFree (st .kind) ts (suc d) ≡ true → (d < st .kind .slots) × (holds st d ≡ false)
   free-slot d h =
-      let b : d < 64 = go (bool-cases (leb (suc d) 64)) in
-      (b, unheld-of st d (sym (at-slot d b) ∙ eqb-true (getD ts (suc d + 7) 0) 0 (sym (free-is ts (suc d) (suc-ne-zero d) (omega arith)) ∙ h)))
+      let b : d < st .kind .slots = go (bool-cases (leb (suc d) (st .kind .slots))) in
+      (b, unheld-of st d (sym (at-slot d b) ∙ eqb-true (getD ts (suc d + 7) 0) 0 (sym (free-is (st .kind) ts (suc d) (suc-ne-zero d) (omega arith)) ∙ h)))
     where
-      go : (leb (suc d) 64 ≡ true) ⊎ (leb (suc d) 64 ≡ false) → d < 64
-      go (inl e) = leb-true (suc d) 64 e
-      go (inr e) = absurd (true≢false (sym h ∙ free-high ts (suc d) (suc-ne-zero d) (leb-false (suc d) 64 e)))
+      go : (leb (suc d) (st .kind .slots) ≡ true) ⊎ (leb (suc d) (st .kind .slots) ≡ false) → d < st .kind .slots
+      go (inl e) = leb-true (suc d) (st .kind .slots) e
+      go (inr e) = absurd (true≢false (sym h ∙ free-high (st .kind) ts (suc d) (suc-ne-zero d) (leb-false (suc d) (st .kind .slots) e)))
 
   -- what is right of a place: its shape, its reads, its slot
   module _ (l : Live) where
     pub place-parts : (p : Phase) → l .phase ≡ p → placeRight st p l ≡ true
-        → (shapeRight p l ≡ true) × (readsRight (names (st .entries)) l ≡ true) × (slotFree ts (slotMark p) ≡ true)
+        → (shapeRight (st .kind) p l ≡ true) × (readsRight (names (st .entries)) l ≡ true) × (slotFree (st .kind) ts (slotMark p) ≡ true)
     unfolding placeRight shapeRight slotMark closingSlot
-    place-parts Unused e h = (h, unused-reads (names (st .entries)) l h, free-none ts 0 refl)
-    place-parts Open e h = let u = used-at (st .entries) l h in (lists-of (st .entries) l u, reads-of (st .entries) l u, free-none ts 0 refl)
+    place-parts Unused e h = (h, unused-reads (names (st .entries)) l h, free-none (st .kind) ts 0 refl)
+    place-parts Open e h = let u = used-at (st .kind) (st .entries) l h in (lists-of (st .kind) (st .entries) l u, reads-of (st .kind) (st .entries) l u, free-none (st .kind) ts 0 refl)
     place-parts (Closing d c n) e h =
-        let u = used-at (st .entries) l (and-left _ _ h) in
+        let u = used-at (st .kind) (st .entries) l (and-left _ _ h) in
         let s = shut-at st l (and-right _ _ h) in (
-          and-intro _ _ (counts-of st l d c n e s) (lists-of (st .entries) l u),
-          reads-of (st .entries) l u,
-          slot-free d (subst (λ (p : Phase). closingSlot p < 64) e (s .low)) (subst (λ (p : Phase). holds st (closingSlot p) ≡ false) e (s .unheld)),
+          and-intro _ _ (counts-of st l d c n e s) (lists-of (st .kind) (st .entries) l u),
+          reads-of (st .kind) (st .entries) l u,
+          slot-free d (subst (λ (p : Phase). closingSlot p < st .kind .slots) e (s .low)) (subst (λ (p : Phase). holds st (closingSlot p) ≡ false) e (s .unheld)),
         )
 
-    pub parts-place : (p : Phase) → l .phase ≡ p → shapeRight p l ≡ true → readsRight (names (st .entries)) l ≡ true → slotFree ts (slotMark p) ≡ true → placeRight st p l ≡ true
+    pub parts-place : (p : Phase) → l .phase ≡ p → shapeRight (st .kind) p l ≡ true → readsRight (names (st .entries)) l ≡ true → slotFree (st .kind) ts (slotMark p) ≡ true → placeRight st p l ≡ true
     unfolding placeRight shapeRight slotMark
     parts-place Unused e h n f = h
-    parts-place Open e h n f = used-of (st .entries) l (used-lists (st .entries) l h n)
+    parts-place Open e h n f = used-of (st .kind) (st .entries) l (used-lists (st .kind) (st .entries) l h n)
     parts-place (Closing d c n′) e h n f =
-        and-intro _ _ (used-of (st .entries) l (used-lists (st .entries) l (and-right _ _ h) n)) (shut-of st l (shut-counts st l d c n′ e (and-left _ _ h) (free-slot d f)))
+        and-intro _ _ (used-of (st .kind) (st .entries) l (used-lists (st .kind) (st .entries) l (and-right _ _ h) n)) (shut-of st l (shut-counts st l d c n′ e (and-left _ _ h) (free-slot d f)))
 
 -- ── reads: where entries are right and transactions distinct, the entry found by its transaction is the only one that a read can name ──
 module _ (ls : List Live) (es : List Entry) (hl : length ls ≡ 8) (he : length es ≡ 64) where
@@ -152,9 +153,9 @@ module _ (ls : List Live) (es : List Entry) (hl : length ls ≡ 8) (he : length 
       let o : slotIn (txnColumn ls es) (r .id .txn) < length es = omega (arith, ltb-true (slotIn (txnColumn ls es) (r .id .txn)) 64 (and-left _ _ h)) in
       names-is r ∙ any-at (λ e. isNamed e r) es noEntry (slotIn (txnColumn ls es) (r .id .txn)) o (and-right _ _ h)
 
-  names-named : all entryRight es ≡ true → distinct (txnColumn ls es) ≡ true → (r : Read) → names es r ≡ true → namedBy es (txnColumn ls es) r ≡ true
+  names-named : (κ : Kind) → all (entryRight κ) es ≡ true → distinct (txnColumn ls es) ≡ true → (r : Read) → names es r ≡ true → namedBy es (txnColumn ls es) r ≡ true
   unfolding namedBy isNamed
-  names-named a u r h = go (any-finds (λ e. isNamed e r) es noEntry (sym (names-is r) ∙ h))
+  names-named κ a u r h = go (any-finds (λ e. isNamed e r) es noEntry (sym (names-is r) ∙ h))
     where
       go : (j : ℕ) × (j < length es) × (isNamed (getD es j noEntry) r ≡ true) → namedBy es (txnColumn ls es) r ≡ true
       go (j, o, q) =
@@ -166,7 +167,7 @@ module _ (ls : List Live) (es : List Entry) (hl : length ls ≡ 8) (he : length 
           let f = first-finds (eqb t) (heldColumn es) 0 j (eq-eqb t (getD (heldColumn es) j 0) (sym hj)) k in
           let hd : getD (heldColumn es) (first (eqb t) (heldColumn es)) 0 ≡ t = sym (eqb-true t (getD (heldColumn es) (first (eqb t) (heldColumn es)) 0) (f .1)) in
           let same : first (eqb t) (heldColumn es) ≡ j =
-          once-right (liveColumn ls) (heldColumn es) u (first (eqb t) (heldColumn es)) j (hd ∙ sym hj) (λ z. true≢false (sym (and-right _ _ q) ∙ unheld-wrote e (all-at entryRight es noEntry a j o) (x ∙ sym hd ∙ z) (r .key))) in
+          once-right (liveColumn ls) (heldColumn es) u (first (eqb t) (heldColumn es)) j (hd ∙ sym hj) (λ z. true≢false (sym (and-right _ _ q) ∙ unheld-wrote κ e (all-at (entryRight κ) es noEntry a j o) (x ∙ sym hd ∙ z) (r .key))) in
           and-intro _ _ (lt-ltb (slotIn (txnColumn ls es) t) 64 (omega (arith, slot-is t))) (subst (λ (i : ℕ). isNamed (getD es i noEntry) r ≡ true) (sym (slot-is t ∙ same)) q)
 
 -- ── the whole ──
@@ -176,50 +177,52 @@ all-unmap f q [] h = refl
 all-unmap f q (x ∷ xs) h = all-cons (λ y. q (f y)) x xs (all-head q (f x) (map f xs) h) (all-unmap f q xs (all-tail q (f x) (map f xs) h))
 
 module _ (st : Station) (hl : length (st .live) ≡ 8) (he : length (st .entries) ≡ 64) where
-  slot-at : (d : ℕ) → d < 64 → getD (txnColumn (st .live) (st .entries)) (suc d + 7) 0 ≡ entryAt st d .id .txn
+  slot-at : (d : ℕ) → d < st .kind .slots → getD (txnColumn (st .live) (st .entries)) (suc d + 7) 0 ≡ entryAt st d .id .txn
   unfolding entryAt
   slot-at d h =
       ap (λ (k : ℕ). getD (txnColumn (st .live) (st .entries)) k 0) (omega (arith, length-map (st .live) (λ (l : Live). l .txn)))
       ∙ getD-append-add (liveColumn (st .live)) (heldColumn (st .entries)) d 0 ∙ held-txn-at (st .entries) d
 
-  to-parts : sound st ≡ true → parts (st .live) (st .entries) ≡ true
+  to-parts : sound st ≡ true → parts (st .kind) (st .live) (st .entries) ≡ true
   unfolding sound parts placeFits liveTxns heldTxns closingSlots
   to-parts h =
-      let a : all entryRight (st .entries) ≡ true = and-left _ _ (and-left _ _ (and-left _ _ h)) in
+      let a : all (entryRight (st .kind)) (st .entries) ≡ true = and-left _ _ (and-left _ _ (and-left _ _ (and-left _ _ h))) in
+      let x : all isNoEntry (drop (st .kind .slots) (st .entries)) ≡ true = and-right _ _ (and-left _ _ (and-left _ _ (and-left _ _ h))) in
       let b : all (λ l. placeRight st (l .phase) l) (st .live) ≡ true = and-right _ _ (and-left _ _ (and-left _ _ h)) in
       let u : distinct (txnColumn (st .live) (st .entries)) ≡ true = and-right _ _ (and-left _ _ h) in
       let m : distinct (markColumn (st .live)) ≡ true = and-right _ _ h in
-      let at : (l : Live) → placeRight st (l .phase) l ≡ true → (shapeRight (l .phase) l ≡ true) × (readsRight (names (st .entries)) l ≡ true) × (slotFree (txnColumn (st .live) (st .entries)) (slotMark (l .phase)) ≡ true) =
+      let at : (l : Live) → placeRight st (l .phase) l ≡ true → (shapeRight (st .kind) (l .phase) l ≡ true) × (readsRight (names (st .entries)) l ≡ true) × (slotFree (st .kind) (txnColumn (st .live) (st .entries)) (slotMark (l .phase)) ≡ true) =
       λ l q. place-parts st (txnColumn (st .live) (st .entries)) slot-at l (l .phase) refl q in
       and-intro _ _
       (and-intro _ _
-      (and-intro _ _ (and-intro _ _ a u)
-      (all-by (λ l. placeRight st (l .phase) l) (placeFits (st .entries) (txnColumn (st .live) (st .entries))) (st .live)
+      (and-intro _ _ (and-intro _ _ (and-intro _ _ a x) u)
+      (all-by (λ l. placeRight st (l .phase) l) (placeFits (st .kind) (st .entries) (txnColumn (st .live) (st .entries))) (st .live)
       (λ l _ q.
       and-intro _ _ (at l q .0)
-      (reads-by (names (st .entries)) (namedBy (st .entries) (txnColumn (st .live) (st .entries))) l (λ r z. names-named (st .live) (st .entries) hl he a u r z) (at l q .1))) b))
+      (reads-by (names (st .entries)) (namedBy (st .entries) (txnColumn (st .live) (st .entries))) l (λ r z. names-named (st .live) (st .entries) hl he (st .kind) a u r z) (at l q .1))) b))
       m)
-      (all-map (λ (l : Live). slotMark (l .phase)) (λ l. placeRight st (l .phase) l) (slotFree (txnColumn (st .live) (st .entries))) (λ l q. at l q .2) (st .live) b)
+      (all-map (λ (l : Live). slotMark (l .phase)) (λ l. placeRight st (l .phase) l) (slotFree (st .kind) (txnColumn (st .live) (st .entries))) (λ l q. at l q .2) (st .live) b)
 
-  of-parts : parts (st .live) (st .entries) ≡ true → sound st ≡ true
+  of-parts : parts (st .kind) (st .live) (st .entries) ≡ true → sound st ≡ true
   unfolding sound parts placeFits liveTxns heldTxns closingSlots
   of-parts h =
-      let f : all (slotFree (txnColumn (st .live) (st .entries))) (markColumn (st .live)) ≡ true = and-right _ _ h in
+      let f : all (slotFree (st .kind) (txnColumn (st .live) (st .entries))) (markColumn (st .live)) ≡ true = and-right _ _ h in
       let m : distinct (markColumn (st .live)) ≡ true = and-right _ _ (and-left _ _ h) in
-      let p : all (placeFits (st .entries) (txnColumn (st .live) (st .entries))) (st .live) ≡ true = and-right _ _ (and-left _ _ (and-left _ _ h)) in
-      let a : all entryRight (st .entries) ≡ true = and-left _ _ (and-left _ _ (and-left _ _ (and-left _ _ h))) in
+      let p : all (placeFits (st .kind) (st .entries) (txnColumn (st .live) (st .entries))) (st .live) ≡ true = and-right _ _ (and-left _ _ (and-left _ _ h)) in
+      let a : all (entryRight (st .kind)) (st .entries) ≡ true = and-left _ _ (and-left _ _ (and-left _ _ (and-left _ _ (and-left _ _ h)))) in
+      let x : all isNoEntry (drop (st .kind .slots) (st .entries)) ≡ true = and-right _ _ (and-left _ _ (and-left _ _ (and-left _ _ (and-left _ _ h)))) in
       let u : distinct (txnColumn (st .live) (st .entries)) ≡ true = and-right _ _ (and-left _ _ (and-left _ _ (and-left _ _ h))) in
-      let f′ = all-unmap (λ (l : Live). slotMark (l .phase)) (slotFree (txnColumn (st .live) (st .entries))) (st .live) f in
+      let f′ = all-unmap (λ (l : Live). slotMark (l .phase)) (slotFree (st .kind) (txnColumn (st .live) (st .entries))) (st .live) f in
       and-intro _ _
       (and-intro _ _
-      (and-intro _ _ a
-      (all-by (placeFits (st .entries) (txnColumn (st .live) (st .entries))) (λ l. placeRight st (l .phase) l) (st .live)
+      (and-intro _ _ (and-intro _ _ a x)
+      (all-by (placeFits (st .kind) (st .entries) (txnColumn (st .live) (st .entries))) (λ l. placeRight st (l .phase) l) (st .live)
       (λ l e q.
       parts-place st (txnColumn (st .live) (st .entries)) slot-at l (l .phase) refl (and-left _ _ q)
       (reads-by (namedBy (st .entries) (txnColumn (st .live) (st .entries))) (names (st .entries)) l (λ r z. named-names (st .live) (st .entries) hl he r z) (and-right _ _ q))
-      (all-mem (λ (x : Live). slotFree (txnColumn (st .live) (st .entries)) (slotMark (x .phase))) (st .live) f′ l e)) p))
+      (all-mem (λ (x : Live). slotFree (st .kind) (txnColumn (st .live) (st .entries)) (slotMark (x .phase))) (st .live) f′ l e)) p))
       u)
       m
 
-  pub sound-is : sound st ≡ parts (st .live) (st .entries)
-  sound-is = same-test (sound st) (parts (st .live) (st .entries)) to-parts of-parts
+  pub sound-is : sound st ≡ parts (st .kind) (st .live) (st .entries)
+  sound-is = same-test (sound st) (parts (st .kind) (st .live) (st .entries)) to-parts of-parts

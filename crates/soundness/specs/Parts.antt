@@ -11,10 +11,11 @@ use Rattle.model.specs.Types.{Entry}
 use Rattle.model.specs.declared.Phase.{Phase}
 use Rattle.model.specs.declared.Phase.the-variants.{Unused, Open, Closing}
 use Rattle.model.specs.Lists.{_and_, _or_, all, first, distinct}
-use Rattle.model.specs.Limits.{keys, livePlaces, slots, writeLimit, readLimit}
+use Rattle.model.specs.Limits.{keys, livePlaces, entryPlaces, readLimit}
+use Rattle.model.specs.Kinds.{Kind}
 use Rattle.model.specs.Ids.{sameId}
 use Rattle.model.specs.Lives.{writeCount, writeKey, readKey, slotMark}
-use Rattle.model.specs.Entries.{wrote, noEntry}
+use Rattle.model.specs.Entries.{isNoEntry, wrote, noEntry}
 use Rattle.model.specs.Sound.{isNoWrite, isNoRead, isNoLive, entryRight}
 
 -- a key of an ascending set: at least lo, below the limit
@@ -32,8 +33,8 @@ module _ {A : Type 0} (key : A → ℕ) (good isZero : A → Bool) where
 abbrev pub anyWrite : Write → Bool
 anyWrite w = true
 
-unfoldable pub writesRight : Live → Bool
-writesRight l = leb (l .«write_count») writeLimit and setRight writeKey anyWrite isNoWrite 0 (l .«write_count») (l .writes)
+unfoldable pub writesRight : Kind → Live → Bool
+writesRight κ l = leb (l .«write_count») (κ .writeLimit) and setRight writeKey anyWrite isNoWrite 0 (l .«write_count») (l .writes)
 
 -- its reads, each of them good
 abbrev pub readsRight : (Read → Bool) → Live → Bool
@@ -46,8 +47,8 @@ abbrev pub noReads : Live → Bool
 noReads l = all isNoRead (l .reads)
 
 -- a transaction in use: its number, its write set, how many reads
-unfoldable pub listsRight : Live → Bool
-listsRight l = leb 1 (l .txn) and leb (l .«read_count») readLimit and writesRight l
+unfoldable pub listsRight : Kind → Live → Bool
+listsRight κ l = leb 1 (l .txn) and leb (l .«read_count») readLimit and writesRight κ l
 
 -- a closing transaction's write set, clock and records stored
 unfoldable pub countsRight : ℕ → ℕ → ℕ → Bool
@@ -59,13 +60,13 @@ isUnused Open = false
 isUnused (Closing d c n) = false
 
 -- a live place but for its reads
-unfoldable pub shapeRight : Phase → Live → Bool
-shapeRight Unused l = isNoLive l
-shapeRight Open l = listsRight l
-shapeRight (Closing d c n) l = countsRight c n (writeCount l) and listsRight l
+unfoldable pub shapeRight : Kind → Phase → Live → Bool
+shapeRight κ Unused l = isNoLive l
+shapeRight κ Open l = listsRight κ l
+shapeRight κ (Closing d c n) l = countsRight c n (writeCount l) and listsRight κ l
 
-abbrev pub shape : Live → Bool
-shape l = shapeRight (l .phase) l
+abbrev pub shape : Kind → Live → Bool
+shape κ l = shapeRight κ (l .phase) l
 
 -- ── columns: the transactions of the live places and then of the entries; the slots of the closing transactions ──
 abbrev pub liveColumn : List Live → List ℕ
@@ -89,18 +90,18 @@ isNamed e r = sameId (e .id) (r .id) and wrote e (r .key)
 
 -- the entry that a read names, found by its transaction, has the id and wrote the key
 unfoldable pub namedBy : List Entry → List ℕ → Read → Bool
-namedBy es ts r = ltb (slotIn ts (r .id .txn)) slots and isNamed (getD es (slotIn ts (r .id .txn)) noEntry) r
+namedBy es ts r = ltb (slotIn ts (r .id .txn)) entryPlaces and isNamed (getD es (slotIn ts (r .id .txn)) noEntry) r
 
 -- a live place: right but for its reads, and these right and named
-unfoldable pub placeFits : List Entry → List ℕ → Live → Bool
-placeFits es ts l = shape l and readsRight (namedBy es ts) l
+unfoldable pub placeFits : Kind → List Entry → List ℕ → Live → Bool
+placeFits κ es ts l = shape κ l and readsRight (namedBy es ts) l
 
 -- a closing transaction's slot, counted from 1, is there and not held
-unfoldable pub slotFree : List ℕ → ℕ → Bool
-slotFree ts m = eqb m 0 or (leb m slots and eqb (getD ts (m + 7) 0) 0)
+unfoldable pub slotFree : Kind → List ℕ → ℕ → Bool
+slotFree κ ts m = eqb m 0 or (leb m (κ .slots) and eqb (getD ts (m + 7) 0) 0)
 
 -- all of it, in the order of the tests
-unfoldable pub parts : List Live → List Entry → Bool
-parts ls es =
-    all entryRight es and distinct (txnColumn ls es) and all (placeFits es (txnColumn ls es)) ls
-    and distinct (markColumn ls) and all (slotFree (txnColumn ls es)) (markColumn ls)
+unfoldable pub parts : Kind → List Live → List Entry → Bool
+parts κ ls es =
+    all (entryRight κ) es and all isNoEntry (drop (κ .slots) es) and distinct (txnColumn ls es) and all (placeFits κ es (txnColumn ls es)) ls
+    and distinct (markColumn ls) and all (slotFree κ (txnColumn ls es)) (markColumn ls)

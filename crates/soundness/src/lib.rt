@@ -14,7 +14,8 @@ ghost use mathlib.Core.Bool.{false};
 ghost use Prim.Native.Nat.{_+_, _≤_};
 ghost use lib.Dec.{eqb};
 ghost use lib.ListN.{length};
-ghost use Rattle.model.specs.Limits.{livePlaces, slots};
+ghost use Rattle.model.specs.Limits.{livePlaces, entryPlaces};
+ghost use Rattle.model.specs.Kinds.{narrowKind};
 ghost use Rattle.model.specs.Lists.{all, count, distinct};
 ghost use Rattle.model.specs.Listed.{listedEntry, listed};
 ghost use Rattle.model.specs.Lives.{slotMark};
@@ -39,7 +40,7 @@ fn key_fits(low: u8, key: u8) -> bool
 
 // 02 §5: "1 to 8 ones for an entry".
 fn entry_right(e: Entry) -> bool
-    ensures { λ r. ⌜ r ≡ entryRight (listedEntry e) ⌝ }
+    ensures { λ r. ⌜ r ≡ entryRight narrowKind (listedEntry e) ⌝ }
 {
     let n = key_count(e.keys);
     let id = e.id;
@@ -83,7 +84,7 @@ fn no_read(read: Read) -> bool
 
 // The write set: within its limit, its keys ascending, the positions past it zero.
 fn writes_right(l: Live) -> bool
-    ensures { λ r. ⌜ r ≡ writesRight l ⌝ }
+    ensures { λ r. ⌜ r ≡ writesRight narrowKind l ⌝ }
 {
     let n = wide(l.write_count);
     if Station::WRITES < n {
@@ -171,7 +172,7 @@ fn unused_right(l: Live) -> bool
 
 // A place in use but for its phase and its reads: these are tested with the entries that they name.
 fn lists_right(l: Live) -> bool
-    ensures { λ r. ⌜ r ≡ listsRight l ⌝ }
+    ensures { λ r. ⌜ r ≡ listsRight narrowKind l ⌝ }
 {
     if l.txn == 0 {
         return false;
@@ -210,7 +211,7 @@ fn is_unused(p: Phase) -> bool
 
 // A place in use.
 fn used_right(l: Live) -> bool
-    ensures { λ r. ⌜ (isUnused (l .phase) ≡ false → r ≡ shape l) ⌝ }
+    ensures { λ r. ⌜ (isUnused (l .phase) ≡ false → r ≡ shape narrowKind l) ⌝ }
 {
     let p = l.phase;
     match p {
@@ -240,7 +241,7 @@ fn mark_of(l: Live) -> u32
 // ---- numbers that nothing else has ----
 // How often a number stands in the list. A loop with no other way out, and a count as wide as the numbers, compares several at a time.
 fn times(xs: &[u32], x: u32) -> u32
-    requires { ⌜ length (now xs) ≤ livePlaces + slots ⌝ }
+    requires { ⌜ length (now xs) ≤ livePlaces + entryPlaces ⌝ }
     ensures { λ r. ⌜ r ≡ count (eqb x) (now (xs .entry)) ⌝ }
 {
     let mut n = 0u32;
@@ -256,7 +257,7 @@ fn times(xs: &[u32], x: u32) -> u32
 
 // No number but 0 stands twice. Numbers are told apart by their lowest byte first: only where it was seen before is a number counted.
 fn differ(xs: &[u32]) -> bool
-    requires { ⌜ length (now xs) ≤ livePlaces + slots ⌝ }
+    requires { ⌜ length (now xs) ≤ livePlaces + entryPlaces ⌝ }
     ensures { λ r. ⌜ r ≡ distinct (now (xs .entry)) ⌝ }
 {
     let mut seen = [false; 256];
@@ -280,7 +281,7 @@ fn differ(xs: &[u32]) -> bool
 
 // Every closing transaction's slot is there and not held.
 fn slots_free(txns: &[u32; TXNS], marks: &[u32]) -> bool
-    ensures { λ r. ⌜ r ≡ all (slotFree (now (txns .entry))) (now (marks .entry)) ⌝ }
+    ensures { λ r. ⌜ r ≡ all (slotFree narrowKind (now (txns .entry))) (now (marks .entry)) ⌝ }
 {
     let mut i = 0;
     while i < marks.len() {

@@ -11,7 +11,7 @@ use native.Mathlib.Omega.{arith}
 use borrow.Author.Tests.{eqb-true}
 use Rattle.model.specs.Types.{Station}
 use Rattle.model.specs.Lists.{first, anyBelow, greatestBelow}
-use Rattle.model.specs.Limits.{slots}
+use Rattle.model.specs.Limits.{entryPlaces}
 use Rattle.model.specs.Entries.{keysOf, entryRules, isNoEntry}
 use Rattle.model.specs.Stations.{entryAt, liveTxns, heldTxns, isLive, isHeld, placeOf, slotOf, isFree}
 use Rattle.model.specs.Sound.{entryRight, sound}
@@ -51,27 +51,27 @@ module _ (st : Station) (t i : ℕ) (at : i ≡ first (eqb t) (map entryTxn (st 
   unfolding isHeld heldTxns
   slot-none n o = member-miss t i (map entryTxn (st .entries)) (sym at) (rw (length-map (st .entries) entryTxn, n) o)
 
-module _ (st : Station) (r : ℕ) (at : r ≡ cond (anyBelow (isFree st) slots) (highestFree st) slots) where
+module _ (st : Station) (few : st .kind .slots ≤ entryPlaces) (r : ℕ) (at : r ≡ cond (anyBelow (isFree st) (st .kind .slots)) (highestFree st) entryPlaces) where
   -- `highest_free`
-  pub free-some : r < 64 → (anyBelow (isFree st) slots ≡ true) × (r ≡ highestFree st)
-  free-some o = go (anyBelow (isFree st) slots) refl
+  pub free-some : r < 64 → (anyBelow (isFree st) (st .kind .slots) ≡ true) × (r ≡ highestFree st)
+  free-some o = go (anyBelow (isFree st) (st .kind .slots)) refl
     where
-      go : (b : Bool) → anyBelow (isFree st) slots ≡ b → (anyBelow (isFree st) slots ≡ true) × (r ≡ highestFree st)
+      go : (b : Bool) → anyBelow (isFree st) (st .kind .slots) ≡ b → (anyBelow (isFree st) (st .kind .slots) ≡ true) × (r ≡ highestFree st)
       go true e = (e, rw e at at)
       go false e = let q : r ≡ 64 = rw e at at in absurd (lt-irrefl r (omega arith))
 
-  pub free-none : 64 ≤ r → anyBelow (isFree st) slots ≡ false
+  pub free-none : 64 ≤ r → anyBelow (isFree st) (st .kind .slots) ≡ false
   unfolding highestFree
-  free-none o = go (anyBelow (isFree st) slots) refl
+  free-none o = go (anyBelow (isFree st) (st .kind .slots)) refl
     where
-      go : (b : Bool) → anyBelow (isFree st) slots ≡ b → anyBelow (isFree st) slots ≡ false
-      go true e = let q : r ≡ greatestBelow (isFree st) slots = rw e at at in absurd (lt-irrefl 64 (omega (arith, o, q, greatest-below (isFree st) slots e .0)))
+      go : (b : Bool) → anyBelow (isFree st) (st .kind .slots) ≡ b → anyBelow (isFree st) (st .kind .slots) ≡ false
+      go true e = let q : r ≡ greatestBelow (isFree st) (st .kind .slots) = rw e at at in absurd (lt-irrefl 64 (omega (arith, o, q, few, greatest-below (isFree st) (st .kind .slots) e .0)))
       go false e = e
 
--- an entry of a sound station has at most 8 keys
-pub entry-count : (st : Station) → sound st ≡ true → (d : ℕ) → length (keysOf (entryAt st d)) ≤ 8
+-- an entry of a sound station has no more keys than its kind may
+pub entry-count : (st : Station) → sound st ≡ true → (d : ℕ) → length (keysOf (entryAt st d)) ≤ st .kind .writeLimit
 unfolding entryRight isNoEntry
 entry-count st h d = ⊎-elim
     (λ n. let z : length (keysOf (entryAt st d)) ≡ 0 = eqb-true _ 0 (and-right _ _ n) in omega arith)
-    (λ r. rules-count (entryAt st d) r)
-    (or-cases (isNoEntry (entryAt st d)) (entryRules (entryAt st d)) (sound-at st h .entry d))
+    (λ r. rules-count (st .kind) (entryAt st d) r)
+    (or-cases (isNoEntry (entryAt st d)) (entryRules (st .kind) (entryAt st d)) (sound-at st h .entry d))

@@ -10,7 +10,7 @@ use native.Mathlib.Numerals.{add-one}
 use borrow.Author.Tests.{eq-eqb, ne-eqb}
 use Rattle.model.specs.Types.{Entry, Station}
 use Rattle.model.specs.Lists.{_and_, _or_, member, anyBelow, greatestBelow}
-use Rattle.model.specs.Limits.{slots}
+use Rattle.model.specs.Limits.{entryPlaces}
 use Rattle.model.specs.Stations.{entryAt, holds, closingSlots, isFree}
 use Rattle.model.specs.Commit.{highestFree}
 use Rattle.model.proofs.Tests.{and-intro, or-intro-left, not-of-false, not-of-true, and-none-left, and-none-right}
@@ -19,7 +19,7 @@ use Rattle.model.specs.Entries.{noEntry}
 
 -- the greatest number below n that passes; 64 where none does
 unfoldable pub highest : (ℕ → Bool) → ℕ → ℕ
-highest p n = cond (anyBelow p n) (greatestBelow p n) slots
+highest p n = cond (anyBelow p n) (greatestBelow p n) entryPlaces
 
 module _ (p : ℕ → Bool) where
   pub highest-none : highest p 0 ≡ 64
@@ -53,6 +53,6 @@ module _ (es : List Entry) (ms : List ℕ) (d : ℕ) where
 
 -- in a station
 pub highest-free : (st : Station) (ms : List ℕ) → ms ≡ map liveMark (st .live)
-    → highest (free (st .entries) ms) 64 ≡ cond (anyBelow (isFree st) slots) (highestFree st) slots
+    → highest (free (st .entries) ms) (st .kind .slots) ≡ cond (anyBelow (isFree st) (st .kind .slots)) (highestFree st) entryPlaces
 unfolding highest free isFree holds entryAt closingSlots highestFree
 highest-free st ms e = rw e

@@ -154,7 +154,7 @@ module _ (st : Station) (t k i : ℕ) (f : Placed st t k i) where
   pub place-numbered : liveAt st i .txn ≢ 0
   place-numbered = subst (λ (j : ℕ). liveAt st j .txn ≢ 0) (sym (f .place)) (λ e. f .number (sym (place-hit st t (f .live) .1) ∙ e))
 
-  pub place-used : Used (st .entries) (liveAt st i)
+  pub place-used : Used (st .kind) (st .entries) (liveAt st i)
   place-used = live-facts st (f .right) i place-numbered
 
 -- ── from the place that was found ──

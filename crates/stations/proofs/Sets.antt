@@ -13,7 +13,8 @@ use Rattle.model.specs.declared.Write.{Write}
 use Rattle.model.specs.declared.Read.{Read}
 use Rattle.model.specs.declared.Live.{Live}
 use Rattle.model.specs.Lists.{_and_, first, insert}
-use Rattle.model.specs.Limits.{keys, writeLimit, readLimit}
+use Rattle.model.specs.Limits.{keys, writePlaces, readLimit}
+use Rattle.model.specs.Kinds.{narrowKind}
 use Rattle.model.specs.Ids.{sameId}
 use Rattle.model.specs.Lives.{noWrite, noRead, writesOf, readsOf, writeKey, readKey, hasWritten, hasRead, valueUnder, withWrites, withReads}
 use Rattle.model.specs.Sound.{isNoWrite, isNoRead, zeroPastCounts, setsRight}
@@ -58,15 +59,15 @@ unfolding hasRead readsOf
 has-read l k i long fits place = member-key readKey k (l .«read_count») (l .reads) (omega arith) ∙ ap (λ (j : ℕ). ltb j (l .«read_count»)) (sym place)
 
 -- the place for a key lies within the limit
-pub write-place-within : (l : Live) (k i : ℕ) → setsRight l ≡ true → i ≡ first (atLeast writeKey k) (writesOf l) → i ≤ 8
+pub write-place-within : (l : Live) (k i : ℕ) → setsRight narrowKind l ≡ true → i ≡ first (atLeast writeKey k) (writesOf l) → i ≤ 8
 unfolding writesOf
-write-place-within l k i sets e = omega (arith, e, first-within (atLeast writeKey k) (l .«write_count») (l .writes), write-limit l sets)
+write-place-within l k i sets e = omega (arith, e, first-within (atLeast writeKey k) (l .«write_count») (l .writes), write-limit narrowKind l sets)
 
-pub read-place-within : (l : Live) (k i : ℕ) → setsRight l ≡ true → i ≡ first (atLeast readKey k) (readsOf l) → i ≤ 16
+pub read-place-within : (l : Live) (k i : ℕ) → setsRight narrowKind l ≡ true → i ≡ first (atLeast readKey k) (readsOf l) → i ≤ 16
 unfolding readsOf
-read-place-within l k i sets e = omega (arith, e, first-within (atLeast readKey k) (l .«read_count») (l .reads), read-limit l sets)
+read-place-within l k i sets e = omega (arith, e, first-within (atLeast readKey k) (l .«read_count») (l .reads), read-limit narrowKind l sets)
 
-module _ (l : Live) (sets : setsRight l ≡ true) (zeros : zeroPastCounts l ≡ true) (i : ℕ) where
+module _ (l : Live) (sets : setsRight narrowKind l ≡ true) (zeros : zeroPastCounts l ≡ true) (i : ℕ) where
   module _ (w : Write) (long : length (l .writes) ≡ 8) (place : i ≡ first (atLeast writeKey (w .key)) (writesOf l)) where
     past : drop (l .«write_count») (l .writes) ≡ replicate (8 - l .«write_count») noWrite
     past = all-same isNoWrite noWrite no-write (drop (l .«write_count») (l .writes)) (writes-zero l zeros)
@@ -82,12 +83,12 @@ module _ (l : Live) (sets : setsRight l ≡ true) (zeros : zeroPastCounts l ≡ 
       phase = l .phase;
       «read_count» = l .«read_count»;
       reads = l .reads;
-      «write_count» = replaced-length writeKey w noWrite noWrite 8 (l .«write_count») i (l .writes) long (write-limit l sets) past place o e z;
-      writes = replaced writeKey w noWrite noWrite 8 (l .«write_count») i (l .writes) long (write-limit l sets) past place o e z;
+      «write_count» = replaced-length writeKey w noWrite noWrite 8 (l .«write_count») i (l .writes) long (write-limit narrowKind l sets) past place o e z;
+      writes = replaced writeKey w noWrite noWrite 8 (l .«write_count») i (l .writes) long (write-limit narrowKind l sets) past place o e z;
     }
 
     -- it is not, and there is room
-    pub write-added : (i < l .«write_count» → w .key ≢ getD (l .writes) i noWrite .key) → (not (hasWritten (w .key) l) and leb writeLimit (l .«write_count»)) ≡ false
+    pub write-added : (i < l .«write_count» → w .key ≢ getD (l .writes) i noWrite .key) → (not (hasWritten (w .key) l) and leb writePlaces (l .«write_count»)) ≡ false
         → record { txn = l .txn; phase = l .phase; «write_count» = l .«write_count» + 1; writes = take 8 (joined i w (l .writes)); «read_count» = l .«read_count»; reads = l .reads }
         ≡ withWrite (w .key) (w .value) l
     unfolding withWrite withWrites writesOf hasWritten
@@ -97,15 +98,15 @@ module _ (l : Live) (sets : setsRight l ≡ true) (zeros : zeroPastCounts l ≡ 
       «read_count» = l .«read_count»;
       reads = l .reads;
       «write_count» = longer z;
-      writes = added writeKey w noWrite noWrite 8 (l .«write_count») i (l .writes) long (write-limit l sets) past place f room z;
+      writes = added writeKey w noWrite noWrite 8 (l .«write_count») i (l .writes) long (write-limit narrowKind l sets) past place f room z;
     }
       where
         longer : l .«write_count» + 1 ≡ length (insert writeKey w (take (l .«write_count») (l .writes)))
-        longer = added-length writeKey w noWrite noWrite 8 (l .«write_count») i (l .writes) long (write-limit l sets) past place f
+        longer = added-length writeKey w noWrite noWrite 8 (l .«write_count») i (l .writes) long (write-limit narrowKind l sets) past place f
 
         limit : length (insert writeKey w (take (l .«write_count») (l .writes))) ≤ 8
-        limit = insert-fits writeKey w keys (l .«write_count») 8 (take (l .«write_count») (l .writes)) (writes-ascending l sets)
-            (omega (arith, length-take (l .«write_count») (l .writes))) (write-limit l sets) r
+        limit = insert-fits writeKey w keys (l .«write_count») 8 (take (l .«write_count») (l .writes)) (writes-ascending narrowKind l sets)
+            (omega (arith, length-take (l .«write_count») (l .writes))) (write-limit narrowKind l sets) r
 
         room : l .«write_count» < 8
         room = omega (arith, longer, limit)
@@ -124,8 +125,8 @@ module _ (l : Live) (sets : setsRight l ≡ true) (zeros : zeroPastCounts l ≡ 
       phase = l .phase;
       «write_count» = l .«write_count»;
       writes = l .writes;
-      «read_count» = replaced-length readKey q noRead noRead 16 (l .«read_count») i (l .reads) long (read-limit l sets) past-read place o e z;
-      reads = replaced readKey q noRead noRead 16 (l .«read_count») i (l .reads) long (read-limit l sets) past-read place o e z;
+      «read_count» = replaced-length readKey q noRead noRead 16 (l .«read_count») i (l .reads) long (read-limit narrowKind l sets) past-read place o e z;
+      reads = replaced readKey q noRead noRead 16 (l .«read_count») i (l .reads) long (read-limit narrowKind l sets) past-read place o e z;
     }
 
     pub read-added : (i < l .«read_count» → q .key ≢ getD (l .reads) i noRead .key) → (not (hasRead (q .key) l) and leb readLimit (l .«read_count»)) ≡ false
@@ -138,15 +139,15 @@ module _ (l : Live) (sets : setsRight l ≡ true) (zeros : zeroPastCounts l ≡ 
       «write_count» = l .«write_count»;
       writes = l .writes;
       «read_count» = longer z;
-      reads = added readKey q noRead noRead 16 (l .«read_count») i (l .reads) long (read-limit l sets) past-read place f room z;
+      reads = added readKey q noRead noRead 16 (l .«read_count») i (l .reads) long (read-limit narrowKind l sets) past-read place f room z;
     }
       where
         longer : l .«read_count» + 1 ≡ length (insert readKey q (take (l .«read_count») (l .reads)))
-        longer = added-length readKey q noRead noRead 16 (l .«read_count») i (l .reads) long (read-limit l sets) past-read place f
+        longer = added-length readKey q noRead noRead 16 (l .«read_count») i (l .reads) long (read-limit narrowKind l sets) past-read place f
 
         limit : length (insert readKey q (take (l .«read_count») (l .reads))) ≤ 16
-        limit = insert-fits readKey q keys (l .«read_count») 16 (take (l .«read_count») (l .reads)) (reads-ascending l sets)
-            (omega (arith, length-take (l .«read_count») (l .reads))) (read-limit l sets) r
+        limit = insert-fits readKey q keys (l .«read_count») 16 (take (l .«read_count») (l .reads)) (reads-ascending narrowKind l sets)
+            (omega (arith, length-take (l .«read_count») (l .reads))) (read-limit narrowKind l sets) r
 
         room : l .«read_count» < 16
         room = omega (arith, longer, limit)

@@ -4,7 +4,7 @@ use mathlib.Core.Path.{_≡_}
 use lib.ListN.{set}
 use Rattle.model.specs.declared.Station.{Station}
 use Rattle.model.specs.declared.Outcome.{Outcome}
-use Rattle.model.specs.Limits.{livePlaces, slots}
+use Rattle.model.specs.Limits.{livePlaces, entryPlaces}
 use Rattle.model.specs.Listed.{listedOutcome}
 use Rattle.model.specs.Effects.{Effect, outcomeOf}
 use Rattle.stations.specs.declared.Change.{Change}
@@ -15,4 +15,4 @@ changedBy st c = record { answer = c .answer; station = record { live = set (st 
 
 -- the change comes to what the effect hands back, and its place and slot are there
 unfoldable pub IsChange : Station → Effect → Change → Type 0
-IsChange st e c = (c .place < livePlaces) × (c .slot < slots) × (listedOutcome (changedBy st c) ≡ outcomeOf e)
+IsChange st e c = (c .place < livePlaces) × (c .slot < entryPlaces) × (listedOutcome (changedBy st c) ≡ outcomeOf e)

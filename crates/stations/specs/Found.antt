@@ -5,6 +5,7 @@ use mathlib.Core.List.{List, [], _∷_, _++_}
 use lib.Dec.{eqb, leb}
 use lib.ListN.{take, drop}
 use Rattle.model.specs.declared.Live.{Live}
+use Rattle.model.specs.Kinds.{narrowKind}
 use Rattle.model.specs.Types.{Entry}
 use Rattle.model.specs.Types.{Station}
 use Rattle.model.specs.Limits.{keys}
@@ -25,7 +26,7 @@ liveMark l = slotMark (l .phase)
 
 -- the station that has these; the transaction at a place of these
 abbrev pub stationOf : List Live → List Entry → Station
-stationOf ls es = record { live = ls; entries = es }
+stationOf ls es = record { kind = narrowKind; live = ls; entries = es }
 
 abbrev pub liveIn : List Live → ℕ → Live
 liveIn ls i = liveAt (stationOf ls []) i

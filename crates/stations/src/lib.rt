@@ -7,7 +7,8 @@ ghost use Prim.Native.Nat.{_<_, _≤_, max};
 ghost use lib.Dec.{eqb, leb};
 ghost use lib.ListN.{length, take};
 ghost use Rattle.model.specs.Lists.{_and_, first, member, maximum, anyBelow};
-ghost use Rattle.model.specs.Limits.{keys, livePlaces, slots, writeLimit, readLimit};
+ghost use Rattle.model.specs.Limits.{keys, livePlaces, entryPlaces, writePlaces, readLimit};
+ghost use Rattle.model.specs.Kinds.{narrowKind};
 ghost use Rattle.model.specs.Lives.{noLive, writesOf, writeKey, readKey, hasWritten, hasRead, valueUnder, isClosing, closingClock, slotMark, withPhase};
 ghost use Rattle.model.specs.KeySets.{keySet};
 ghost use Rattle.model.specs.Listed.{listedEntry, listedEntries, listed};
@@ -157,7 +158,7 @@ fn is_marked(marks: [usize; Station::LIVE], mark: usize) -> bool
 
 // The highest slot that no entry and no closing transaction has; their number where there is none.
 pub fn highest_free(live: [Live; Station::LIVE], entries: [Entry; Station::SLOTS]) -> usize
-    ensures { λ r. ⌜ r ≡ cond (anyBelow (isFree (stationOf live (listedEntries entries))) slots) (highestFree (stationOf live (listedEntries entries))) slots ⌝ }
+    ensures { λ r. ⌜ r ≡ cond (anyBelow (isFree (stationOf live (listedEntries entries))) (narrowKind .slots)) (highestFree (stationOf live (listedEntries entries))) entryPlaces ⌝ }
 {
     let marks = closing_slots(live);
     let mut n = Station::SLOTS;
@@ -235,7 +236,7 @@ fn place_for(keys: &[u8], n: usize, key: u8) -> usize
 }
 
 pub fn has_written(l: Live, key: u8) -> bool
-    requires { ⌜ l .«write_count» ≤ writeLimit ⌝ }
+    requires { ⌜ l .«write_count» ≤ writePlaces ⌝ }
     ensures { λ r. ⌜ r ≡ hasWritten key l ⌝ }
 {
     let n = wide(l.write_count);
@@ -246,7 +247,7 @@ pub fn has_written(l: Live, key: u8) -> bool
 
 // The value under a key of the write set.
 pub fn value_under(l: Live, key: u8) -> u64
-    requires { ⌜ l .«write_count» ≤ writeLimit ⌝ }
+    requires { ⌜ l .«write_count» ≤ writePlaces ⌝ }
     requires { ⌜ hasWritten key l ≡ true ⌝ }
     ensures { λ r. ⌜ r ≡ valueUnder key (writesOf l) ⌝ }
 {
@@ -271,8 +272,8 @@ pub fn has_read(l: Live, key: u8) -> bool
 // ---- a key put into a write set
 // The writes with one more at a position, those from there on moved up by one.
 fn write_joined(old: [Write; Station::WRITES], at: usize, w: Write) -> [Write; Station::WRITES]
-    requires { ⌜ at ≤ writeLimit ⌝ }
-    ensures { λ r. ⌜ r ≡ take writeLimit (joined at w old) ⌝ }
+    requires { ⌜ at ≤ writePlaces ⌝ }
+    ensures { λ r. ⌜ r ≡ take writePlaces (joined at w old) ⌝ }
 {
     let mut writes = old;
     let mut carried = w;
@@ -288,9 +289,9 @@ fn write_joined(old: [Write; Station::WRITES], at: usize, w: Write) -> [Write; S
 
 // The key and value put into the write set: in the place of the key, or before the first greater.
 pub fn with_write(l: Live, key: u8, value: u64) -> Live
-    requires { ⌜ setsRight l ≡ true ⌝ }
+    requires { ⌜ setsRight narrowKind l ≡ true ⌝ }
     requires { ⌜ zeroPastCounts l ≡ true ⌝ }
-    requires { ⌜ (not (hasWritten key l) and leb writeLimit (l .«write_count»)) ≡ false ⌝ }
+    requires { ⌜ (not (hasWritten key l) and leb writePlaces (l .«write_count»)) ≡ false ⌝ }
     ensures { λ r. ⌜ r ≡ withWrite key value l ⌝ }
 {
     let n = wide(l.write_count);
@@ -335,7 +336,7 @@ fn read_joined(old: [Read; Station::READS], at: usize, r: Read) -> [Read; Statio
 
 // The key and id put into the read set: in the place of the key, or before the first greater.
 pub fn with_read(l: Live, key: u8, id: Id) -> Live
-    requires { ⌜ setsRight l ≡ true ⌝ }
+    requires { ⌜ setsRight narrowKind l ≡ true ⌝ }
     requires { ⌜ zeroPastCounts l ≡ true ⌝ }
     requires { ⌜ (not (hasRead key l) and leb readLimit (l .«read_count»)) ≡ false ⌝ }
     ensures { λ r. ⌜ r ≡ withRead key id l ⌝ }
@@ -438,7 +439,7 @@ pub fn with_phase(l: Live, p: Phase) -> Live
 
 // The keys of the write set as one number.
 fn written_set(l: Live) -> u64
-    requires { ⌜ setsRight l ≡ true ⌝ }
+    requires { ⌜ setsRight narrowKind l ≡ true ⌝ }
     ensures { λ r. ⌜ keySet r ≡ map writeKey (writesOf l) ⌝ }
 {
     let n = wide(l.write_count);
@@ -454,7 +455,7 @@ fn written_set(l: Live) -> u64
 
 // The entry that a closing transaction becomes.
 pub fn entry_for(l: Live) -> Entry
-    requires { ⌜ setsRight l ≡ true ⌝ }
+    requires { ⌜ setsRight narrowKind l ≡ true ⌝ }
     ensures { λ r. ⌜ listedEntry r ≡ entryFor l ⌝ }
 {
     let p = l.phase;
@@ -589,7 +590,7 @@ pub fn live_changed(station: Station, answer: Answer, place: usize, live: Live) 
 
 // Another entry in a slot.
 pub fn entry_changed(station: Station, answer: Answer, slot: usize, entry: Entry) -> Change
-    requires { ⌜ slot < slots ⌝ }
+    requires { ⌜ slot < entryPlaces ⌝ }
     ensures { λ r. ⌜ IsChange station (says answer (setEntry (listed station) slot (listedEntry entry))) r ⌝ }
 {
     let live = station.live[0];
@@ -604,7 +605,7 @@ pub fn entry_changed(station: Station, answer: Answer, slot: usize, entry: Entry
 
 // The station with the change made, and the answer.
 pub fn changed(station: Station, change: Change) -> Outcome
-    requires { ⌜ (change .place < livePlaces) × (change .slot < slots) ⌝ }
+    requires { ⌜ (change .place < livePlaces) × (change .slot < entryPlaces) ⌝ }
     ensures { λ r. ⌜ r ≡ changedBy station change ⌝ }
 {
     let mut next = station;

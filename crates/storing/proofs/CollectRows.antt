@@ -10,7 +10,7 @@ use borrow.Author.Tests.{le-leb, lt-leb, eq-eqb, ne-eqb}
 use Rattle.model.specs.Types.{Entry, Station}
 use Rattle.model.specs.declared.Answer.the-variants as A
 use Rattle.model.specs.Lists.{_or_}
-use Rattle.model.specs.Limits.{slots, storeSize}
+use Rattle.model.specs.Kinds.{storeSize}
 use Rattle.model.specs.Entries.{carriesEntry, noEntry}
 use Rattle.model.specs.Stations.{entryAt, setEntry, holds}
 use Rattle.model.specs.Records.{zeroRecord, recordAt}
@@ -25,44 +25,44 @@ use Rattle.storing.proofs.Parts.{length-right}
 
 -- ── the tests of a collect, in their order ──
 module _ (st : Station) (s : List ℕ) (d : ℕ) where
-  pub collect-1 : length s ≢ storeSize → collect st s d ≡ says (A.Refused 1 0) st
+  pub collect-1 : length s ≢ storeSize (st .kind) → collect st s d ≡ says (A.Refused 1 0) st
   unfolding collect wrongLength
   collect-1 h = hit 1 _ _ st _ (not-of-false _ (ne-eqb _ _ h))
 
-  module _ (z : length s ≡ storeSize) where
+  module _ (z : length s ≡ storeSize (st .kind)) where
     pub collect-2 : sound st ≡ false → collect st s d ≡ says (A.Refused 2 0) st
     unfolding collect
-    collect-2 h = skipped 1 _ _ st _ (length-right s z) ∙ hit 2 _ _ st _ (is-unsound st h)
+    collect-2 h = skipped 1 _ _ st _ (length-right (st .kind) s z) ∙ hit 2 _ _ st _ (is-unsound st h)
 
     module _ (g : sound st ≡ true) where
-      pub collect-out : slots ≤ d → collect st s d ≡ says (A.Refused 14 0) st
+      pub collect-out : st .kind .slots ≤ d → collect st s d ≡ says (A.Refused 14 0) st
       unfolding collect
-      collect-out h = skipped 1 _ _ st _ (length-right s z) ∙ (skipped 2 _ _ st _ (not-unsound st g) ∙ hit 14 _ _ st _ (or-intro-left _ _ (le-leb slots d h)))
+      collect-out h = skipped 1 _ _ st _ (length-right (st .kind) s z) ∙ (skipped 2 _ _ st _ (not-unsound st g) ∙ hit 14 _ _ st _ (or-intro-left _ _ (le-leb (st .kind .slots) d h)))
 
       pub collect-unheld : entryAt st d .id .txn ≡ 0 → collect st s d ≡ says (A.Refused 14 0) st
       unfolding collect holds
-      collect-unheld h = skipped 1 _ _ st _ (length-right s z) ∙ (skipped 2 _ _ st _ (not-unsound st g) ∙ hit 14 _ _ st _ (or-intro-right _ _ (not-of-false _ (not-of-true _ (eq-eqb _ 0 h)))))
+      collect-unheld h = skipped 1 _ _ st _ (length-right (st .kind) s z) ∙ (skipped 2 _ _ st _ (not-unsound st g) ∙ hit 14 _ _ st _ (or-intro-right _ _ (not-of-false _ (not-of-true _ (eq-eqb _ 0 h)))))
 
-      module _ (o : d < slots) (n : entryAt st d .id .txn ≢ 0) where
-        held : (leb slots d or not (holds st d)) ≡ false
+      module _ (o : d < st .kind .slots) (n : entryAt st d .id .txn ≢ 0) where
+        held : (leb (st .kind .slots) d or not (holds st d)) ≡ false
         unfolding holds
-        held = or-none _ _ (lt-leb slots d o) (not-of-true _ (not-of-false _ (ne-eqb _ 0 n)))
+        held = or-none _ _ (lt-leb (st .kind .slots) d o) (not-of-true _ (not-of-false _ (ne-eqb _ 0 n)))
 
         pub collect-15 : superseded (st .entries) (entryAt st d) ≡ false → collect st s d ≡ says (A.Refused 15 0) st
         unfolding collect
-        collect-15 h = skipped 1 _ _ st _ (length-right s z) ∙ (skipped 2 _ _ st _ (not-unsound st g) ∙ (skipped 14 _ _ st _ held ∙ hit 15 _ _ st _ (not-of-false _ h)))
+        collect-15 h = skipped 1 _ _ st _ (length-right (st .kind) s z) ∙ (skipped 2 _ _ st _ (not-unsound st g) ∙ (skipped 14 _ _ st _ held ∙ hit 15 _ _ st _ (not-of-false _ h)))
 
         module _ (p : superseded (st .entries) (entryAt st d) ≡ true) where
           pub collect-16 : isRead st (entryAt st d) ≡ true → collect st s d ≡ says (A.Refused 16 0) st
           unfolding collect
-          collect-16 h = skipped 1 _ _ st _ (length-right s z) ∙ (skipped 2 _ _ st _ (not-unsound st g) ∙ (skipped 14 _ _ st _ held ∙ (skipped 15 _ _ st _ (not-of-true _ p) ∙ hit 16 _ _ st _ h)))
+          collect-16 h = skipped 1 _ _ st _ (length-right (st .kind) s z) ∙ (skipped 2 _ _ st _ (not-unsound st g) ∙ (skipped 14 _ _ st _ held ∙ (skipped 15 _ _ st _ (not-of-true _ p) ∙ hit 16 _ _ st _ h)))
 
           module _ (r : isRead st (entryAt st d) ≡ false) where
-            pub collect-17 : carriesEntry (recordAt s d 0) (entryAt st d) ≡ false → collect st s d ≡ says (A.Refused 17 0) st
+            pub collect-17 : carriesEntry (st .kind) (recordAt (st .kind) s d 0) (entryAt st d) ≡ false → collect st s d ≡ says (A.Refused 17 0) st
             unfolding collect
-            collect-17 h = skipped 1 _ _ st _ (length-right s z) ∙ (skipped 2 _ _ st _ (not-unsound st g) ∙ (skipped 14 _ _ st _ held ∙ (skipped 15 _ _ st _ (not-of-true _ p) ∙ (skipped 16 _ _ st _ r ∙ hit 17 _ _ st _ (not-of-false _ h)))))
+            collect-17 h = skipped 1 _ _ st _ (length-right (st .kind) s z) ∙ (skipped 2 _ _ st _ (not-unsound st g) ∙ (skipped 14 _ _ st _ held ∙ (skipped 15 _ _ st _ (not-of-true _ p) ∙ (skipped 16 _ _ st _ r ∙ hit 17 _ _ st _ (not-of-false _ h)))))
 
-            pub collect-on : (x : Entry) → x ≡ noEntry → carriesEntry (recordAt s d 0) (entryAt st d) ≡ true → collect st s d ≡ saysStoring (A.Collected (entryAt st d .id)) (setEntry st d x) d 0 zeroRecord
+            pub collect-on : (x : Entry) → x ≡ noEntry → carriesEntry (st .kind) (recordAt (st .kind) s d 0) (entryAt st d) ≡ true → collect st s d ≡ saysStoring (A.Collected (entryAt st d .id)) (setEntry st d x) d 0 zeroRecord
             unfolding collect
-            collect-on x q h = skipped 1 _ _ st _ (length-right s z) ∙ (skipped 2 _ _ st _ (not-unsound st g) ∙ (skipped 14 _ _ st _ held ∙ (skipped 15 _ _ st _ (not-of-true _ p) ∙ (skipped 16 _ _ st _ r ∙ (skipped 17 _ _ st _ (not-of-true _ h) ∙ (refusals-none st _
+            collect-on x q h = skipped 1 _ _ st _ (length-right (st .kind) s z) ∙ (skipped 2 _ _ st _ (not-unsound st g) ∙ (skipped 14 _ _ st _ held ∙ (skipped 15 _ _ st _ (not-of-true _ p) ∙ (skipped 16 _ _ st _ r ∙ (skipped 17 _ _ st _ (not-of-true _ h) ∙ (refusals-none st _
                 ∙ ap (λ (y : Entry). saysStoring (A.Collected (entryAt st d .id)) (setEntry st d y) d 0 zeroRecord) (sym q)))))))

@@ -8,12 +8,12 @@ use mathlib.Core.Option.{Option, some, none}
 use lib.ListN.{length}
 use native.Mathlib.Omega.{arith}
 use borrow.Author.Tests.{ne-eqb}
+use Rattle.model.specs.Kinds.{storeSize}
 use Rattle.model.specs.declared.Read.{Read}
 use Rattle.model.specs.declared.Live.{Live}
 use Rattle.model.specs.Types.{Entry, Station}
 use Rattle.model.specs.declared.Answer.the-variants as A
 use Rattle.model.specs.Lists.{any}
-use Rattle.model.specs.Limits.{storeSize}
 use Rattle.model.specs.Lives.{writesOf, readsOf, hasWritten, valueUnder}
 use Rattle.model.specs.Entries.{wrote}
 use Rattle.model.specs.Stations.{liveAt, entryAt, setLive, liveTxns, isLive, placeOf}
@@ -65,7 +65,7 @@ choice-read st l k h = rw h
 
 -- ── the tests of a get, in their order ──
 module _ (st : Station) (s : List ℕ) (t k : ℕ) where
-  pub get-1 : length s ≢ storeSize → get st s t k ≡ says (A.Refused 1 0) st
+  pub get-1 : length s ≢ storeSize (st .kind) → get st s t k ≡ says (A.Refused 1 0) st
   unfolding get wrongLength
   get-1 h = hit 1 _ _ st _ (not-of-false _ (ne-eqb _ _ h))
 
@@ -73,13 +73,13 @@ module _ (st : Station) (s : List ℕ) (t k : ℕ) where
   abbrev pub get-rest : ℕ → Live → Effect
   get-rest i l = refusals (12 when noRoom l k (choiceOf st l k) ∷ 17 when notCarried st s k (choiceOf st l k) ∷ []) st (answered st s i k (choiceOf st l k))
 
-  get-rows : get st s t k ≡ refusals (1 when wrongLength s ∷ []) st (refusals (openRows (st .live) t k (sound st)) st (get-rest (placeOf t st) (liveAt st (placeOf t st))))
+  get-rows : get st s t k ≡ refusals (1 when wrongLength (st .kind) s ∷ []) st (refusals (openRows (st .live) t k (sound st)) st (get-rest (placeOf t st) (liveAt st (placeOf t st))))
   unfolding get refusals openRows namedRows unsound isLive liveTxns placeOf liveAt
   get-rows = refl
 
-  module _ (z : length s ≡ storeSize) (b : Bool) (tested : b ≡ sound st) (r : ℕ) (e : r ≡ firstRow (openRows (st .live) t k b)) where
+  module _ (z : length s ≡ storeSize (st .kind)) (b : Bool) (tested : b ≡ sound st) (r : ℕ) (e : r ≡ firstRow (openRows (st .live) t k b)) where
     get-sized : get st s t k ≡ refusals (openRows (st .live) t k (sound st)) st (get-rest (placeOf t st) (liveAt st (placeOf t st)))
-    get-sized = get-rows ∙ (skipped 1 _ [] st _ (length-right s z) ∙ refusals-none st _)
+    get-sized = get-rows ∙ (skipped 1 _ [] st _ (length-right (st .kind) s z) ∙ refusals-none st _)
 
     pub get-refused : r ≢ 0 → get st s t k ≡ says (A.Refused r 0) st
     get-refused n = get-sized ∙ rows-refused st (openRows (st .live) t k) b tested r e n _

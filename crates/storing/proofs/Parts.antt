@@ -5,11 +5,11 @@ use mathlib.Core.Bool.{false}
 use mathlib.Core.List.{List}
 use lib.ListN.{length}
 use borrow.Author.Tests.{eq-eqb}
+use Rattle.model.specs.Kinds.{Kind, storeSize}
 use Rattle.model.specs.declared.Station as machine
 use Rattle.model.specs.Types.{Station}
 use Rattle.model.specs.declared.Answer.{Answer}
 use Rattle.model.specs.Effects.{Effect, stored, outcomeOf, says, saysStoring, wrongLength}
-use Rattle.model.specs.Limits.{storeSize}
 use Rattle.model.specs.Records.{withRecord}
 use Rattle.model.proofs.Tests.{not-of-true}
 use Rattle.stations.specs.declared.Change.{Change}
@@ -22,11 +22,11 @@ module _ (st : machine.Station) (c : Change) (e : Effect) (a : Answer) (x : Stat
   unfolding says stored
   handed s q h = (as-effect st e (says a x) c q h, sym (ap (λ (y : Effect). stored (y .stores) s) q))
 
-  pub handed-storing : (d n : ℕ) (r s z : List ℕ) → e ≡ saysStoring a x d n r → IsChange st (says a x) c → z ≡ withRecord s d n r → IsChange st e c × (z ≡ stored (e .stores) s)
+  pub handed-storing : (d n : ℕ) (r s z : List ℕ) → e ≡ saysStoring a x d n r → IsChange st (says a x) c → z ≡ withRecord (x .kind) s d n r → IsChange st e c × (z ≡ stored (e .stores) s)
   unfolding outcomeOf says saysStoring stored
   handed-storing d n r s z q h w = (as-outcome st e (says a x) c (ap outcomeOf q) h, w ∙ sym (ap (λ (y : Effect). stored (y .stores) s) q))
 
 -- row 1 does not apply
-pub length-right : (s : List ℕ) → length s ≡ storeSize → wrongLength s ≡ false
+pub length-right : (κ : Kind) (s : List ℕ) → length s ≡ storeSize κ → wrongLength κ s ≡ false
 unfolding wrongLength
-length-right s z = not-of-true _ (eq-eqb _ _ z)
+length-right κ s z = not-of-true _ (eq-eqb _ _ z)

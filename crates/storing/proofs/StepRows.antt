@@ -16,7 +16,8 @@ use Rattle.model.specs.declared.Phase.{Phase}
 use Rattle.model.specs.declared.Phase.the-variants.{Unused, Open, Closing}
 use Rattle.model.specs.declared.Answer.{Answer}
 use Rattle.model.specs.declared.Answer.the-variants as A
-use Rattle.model.specs.Limits.{livePlaces, slots, storeSize}
+use Rattle.model.specs.Limits.{livePlaces, entryPlaces}
+use Rattle.model.specs.Kinds.{Kind, narrowKind, storeSize}
 use Rattle.model.specs.Lives.{writeCount, withPhase, noWrite, noLive, isClosing, closingSlot, recordsStored}
 use Rattle.model.specs.Entries.{commitRecord, entryFor}
 use Rattle.model.specs.Listed.{listedEntry, listed}
@@ -38,10 +39,10 @@ use Rattle.storing.proofs.Parts.{length-right}
 module _ (st : Station) (s : List ℕ) (i d c n : ℕ) where
   abbrev RecordStep : Type 0
   RecordStep = (outcomeOf (stepped st i (liveAt st i) (Closing d c n)) ≡ outcomeOf (says (recordAnswer (liveAt st i) d n) (setLive st i (withPhase (Closing d c (n + 1)) (liveAt st i)))))
-      × (stored (stepped st i (liveAt st i) (Closing d c n) .stores) s ≡ recordStored (liveAt st i) (entryFor (liveAt st i)) d n s)
+      × (stored (stepped st i (liveAt st i) (Closing d c n) .stores) s ≡ recordStored (st .kind) (liveAt st i) (entryFor (liveAt st i)) d n s)
 
   record-step : n ≤ writeCount (liveAt st i) → RecordStep
-  unfolding stepped closingSlot recordsStored oneMore outcomeOf says saysStoring stored recordAnswer recordStored
+  unfolding stepped closingSlot recordsStored oneMore outcomeOf says saysStoring stored setLive recordAnswer recordStored
   record-step o = go (ltb n (writeCount (liveAt st i))) refl
     where
       go : (b : Bool) → ltb n (writeCount (liveAt st i)) ≡ b → RecordStep
@@ -49,19 +50,19 @@ module _ (st : Station) (s : List ℕ) (i d c n : ℕ) where
       go false e = let h : n ≡ writeCount (liveAt st i) = omega (arith, ltb-false n (writeCount (liveAt st i)) e) in (rw (e, eq-eqb n _ h), rw (e, eq-eqb n _ h))
 
 -- the two kinds of record, as stored by the code
-module _ (l : Live) (e : Entry) (d n : ℕ) (s z : List ℕ) where
-  pub commit-stored : n ≡ writeCount l → z ≡ withRecord s d 0 (commitRecord e) → (A.Slipped d ≡ recordAnswer l d n) × (z ≡ recordStored l e d n s)
+module _ (κ : Kind) (l : Live) (e : Entry) (d n : ℕ) (s z : List ℕ) where
+  pub commit-stored : n ≡ writeCount l → z ≡ withRecord κ s d 0 (commitRecord κ e) → (A.Slipped d ≡ recordAnswer l d n) × (z ≡ recordStored κ l e d n s)
   unfolding recordAnswer recordStored
   commit-stored h w = let o : writeCount l ≤ n = omega arith in (rw (le-ltb n (writeCount l) o), rw (le-ltb n (writeCount l) o) w)
 
-  pub version-stored : n < writeCount l → z ≡ withRecord s d (n + 1) (versionRecord (getD (l .writes) n noWrite .key) (e .id) (getD (l .writes) n noWrite .value))
-      → (A.Stored (getD (l .writes) n noWrite .key) ≡ recordAnswer l d n) × (z ≡ recordStored l e d n s)
+  pub version-stored : n < writeCount l → z ≡ withRecord κ s d (n + 1) (versionRecord (getD (l .writes) n noWrite .key) (e .id) (getD (l .writes) n noWrite .value))
+      → (A.Stored (getD (l .writes) n noWrite .key) ≡ recordAnswer l d n) × (z ≡ recordStored κ l e d n s)
   unfolding recordAnswer recordStored
   version-stored o w = (rw (lt-ltb n (writeCount l) o), rw (lt-ltb n (writeCount l) o) w)
 
 -- ── the tests of a step, in their order ──
 module _ (st : Station) (s : List ℕ) (t : ℕ) where
-  pub step-1 : length s ≢ storeSize → step st s t ≡ says (A.Refused 1 0) st
+  pub step-1 : length s ≢ storeSize (st .kind) → step st s t ≡ says (A.Refused 1 0) st
   unfolding step wrongLength
   step-1 h = hit 1 _ _ st _ (not-of-false _ (ne-eqb _ _ h))
 
@@ -69,13 +70,13 @@ module _ (st : Station) (s : List ℕ) (t : ℕ) where
   abbrev pub step-rest : ℕ → Effect
   step-rest i = refusals (10 when not (isClosing (liveAt st i .phase)) ∷ []) st (stepped st i (liveAt st i) (liveAt st i .phase))
 
-  step-rows : step st s t ≡ refusals (1 when wrongLength s ∷ []) st (refusals (namedRows (st .live) t 0 (sound st)) st (step-rest (placeOf t st)))
+  step-rows : step st s t ≡ refusals (1 when wrongLength (st .kind) s ∷ []) st (refusals (namedRows (st .live) t 0 (sound st)) st (step-rest (placeOf t st)))
   unfolding step refusals namedRows unsound isLive liveTxns placeOf
   step-rows = refl
 
-  module _ (z : length s ≡ storeSize) (b : Bool) (tested : b ≡ sound st) (r : ℕ) (e : r ≡ firstRow (namedRows (st .live) t 0 b)) where
+  module _ (z : length s ≡ storeSize (st .kind)) (b : Bool) (tested : b ≡ sound st) (r : ℕ) (e : r ≡ firstRow (namedRows (st .live) t 0 b)) where
     step-sized : step st s t ≡ refusals (namedRows (st .live) t 0 (sound st)) st (step-rest (placeOf t st))
-    step-sized = step-rows ∙ (skipped 1 _ [] st _ (length-right s z) ∙ refusals-none st _)
+    step-sized = step-rows ∙ (skipped 1 _ [] st _ (length-right (st .kind) s z) ∙ refusals-none st _)
 
     pub step-refused : r ≢ 0 → step st s t ≡ says (A.Refused r 0) st
     step-refused n = step-sized ∙ rows-refused st (namedRows (st .live) t 0) b tested r e n _
@@ -95,12 +96,12 @@ module _ (st : Station) (s : List ℕ) (t : ℕ) where
 
       -- a record is stored
       pub step-record : (a : Answer) (m : Live) (e : Entry) (z : List ℕ) → n ≤ writeCount (liveAt st i) → e ≡ entryFor (liveAt st i) → m ≡ withPhase (Closing d c (n + 1)) (liveAt st i)
-          → a ≡ recordAnswer (liveAt st i) d n → z ≡ recordStored (liveAt st i) e d n s
+          → a ≡ recordAnswer (liveAt st i) d n → z ≡ recordStored (st .kind) (liveAt st i) e d n s
           → (outcomeOf (step st s t) ≡ outcomeOf (says a (setLive st i m))) × (z ≡ stored (step st s t .stores) s)
       step-record a m e z o q r ea ez =
           let h = record-step st s i d c n o in (
             ap outcomeOf step-on ∙ (h .0 ∙ sym (ap₂ {B = Live} (λ (x : Answer) (y : Live). outcomeOf (says x (setLive st i y))) ea r)),
-            ez ∙ (ap (λ (x : Entry). recordStored (liveAt st i) x d n s) q ∙ sym (ap (λ (x : Effect). stored (x .stores) s) step-on ∙ h .1)),
+            ez ∙ (ap (λ (x : Entry). recordStored (st .kind) (liveAt st i) x d n s) q ∙ sym (ap (λ (x : Effect). stored (x .stores) s) step-on ∙ h .1)),
           )
 
       -- the entry is made
@@ -111,10 +112,10 @@ module _ (st : Station) (s : List ℕ) (t : ℕ) where
           step-on ∙ (rw (le-ltb n (writeCount (liveAt st i)) w, ne-eqb n (writeCount (liveAt st i)) (λ x. lt-irrefl n (omega arith)), r, q))
 
 -- that is another transaction at a place and another entry in a slot
-pub is-done : (st : machine.Station.Station) (a : Answer) (i : ℕ) (m : Live) (d : ℕ) (e : machine.Entry.Entry) → i < livePlaces → d < slots
+pub is-done : (st : machine.Station.Station) (a : Answer) (i : ℕ) (m : Live) (d : ℕ) (e : machine.Entry.Entry) → i < livePlaces → d < entryPlaces
     → IsChange st (says a (setEntry (setLive (listed st) i m) d (listedEntry e))) (record { answer = a; place = i; live = m; slot = d; entry = e })
 unfolding IsChange changedBy outcomeOf says setLive setEntry
-is-done st a i m d e v u = (v, u, λ j. record { answer = a; station = record { live = set (st .live) i m; entries = listed-set (st .entries) d e j } })
+is-done st a i m d e v u = (v, u, λ j. record { answer = a; station = record { kind = narrowKind; live = set (st .live) i m; entries = listed-set (st .entries) d e j } })
 
 -- a phase that is none of the third kind
 pub not-closing : (p : Phase) → (denote.Enum.Declared.tagOf Rattle.model.proofs.Phase.the-type p ≡ 0) ⊎ (denote.Enum.Declared.tagOf Rattle.model.proofs.Phase.the-type p ≡ 1) → isClosing p ≡ false

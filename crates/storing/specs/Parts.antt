@@ -4,6 +4,7 @@ use mathlib.Core.Bool.{cond}
 use mathlib.Core.List.{List}
 use lib.Dec.{ltb}
 use lib.ListN.{getD}
+use Rattle.model.specs.Kinds.{Kind}
 use Rattle.model.specs.declared.Write.{Write}
 use Rattle.model.specs.declared.Live.{Live}
 use Rattle.model.specs.Types.{Entry}
@@ -16,7 +17,7 @@ use Rattle.model.specs.Records.{versionRecord, withRecord}
 unfoldable pub recordAnswer : Live → ℕ → ℕ → Answer
 recordAnswer l d n = cond (ltb n (writeCount l)) (A.Stored (getD (l .writes) n noWrite .key)) (A.Slipped d)
 
-unfoldable pub recordStored : Live → Entry → ℕ → ℕ → List ℕ → List ℕ
-recordStored l e d n s =
+unfoldable pub recordStored : Kind → Live → Entry → ℕ → ℕ → List ℕ → List ℕ
+recordStored κ l e d n s =
     let w : Write = getD (l .writes) n noWrite in
-    cond (ltb n (writeCount l)) (withRecord s d (n + 1) (versionRecord (w .key) (e .id) (w .value))) (withRecord s d 0 (commitRecord e))
+    cond (ltb n (writeCount l)) (withRecord κ s d (n + 1) (versionRecord (w .key) (e .id) (w .value))) (withRecord κ s d 0 (commitRecord κ e))

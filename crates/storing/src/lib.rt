@@ -7,7 +7,8 @@ ghost use Prim.Native.Nat.{_<_, _≤_};
 ghost use lib.Dec.{leb};
 ghost use lib.ListN.{length};
 ghost use Rattle.model.specs.Lists.{_and_};
-ghost use Rattle.model.specs.Limits.{slots, writeLimit, readLimit, width, storeSize};
+ghost use Rattle.model.specs.Limits.{entryPlaces, writePlaces, readLimit};
+ghost use Rattle.model.specs.Kinds.{narrowKind, width, storeSize};
 ghost use Rattle.model.specs.Lives.{writeCount, hasRead};
 ghost use Rattle.model.specs.Entries.{wrote, commitRecord, recordOf};
 ghost use Rattle.model.specs.Records.{valueIn, versionRecord, zeroRecord, carriesVersion, recordAt, withRecord};
@@ -56,20 +57,20 @@ use stations::with_read;
 
 // ---- one record of a slot, written whole
 fn store_version(store: &mut [u8], slot: usize, n: usize, key: u8, id: Id, value: u64)
-    requires { ⌜ length (now store) ≡ storeSize ⌝ }
-    requires { ⌜ slot < slots ⌝ }
-    requires { ⌜ n < width ⌝ }
-    ensures { λ _. ⌜ now (store .exit) ≡ withRecord (now (store .entry)) slot n (versionRecord key id value) ⌝ }
+    requires { ⌜ length (now store) ≡ storeSize narrowKind ⌝ }
+    requires { ⌜ slot < entryPlaces ⌝ }
+    requires { ⌜ n < width narrowKind ⌝ }
+    ensures { λ _. ⌜ now (store .exit) ≡ withRecord narrowKind (now (store .entry)) slot n (versionRecord key id value) ⌝ }
 {
     let at = Station::SLOT * slot + Station::RECORD * n;
     write_version(&mut store[at..at + Station::RECORD], key, id, value);
 }
 
 fn store_commit(store: &mut [u8], slot: usize, e: Entry)
-    requires { ⌜ length (now store) ≡ storeSize ⌝ }
-    requires { ⌜ slot < slots ⌝ }
-    requires { ⌜ length (keySet (e .keys)) ≤ writeLimit ⌝ }
-    ensures { λ _. ⌜ now (store .exit) ≡ withRecord (now (store .entry)) slot 0 (commitRecord (listedEntry e)) ⌝ }
+    requires { ⌜ length (now store) ≡ storeSize narrowKind ⌝ }
+    requires { ⌜ slot < entryPlaces ⌝ }
+    requires { ⌜ length (keySet (e .keys)) ≤ writePlaces ⌝ }
+    ensures { λ _. ⌜ now (store .exit) ≡ withRecord narrowKind (now (store .entry)) slot 0 (commitRecord narrowKind (listedEntry e)) ⌝ }
 {
     let at = Station::SLOT * slot;
     write_commit(&mut store[at..at + Station::RECORD], e);
@@ -77,9 +78,9 @@ fn store_commit(store: &mut [u8], slot: usize, e: Entry)
 
 // Zeros over the commit record: the slot is free.
 pub fn store_zero(store: &mut [u8], slot: usize)
-    requires { ⌜ length (now store) ≡ storeSize ⌝ }
-    requires { ⌜ slot < slots ⌝ }
-    ensures { λ _. ⌜ now (store .exit) ≡ withRecord (now (store .entry)) slot 0 zeroRecord ⌝ }
+    requires { ⌜ length (now store) ≡ storeSize narrowKind ⌝ }
+    requires { ⌜ slot < entryPlaces ⌝ }
+    ensures { λ _. ⌜ now (store .exit) ≡ withRecord narrowKind (now (store .entry)) slot 0 zeroRecord ⌝ }
 {
     let commit = Station::SLOT * slot;
     write_zero(&mut store[commit..commit + Station::RECORD]);
@@ -105,11 +106,11 @@ struct VersionRead {
 
 // The version record of a key, in the slot of an entry that wrote it.
 fn read_version(store: &[u8], slot: usize, e: Entry, key: u8) -> VersionRead
-    requires { ⌜ length (now store) ≡ storeSize ⌝ }
-    requires { ⌜ slot < slots ⌝ }
-    requires { ⌜ (length (keySet (e .keys)) ≤ writeLimit) × (wrote (listedEntry e) key ≡ true) ⌝ }
-    ensures { λ r. ⌜ r .carried ≡ carriesVersion (recordAt (now (store .entry)) slot (recordOf (listedEntry e) key)) key (e .id) ⌝ }
-    ensures { λ r. ⌜ r .value ≡ valueIn (recordAt (now (store .entry)) slot (recordOf (listedEntry e) key)) ⌝ }
+    requires { ⌜ length (now store) ≡ storeSize narrowKind ⌝ }
+    requires { ⌜ slot < entryPlaces ⌝ }
+    requires { ⌜ (length (keySet (e .keys)) ≤ writePlaces) × (wrote (listedEntry e) key ≡ true) ⌝ }
+    ensures { λ r. ⌜ r .carried ≡ carriesVersion (recordAt narrowKind (now (store .entry)) slot (recordOf (listedEntry e) key)) key (e .id) ⌝ }
+    ensures { λ r. ⌜ r .value ≡ valueIn (recordAt narrowKind (now (store .entry)) slot (recordOf (listedEntry e) key)) ⌝ }
 {
     let id = e.id;
     let at = Station::SLOT * slot + Station::RECORD * record_of(e, key);
@@ -161,10 +162,10 @@ pub fn get(station: Station, tested: bool, store: &[u8], txn: u32, key: u8) -> C
 // ---- step
 // The next record of a closing transaction with n records stored: a version record, or after all of them the commit record.
 fn store_record(store: &mut [u8], l: Live, e: Entry, slot: u8, n: u8) -> Answer
-    requires { ⌜ length (now store) ≡ storeSize ⌝ }
-    requires { ⌜ slot < slots ⌝ }
-    requires { ⌜ (n ≤ writeCount l) × (length (keySet (e .keys)) ≤ writeLimit) ⌝ }
-    ensures { λ r. ⌜ (r ≡ recordAnswer l slot n) × (now (store .exit) ≡ recordStored l (listedEntry e) slot n (now (store .entry))) ⌝ }
+    requires { ⌜ length (now store) ≡ storeSize narrowKind ⌝ }
+    requires { ⌜ slot < entryPlaces ⌝ }
+    requires { ⌜ (n ≤ writeCount l) × (length (keySet (e .keys)) ≤ writePlaces) ⌝ }
+    ensures { λ r. ⌜ (r ≡ recordAnswer l slot n) × (now (store .exit) ≡ recordStored narrowKind l (listedEntry e) slot n (now (store .entry))) ⌝ }
 {
     let d = slot as usize;
     if n == write_count(l) {

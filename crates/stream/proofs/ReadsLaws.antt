@@ -10,7 +10,7 @@ use lib.Seq.{take-all}
 use native.Mathlib.Omega.{arith}
 use native.Mathlib.Decide.{decLt}
 use borrow.Author.Tests.{lt-leb}
-use Rattle.model.specs.Limits.{storeSize}
+use Rattle.model.specs.Kinds.{narrowKind, storeSize}
 use Rattle.model.specs.declared.Station.{Station}
 use Rattle.model.specs.Listed.{listed}
 use Rattle.model.specs.Stations.{emptyStation}
@@ -148,9 +148,9 @@ reads-whole [] s = unfold whole bytesOutput afterBytes in refl
 reads-whole (r ∷ rs) s = ap (λ (w : List ℕ). bytesOutput r s ++ w) (reads-whole rs (afterBytes r s)) ∙ sym (whole-append r (flatten rs) s)
 
 -- the program's first state, whatever the bytes of the part that keeps a line
-pub starts-new : (st : Station) (part : List ℕ) → listed st ≡ emptyStation → streamOf st (replicate storeSize 0) 1 part 0 ≡ newStream
+pub starts-new : (st : Station) (part : List ℕ) → listed st ≡ (emptyStation narrowKind) → streamOf st (replicate (storeSize narrowKind) 0) 1 part 0 ≡ newStream
 unfolding streamOf deskOf newStream newDesk
-starts-new st part e = λ i. record { desk = record { station = e i; store = replicate storeSize 0; line = 1 }; line = [] }
+starts-new st part e = λ i. record { desk = record { station = e i; store = replicate (storeSize narrowKind) 0; line = 1 }; line = [] }
 
 -- 01: the program "reads standard input .. and writes one line per line read": however the input is cut into reads, what is written is the sheet of its bytes
 pub reads-do-not-matter : (rs : List (List ℕ)) → outputOfReads rs ≡ sheetOf (flatten rs)

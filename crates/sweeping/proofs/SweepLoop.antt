@@ -14,7 +14,8 @@ use Rattle.model.specs.declared.Id.{Id}
 use Rattle.model.specs.Types.{Entry, Station, Outcome}
 use Rattle.model.specs.declared as machine
 use Rattle.model.specs.declared.Answer.the-variants as A
-use Rattle.model.specs.Limits.{slots, storeSize, sweepLimit}
+use Rattle.model.specs.Limits.{entryPlaces, sweepLimit}
+use Rattle.model.specs.Kinds.{narrowKind, storeSize}
 use Rattle.model.specs.Ids.{older}
 use Rattle.model.specs.Listed.{listedEntry, listedEntries, listed}
 use Rattle.model.specs.Entries.{noEntry, carriesEntry}
@@ -32,7 +33,7 @@ use Rattle.model.proofs.IdLaws.{older-irrefl}
 use Rattle.model.proofs.ListedLaws.{listed-set}
 use Rattle.model.proofs.OrderLaws.{oldest-eq, oldest-not}
 use Rattle.model.proofs.StationLaws.{entry-get, entryAt-other, setEntry-length}
-use Rattle.model.proofs.SoundFacts.{one-slot}
+use Rattle.model.proofs.SoundFacts.{held-below, one-slot}
 use Rattle.model.proofs.SoundKept.{Keeps, collect-keeps}
 use Rattle.model.proofs.CollectionLaws.{Collected, collect-accepted, collected-station, collected-store, collect-length, ends, goes, stored-append}
 use Rattle.model.proofs.SweepLaws.{collect-leaves-others, collect-empties, sweep-on}
@@ -55,7 +56,7 @@ module _ (st : Station) (d : ℕ) (h : mayCollect st (entryAt st d) ≡ true) wh
   may-unread = not-true _ (and-right _ _ h)
 
 -- ── the slots to collect ──
-module _ (st : Station) (h : sound st ≡ true) (w : length (st .entries) ≡ slots) (n : ℕ) (xs : List ℕ) (a : AreToCollect st n xs) where
+module _ (st : Station) (h : sound st ≡ true) (w : length (st .entries) ≡ entryPlaces) (n : ℕ) (xs : List ℕ) (a : AreToCollect st n xs) where
   there : (j : ℕ) → j < length (st .entries) → mayCollect st (getD (st .entries) j noEntry) ≡ true → mayCollect st (entryAt st j) ≡ true
   there j u m = subst (λ (e : Entry). mayCollect st e ≡ true) (entry-get st j u) m
 
@@ -76,7 +77,7 @@ module _ (st : Station) (h : sound st ≡ true) (w : length (st .entries) ≡ sl
     abbrev pub lastOf : ℕ
     lastOf = getD xs (n - 1) 0
 
-    pub last-low : lastOf < slots
+    pub last-low : lastOf < entryPlaces
     last-low = a .may (n - 1) (omega arith) .0
 
     pub last-may : mayCollect st (entryAt st lastOf) ≡ true
@@ -114,7 +115,7 @@ module _ (st : Station) (h : sound st ≡ true) (w : length (st .entries) ≡ sl
         other : (i : ℕ) → i < n - 1 → entryAt (setEntry st lastOf noEntry) (getD xs i 0) ≡ entryAt st (getD xs i 0)
         other i u = entryAt-other st lastOf noEntry (getD xs i 0) (a .once i (n - 1) u (omega arith))
 
-        go : (d : ℕ) → d < slots → mayCollect (setEntry st lastOf noEntry) (entryAt (setEntry st lastOf noEntry) d) ≡ true → Dec (d ≡ lastOf) → (i : ℕ) × (i < n - 1) × (getD xs i 0 ≡ d)
+        go : (d : ℕ) → d < entryPlaces → mayCollect (setEntry st lastOf noEntry) (entryAt (setEntry st lastOf noEntry) d) ≡ true → Dec (d ≡ lastOf) → (i : ℕ) × (i < n - 1) × (getD xs i 0 ≡ d)
         go d u m (yes e) = absurd (true≢false (sym m ∙ (ap (λ (x : ℕ). mayCollect (setEntry st lastOf noEntry) (entryAt (setEntry st lastOf noEntry) x)) e ∙ collect-empties st lastOf inside (may-old st lastOf last-may))))
         go d u m (no e) =
             let r = a .every d u (sym (collect-leaves-others st lastOf inside (may-old st lastOf last-may) d e) ∙ m) in
@@ -122,14 +123,17 @@ module _ (st : Station) (h : sound st ≡ true) (w : length (st .entries) ≡ sl
             (r .0, omega (arith, r .1, ne), r .2)
 
 -- ── one collect ──
-module _ (st : Station) (s : List ℕ) (l : length s ≡ storeSize) (h : sound st ≡ true) (d : ℕ) (o : d < slots) (m : mayCollect st (entryAt st d) ≡ true) where
+module _ (st : Station) (s : List ℕ) (l : length s ≡ storeSize (st .kind)) (h : sound st ≡ true) (d : ℕ) (m : mayCollect st (entryAt st d) ≡ true) where
+  o : d < st .kind .slots
+  o = held-below st h d (may-held st d m)
+
   -- its record carries it
-  pub taken : carriesEntry (recordAt s d 0) (entryAt st d) ≡ true → Collected st s d
+  pub taken : carriesEntry (st .kind) (recordAt (st .kind) s d 0) (entryAt st d) ≡ true → Collected st s d
   unfolding saysStoring refusedWith
   taken k = collect-accepted st s d (ap (λ (e : Effect). refusedWith (e .answer)) (collect-on st s d l h o (may-held st d m) (may-old st d m) (may-unread st d m) noEntry refl k))
 
   -- it does not: 17
-  pub stopped : carriesEntry (recordAt s d 0) (entryAt st d) ≡ false → refusedWith (collect st s d .answer) ≢ 0
+  pub stopped : carriesEntry (st .kind) (recordAt (st .kind) s d 0) (entryAt st d) ≡ false → refusedWith (collect st s d .answer) ≢ 0
   unfolding says refusedWith
   stopped k z = lt-irrefl 0 (omega (arith, sym (ap (λ (e : Effect). refusedWith (e .answer)) (collect-17 st s d l h o (may-held st d m) (may-old st d m) (may-unread st d m) k)) ∙ z))
 
@@ -143,15 +147,15 @@ plus-zero m = omega arith
 -- after count collects of st₀ over s₀ with a limit: what is left gives the rest of what all come to
 pub record Sweeping (limit : ℕ) (st₀ : Station) (s₀ : List ℕ) (st : Station) (s : List ℕ) (count n : ℕ) (xs : List ℕ) : Type 0 where
   pub right : sound st ≡ true
-  pub long : length (st .entries) ≡ slots
-  pub size : length s ≡ storeSize
+  pub long : length (st .entries) ≡ entryPlaces
+  pub size : length s ≡ storeSize (st .kind)
   pub within : count ≤ limit
   pub slots-left : AreToCollect st n xs
   pub station : stationAfter (collections limit st₀ s₀) st₀ ≡ stationAfter (collections (limit - count) st s) st
   pub bytes : stored (recordsOf (collections limit st₀ s₀)) s₀ ≡ stored (recordsOf (collections (limit - count) st s)) s
   pub counts : length (collections limit st₀ s₀) ≡ count + length (collections (limit - count) st s)
 
-pub sweeping-start : (limit : ℕ) (st : Station) (s : List ℕ) (n : ℕ) (xs : List ℕ) → sound st ≡ true → length (st .entries) ≡ slots → length s ≡ storeSize → AreToCollect st n xs → Sweeping limit st s st s 0 n xs
+pub sweeping-start : (limit : ℕ) (st : Station) (s : List ℕ) (n : ℕ) (xs : List ℕ) → sound st ≡ true → length (st .entries) ≡ entryPlaces → length s ≡ storeSize (st .kind) → AreToCollect st n xs → Sweeping limit st s st s 0 n xs
 sweeping-start limit st s n xs h w l a =
     let z : limit ≡ limit - 0 = omega arith in
     record {
@@ -170,9 +174,6 @@ module _ (limit : ℕ) (st₀ : Station) (s₀ : List ℕ) (st : Station) (s : L
     abbrev d : ℕ
     d = getD xs (n - 1) 0
 
-    low : getD xs (n - 1) 0 < slots
-    low = last-low st (p .right) (p .long) n xs (p .slots-left) o
-
     may : mayCollect st (entryAt st (getD xs (n - 1) 0)) ≡ true
     may = last-may st (p .right) (p .long) n xs (p .slots-left) o
 
@@ -180,12 +181,12 @@ module _ (limit : ℕ) (st₀ : Station) (s₀ : List ℕ) (st : Station) (s : L
     chosen = last-chosen st (p .right) (p .long) n xs (p .slots-left) o
 
     -- one more
-    pub sweeping-next : count < limit → carriesEntry (recordAt s d 0) (entryAt st d) ≡ true → Sweeping limit st₀ s₀ (setEntry st d noEntry) (withRecord s d 0 zeroRecord) (count + 1) (n - 1) xs
+    pub sweeping-next : count < limit → carriesEntry (st .kind) (recordAt (st .kind) s d 0) (entryAt st d) ≡ true → Sweeping limit st₀ s₀ (setEntry st d noEntry) (withRecord (st .kind) s d 0 zeroRecord) (count + 1) (n - 1) xs
     unfolding stationAfter recordsOf
     sweeping-next u k = record {
       right = subst (λ (x : Station). sound x ≡ true) one (unfold Keeps in collect-keeps st s d (p .right));
       long = setEntry-length st d noEntry ∙ p .long;
-      size = sym (ap length two) ∙ collect-length st s d (p .size) c;
+      size = sym (ap length two) ∙ (collect-length st s d (p .size) c ∙ ap (λ (x : Station). storeSize (x .kind)) one);
       within = omega arith;
       slots-left = others-left st (p .right) (p .long) n xs (p .slots-left) o;
       station = p .station ∙ (ap (λ (cs : List Collection). stationAfter cs st) more ∙ (λ i. stationAfter (collections (limit - (count + 1)) (one i) (two i)) (one i)));
@@ -196,12 +197,12 @@ module _ (limit : ℕ) (st₀ : Station) (s₀ : List ℕ) (st : Station) (s : L
     }
       where
         c : Collected st s (getD xs (n - 1) 0)
-        c = taken st s (p .size) (p .right) (getD xs (n - 1) 0) low may k
+        c = taken st s (p .size) (p .right) (getD xs (n - 1) 0) may k
 
         one : collect st s (getD xs (n - 1) 0) .station ≡ setEntry st (getD xs (n - 1) 0) noEntry
         one = collected-station st s (getD xs (n - 1) 0) c
 
-        two : stored (collect st s (getD xs (n - 1) 0) .stores) s ≡ withRecord s (getD xs (n - 1) 0) 0 zeroRecord
+        two : stored (collect st s (getD xs (n - 1) 0) .stores) s ≡ withRecord (st .kind) s (getD xs (n - 1) 0) 0 zeroRecord
         two = collected-store st s (getD xs (n - 1) 0) c
 
         more : collections (limit - count) st s ≡ record { slot = getD xs (n - 1) 0; effect = collect st s (getD xs (n - 1) 0) } ∷ collections (limit - (count + 1)) (collect st s (getD xs (n - 1) 0) .station) (stored (collect st s (getD xs (n - 1) 0) .stores) s)
@@ -210,8 +211,8 @@ module _ (limit : ℕ) (st₀ : Station) (s₀ : List ℕ) (st : Station) (s : L
             ap (λ (x : ℕ). collections x st s) e ∙ goes st s (record { slot = getD xs (n - 1) 0; chosen = chosen; taken = c }) (limit - (count + 1))
 
     -- a record that is not its entry's ends it
-    pub record-ends : carriesEntry (recordAt s d 0) (entryAt st d) ≡ false → collections (limit - count) st s ≡ []
-    record-ends k = ends st s (inr (getD xs (n - 1) 0, chosen, stopped st s (p .size) (p .right) (getD xs (n - 1) 0) low may k)) (limit - count)
+    pub record-ends : carriesEntry (st .kind) (recordAt (st .kind) s d 0) (entryAt st d) ≡ false → collections (limit - count) st s ≡ []
+    record-ends k = ends st s (inr (getD xs (n - 1) 0, chosen, stopped st s (p .size) (p .right) (getD xs (n - 1) 0) may k)) (limit - count)
 
   pub none-ends : n ≡ 0 → collections (limit - count) st s ≡ []
   none-ends z = ends st s (inl (none-left st (p .right) (p .long) n xs (p .slots-left) z)) (limit - count)
@@ -221,7 +222,7 @@ module _ (limit : ℕ) (st₀ : Station) (s₀ : List ℕ) (st : Station) (s : L
   limit-ends u = let e : limit - count ≡ 0 = omega arith in ap (λ (x : ℕ). collections x st s) e
 
   -- where nothing goes on, that was the sweep
-  pub swept : length s₀ ≡ storeSize → sound st₀ ≡ true → 0 < limit → limit ≤ sweepLimit → collections (limit - count) st s ≡ []
+  pub swept : length s₀ ≡ storeSize (st₀ .kind) → sound st₀ ≡ true → 0 < limit → limit ≤ sweepLimit → collections (limit - count) st s ≡ []
       → (_≡_ {A = Outcome} (record { station = st; answer = A.Swept count }) (outcomeOf (sweep st₀ s₀ limit))) × (s ≡ stored (sweep st₀ s₀ limit .stores) s₀)
   unfolding outcomeOf stationAfter recordsOf stored
   swept l h u v e = rw (sweep-on st₀ s₀ limit l h u v) (
@@ -230,10 +231,10 @@ module _ (limit : ℕ) (st₀ : Station) (s₀ : List ℕ) (st : Station) (s : L
   )
 
 -- the same, with the slot, the unused entry and the store as the code has them
-pub sweeping-as : (limit : ℕ) (st₀ : Station) (s₀ : List ℕ) (st : machine.Station.Station) (s : List ℕ) (d count n : ℕ) (xs : List ℕ) → Sweeping limit st₀ s₀ (setEntry (listed st) d noEntry) (withRecord s d 0 zeroRecord) count n xs
-    → (w : ℕ) → w ≡ d → (x : machine.Entry.Entry) → listedEntry x ≡ noEntry → (y : List ℕ) → y ≡ withRecord s w 0 zeroRecord
+pub sweeping-as : (limit : ℕ) (st₀ : Station) (s₀ : List ℕ) (st : machine.Station.Station) (s : List ℕ) (d count n : ℕ) (xs : List ℕ) → Sweeping limit st₀ s₀ (setEntry (listed st) d noEntry) (withRecord narrowKind s d 0 zeroRecord) count n xs
+    → (w : ℕ) → w ≡ d → (x : machine.Entry.Entry) → listedEntry x ≡ noEntry → (y : List ℕ) → y ≡ withRecord narrowKind s w 0 zeroRecord
     → Sweeping limit st₀ s₀ (stationOf (st .live) (listedEntries (set (st .entries) w x))) y count n xs
 unfolding setEntry
 sweeping-as limit st₀ s₀ st s d count n xs p w q x e y f =
-    subst (λ (z : List ℕ). Sweeping limit st₀ s₀ (stationOf (st .live) (listedEntries (set (st .entries) w x))) z count n xs) (sym (f ∙ ap (λ (c : ℕ). withRecord s c 0 zeroRecord) q))
-    (subst (λ (es : List Entry). Sweeping limit st₀ s₀ (stationOf (st .live) es) (withRecord s d 0 zeroRecord) count n xs) (sym (listed-set (st .entries) w x ∙ (λ i. set (listedEntries (st .entries)) (q i) (e i)))) p)
+    subst (λ (z : List ℕ). Sweeping limit st₀ s₀ (stationOf (st .live) (listedEntries (set (st .entries) w x))) z count n xs) (sym (f ∙ ap (λ (c : ℕ). withRecord narrowKind s c 0 zeroRecord) q))
+    (subst (λ (es : List Entry). Sweeping limit st₀ s₀ (stationOf (st .live) es) (withRecord narrowKind s d 0 zeroRecord) count n xs) (sym (listed-set (st .entries) w x ∙ (λ i. set (listedEntries (st .entries)) (q i) (e i)))) p)

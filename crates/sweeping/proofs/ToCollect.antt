@@ -13,7 +13,7 @@ use borrow.Author.Tests.{ne-eqb}
 use Rattle.model.specs.declared.Id.{Id}
 use Rattle.model.specs.Types.{Entry, Station}
 use Rattle.model.specs.Lists.{_and_, all, any}
-use Rattle.model.specs.Limits.{slots}
+use Rattle.model.specs.Limits.{entryPlaces}
 use Rattle.model.specs.Ids.{older, sameId}
 use Rattle.model.specs.Lives.{readsOf}
 use Rattle.model.specs.Entries.{noEntry, keysOf, wrote}
@@ -34,13 +34,13 @@ use Rattle.sweeping.specs.Order.{AreToCollect}
 -- what is known of the columns, the order and the marks
 pub record Ordered (st : Station) (hs : List Bool) (cs ts : List ℕ) (n : ℕ) (xs : List ℕ) (read : List Bool) : Type 0 where
   pub right : sound st ≡ true
-  pub long : length (st .entries) ≡ slots
+  pub long : length (st .entries) ≡ entryPlaces
   pub held : Column (λ e. not (eqb (e .id .txn) 0)) false (st .entries) hs
   pub clocks : Column (λ e. e .id .clock) 0 (st .entries) cs
   pub txns : Column (λ e. e .id .txn) 0 (st .entries) ts
-  pub rows : length xs ≡ slots
-  pub order : IsOrder hs cs ts slots n xs
-  pub read-by : Marked (λ d. any (λ l. hasId (readsOf l) (idAt cs ts d)) (st .live)) slots read
+  pub rows : length xs ≡ entryPlaces
+  pub order : IsOrder hs cs ts entryPlaces n xs
+  pub read-by : Marked (λ d. any (λ l. hasId (readsOf l) (idAt cs ts d)) (st .live)) entryPlaces read
 
 module _ (st : Station) (hs : List Bool) (cs ts : List ℕ) (n : ℕ) (xs : List ℕ) (read : List Bool) (o : Ordered st hs cs ts n xs read) where
   abbrev es : List Entry
@@ -50,14 +50,14 @@ module _ (st : Station) (hs : List Bool) (cs ts : List ℕ) (n : ℕ) (xs : List
   abbrev row : ℕ → Entry
   row i = entryAt st (getD xs i 0)
 
-  low : (i : ℕ) → i < n → getD xs i 0 < slots
+  low : (i : ℕ) → i < n → getD xs i 0 < entryPlaces
   low i u = o .order .marked i u .0
 
   is-held : (i : ℕ) → i < n → not (eqb (row i .id .txn) 0) ≡ true
   unfolding entryAt
   is-held i u = sym (o .held (getD xs i 0) (low i u)) ∙ o .order .marked i u .1
 
-  row-id : (d : ℕ) → d < slots → idAt cs ts d ≡ entryAt st d .id
+  row-id : (d : ℕ) → d < entryPlaces → idAt cs ts d ≡ entryAt st d .id
   unfolding entryAt
   row-id d u = λ z. record { clock = o .clocks d u z; txn = o .txns d u z }
 
@@ -66,7 +66,7 @@ module _ (st : Station) (hs : List Bool) (cs ts : List ℕ) (n : ℕ) (xs : List
       (subst (λ (y : Id). older (idAt cs ts (getD xs i 0)) y ≡ false) (row-id (getD xs j 0) (low j v)) (o .order .newest-first i j u v))
 
   -- the row of an entry that wrote a key
-  row-of : (d k : ℕ) → d < slots → wrote (entryAt st d) k ≡ true → (i : ℕ) × (i < n) × (getD xs i 0 ≡ d)
+  row-of : (d k : ℕ) → d < entryPlaces → wrote (entryAt st d) k ≡ true → (i : ℕ) × (i < n) × (getD xs i 0 ≡ d)
   unfolding entryAt
   row-of d k u w = o .order .every d u (o .held d u ∙ not-of-false _ (ne-eqb _ 0 (wrote-held st (o .right) d k w)))
 
@@ -128,7 +128,7 @@ module _ (st : Station) (hs : List Bool) (cs ts : List ℕ) (n : ℕ) (xs : List
   unfolding superseded
   superseded-before i u = λ z. all (λ k. same-test _ _ (newer-before i u k) (before-newer i u k) z) (keysOf (row i))
 
-  is-read : (d : ℕ) → d < slots → getD read d false ≡ isRead st (entryAt st d)
+  is-read : (d : ℕ) → d < entryPlaces → getD read d false ≡ isRead st (entryAt st d)
   unfolding isRead isReadBy hasId
   is-read d u = o .read-by d u ∙ ap (λ (x : Id). any (λ l. any (λ r. sameId x (r .id)) (readsOf l)) (st .live)) (row-id d u)
 
@@ -138,7 +138,7 @@ module _ (st : Station) (hs : List Bool) (cs ts : List ℕ) (n : ℕ) (xs : List
   keeps-may i u = (λ z. sym (superseded-before i u) z and not (is-read (getD xs i 0) (low i u) z))
       ∙ sym (ap (λ (b : Bool). b and superseded es (row i) and not (isRead st (row i))) (is-held i u) ∙ (unfold _and_ in refl))
 
-  held-mark : (d : ℕ) → d < slots → mayCollect st (entryAt st d) ≡ true → getD hs d false ≡ true
+  held-mark : (d : ℕ) → d < entryPlaces → mayCollect st (entryAt st d) ≡ true → getD hs d false ≡ true
   unfolding mayCollect entryAt
   held-mark d u h = o .held d u ∙ and-left _ _ (and-left _ _ h)
 
@@ -151,7 +151,7 @@ module _ (st : Station) (hs : List Bool) (cs ts : List ℕ) (n : ℕ) (xs : List
     newest-first = λ i j u v. rw (s .is i (omega arith), s .is j v) (newest-first (s .row i) (s .row j) (s .rises i j u v) (s .inside j v));
   }
     where
-      found : (d : ℕ) → d < slots → mayCollect st (entryAt st d) ≡ true → (j : ℕ) × (j < m) × (getD ys j 0 ≡ d)
+      found : (d : ℕ) → d < entryPlaces → mayCollect st (entryAt st d) ≡ true → (j : ℕ) × (j < m) × (getD ys j 0 ≡ d)
       found d u h =
           let r = o .order .every d u (held-mark d u h) in
           let k = s .every (r .0) (r .1) (keeps-may (r .0) (r .1) ∙ (ap (λ (x : ℕ). mayCollect st (entryAt st x)) (r .2) ∙ h)) in

@@ -8,6 +8,7 @@ ghost use lib.Dec.{eqb, ltb};
 ghost use lib.ListN.{length};
 ghost use Rattle.model.specs.Lists.{_and_, _or_, any};
 ghost use Rattle.model.specs.Limits as Limits;
+ghost use Rattle.model.specs.Kinds as Kinds;
 ghost use Rattle.model.specs.Ids.{sameId};
 ghost use Rattle.model.specs.Listed.{listedEntries, listed, listedOutcome};
 ghost use Rattle.model.specs.Lives.{readsOf};
@@ -53,7 +54,7 @@ fn held_of(entries: [Entry; Station::SLOTS]) -> [bool; Station::SLOTS]
 
 // Whether a row has the id. Transactions mostly differ, so they are compared first.
 fn has_id(clocks: &[u64; Station::SLOTS], txns: &[u32; Station::SLOTS], d: usize, id: Id) -> bool
-    requires { ⌜ d < Limits.slots ⌝ }
+    requires { ⌜ d < Limits.entryPlaces ⌝ }
     ensures { λ r. ⌜ r ≡ sameId (idAt (now (clocks .entry)) (now (txns .entry)) d) id ⌝ }
 {
     if txns[d] != id.txn {
@@ -69,7 +70,7 @@ fn with_id(
     txns: &[u32; Station::SLOTS],
     id: Id,
 ) -> [bool; Station::SLOTS]
-    ensures { λ r. ⌜ AlsoMarked (λ d. sameId (idAt (now (clocks .entry)) (now (txns .entry)) d) id) Limits.slots marks r ⌝ }
+    ensures { λ r. ⌜ AlsoMarked (λ d. sameId (idAt (now (clocks .entry)) (now (txns .entry)) d) id) Limits.entryPlaces marks r ⌝ }
 {
     let mut out = marks;
     let mut d = 0;
@@ -91,7 +92,7 @@ fn with_reads(
     txns: &[u32; Station::SLOTS],
     l: Live,
 ) -> [bool; Station::SLOTS]
-    ensures { λ r. ⌜ AlsoMarked (λ d. hasId (readsOf l) (idAt (now (clocks .entry)) (now (txns .entry)) d)) Limits.slots marks r ⌝ }
+    ensures { λ r. ⌜ AlsoMarked (λ d. hasId (readsOf l) (idAt (now (clocks .entry)) (now (txns .entry)) d)) Limits.entryPlaces marks r ⌝ }
 {
     let n = read_count(l);
     let mut out = marks;
@@ -112,7 +113,7 @@ fn read_of(
     clocks: &[u64; Station::SLOTS],
     txns: &[u32; Station::SLOTS],
 ) -> [bool; Station::SLOTS]
-    ensures { λ r. ⌜ Marked (λ d. any (λ l. hasId (readsOf l) (idAt (now (clocks .entry)) (now (txns .entry)) d)) live) Limits.slots r ⌝ }
+    ensures { λ r. ⌜ Marked (λ d. any (λ l. hasId (readsOf l) (idAt (now (clocks .entry)) (now (txns .entry)) d)) live) Limits.entryPlaces r ⌝ }
 {
     let mut out = [false; Station::SLOTS];
     let mut i = 0;
@@ -142,7 +143,7 @@ fn sifted(
     order: Candidates,
     read: [bool; Station::SLOTS],
 ) -> Candidates
-    requires { ⌜ (order .n ≤ Limits.slots) × AreRows (order .n) (order .slots) ⌝ }
+    requires { ⌜ (order .n ≤ Limits.entryPlaces) × AreRows (order .n) (order .slots) ⌝ }
     ensures { λ r. ⌜ AreSifted (listedEntries entries) (order .slots) read (order .n) (r .n) (r .slots) ⌝ }
 {
     let mut seen = 0u64;
@@ -192,7 +193,7 @@ fn goes_on(left: usize, count: u8, limit: u64) -> bool
 // Clears the last of the slots, which has the oldest entry, and so on to the first, as far as the limit. A commit record that is not its
 // entry's ends it.
 fn collect_all(station: Station, store: &mut [u8], order: Candidates, limit: u64) -> Outcome
-    requires { ⌜ length (now store) ≡ Limits.storeSize ⌝ }
+    requires { ⌜ length (now store) ≡ (Kinds.storeSize Kinds.narrowKind) ⌝ }
     requires { ⌜ (sound (listed station) ≡ true) × (0 < limit) × (limit ≤ Limits.sweepLimit) ⌝ }
     requires { ⌜ AreToCollect (listed station) (order .n) (order .slots) ⌝ }
     ensures { λ r. ⌜ (listedOutcome r ≡ outcomeOf (sweep (listed station) (now (store .entry)) limit)) × (now (store .exit) ≡ stored (sweep (listed station) (now (store .entry)) limit .stores) (now (store .entry))) ⌝ }
@@ -225,7 +226,7 @@ fn collect_all(station: Station, store: &mut [u8], order: Candidates, limit: u64
 
 // The first of rows 1, 2 and 20 that applies; 0 where none does.
 fn sweep_row(size: usize, tested: bool, limit: u64) -> u8
-    ensures { λ r. ⌜ r ≡ firstRow (1 when not (eqb size Limits.storeSize) ∷ 2 when not tested ∷ 20 when (eqb limit 0 or ltb Limits.sweepLimit limit) ∷ []) ⌝ }
+    ensures { λ r. ⌜ r ≡ firstRow (1 when not (eqb size (Kinds.storeSize Kinds.narrowKind)) ∷ 2 when not tested ∷ 20 when (eqb limit 0 or ltb Limits.sweepLimit limit) ∷ []) ⌝ }
 {
     if size != Station::STORE {
         return 1;

@@ -15,7 +15,7 @@ use Rattle.model.specs.Types.{Entry, Station}
 use Rattle.model.specs.declared.Phase.the-variants.{Closing}
 use Rattle.model.specs.declared.Answer.the-variants as A
 use Rattle.model.specs.Lists.{_and_, all, member, anyBelow}
-use Rattle.model.specs.Limits.{livePlaces, slots, lastClock}
+use Rattle.model.specs.Limits.{livePlaces, entryPlaces, lastClock}
 use Rattle.model.specs.Lives.{writesOf, writeCount, withPhase, noLive, isClosing, liveBeyond}
 use Rattle.model.specs.Stations.{liveAt, entryAt, setLive, liveTxns, isLive, isHeld, placeOf, slotOf, isFree}
 use Rattle.model.specs.Clocks.{clocks, clockAbove}
@@ -42,18 +42,18 @@ module _ {A : Type 0} (b : Bool) (x y : A) where
   cond-false e = rw e
 
 -- ── the slot and the clock ──
-module _ (st : Station) (n d : ℕ) (q : d ≡ slotFor n st) where
-  no-slot : 64 ≤ d → (n ≢ 0) × (anyBelow (isFree st) slots ≡ false)
+module _ (st : Station) (few : st .kind .slots ≤ entryPlaces) (n d : ℕ) (q : d ≡ slotFor n st) where
+  no-slot : 64 ≤ d → (n ≢ 0) × (anyBelow (isFree st) (st .kind .slots) ≡ false)
   unfolding slotFor
   no-slot o = go (eqb n 0) refl
     where
-      go : (b : Bool) → eqb n 0 ≡ b → (n ≢ 0) × (anyBelow (isFree st) slots ≡ false)
+      go : (b : Bool) → eqb n 0 ≡ b → (n ≢ 0) × (anyBelow (isFree st) (st .kind .slots) ≡ false)
       go true h = let w : d ≡ 0 = rw h at q in absurd (lt-irrefl 0 (omega (arith, o)))
-      go false h = (eqb-false n 0 h, free-none st d (rw h at q) o)
+      go false h = (eqb-false n 0 h, free-none st few d (rw h at q) o)
 
-  slot-taken : n ≢ 0 → d < 64 → (anyBelow (isFree st) slots ≡ true) × (d ≡ highestFree st)
+  slot-taken : n ≢ 0 → d < 64 → (anyBelow (isFree st) (st .kind .slots) ≡ true) × (d ≡ highestFree st)
   unfolding slotFor
-  slot-taken w o = free-some st d (rw (ne-eqb n 0 w) at q) o
+  slot-taken w o = free-some st few d (rw (ne-eqb n 0 w) at q) o
 
 module _ (st : Station) (n x c : ℕ) (q : c ≡ clockFor n x st) where
   no-clock : x ≢ 0 → c ≡ 0 → (n ≢ 0) × (member lastClock (clocks st) ≡ true)
@@ -76,7 +76,7 @@ module _ (st : Station) (n x c : ℕ) (q : c ≡ clockFor n x st) where
 -- ── the rows after 8, and the effect ──
 -- rows 13 and 21 of a transaction, and what becomes of it at place p
 pub last-rows : Station → Live → List Row
-last-rows st l = 13 when (leb 1 (writeCount l) and not (anyBelow (isFree st) slots)) ∷ 21 when (leb 1 (writeCount l) and member lastClock (clocks st)) ∷ []
+last-rows st l = 13 when (leb 1 (writeCount l) and not (anyBelow (isFree st) (st .kind .slots))) ∷ 21 when (leb 1 (writeCount l) and member lastClock (clocks st)) ∷ []
 
 pub closed : Station → ℕ → ℕ → Live → Effect
 closed st x p l =
@@ -92,7 +92,7 @@ pub record Known (st : Station) (t x j i : ℕ) : Type 0 where
   pub right : sound st ≡ true
   pub numbered : t ≢ 0
   pub clocked : x ≢ 0
-  pub somewhere : slots ≤ j → i < livePlaces
+  pub somewhere : entryPlaces ≤ j → i < livePlaces
   pub passed : commit st t x ≡ commit-rest st t x (placeOf t st) (liveAt st (placeOf t st))
 
 -- nor does row 9, of transaction l at place i, which is not held
@@ -106,12 +106,12 @@ module _ (st : Station) (t j i : ℕ) (y : Sought st t j i) where
   unfolding isLive liveTxns
   unlive = place-row (st .live) t i (y .live8) (y .placeAt)
 
-  unheld : leb slots j ≡ not (isHeld t st)
+  unheld : leb entryPlaces j ≡ not (isHeld t st)
   unheld = go (decLt j 64)
     where
-      go : Dec (j < 64) → leb slots j ≡ not (isHeld t st)
-      go (yes o) = lt-leb slots j o ∙ sym (ap not (slot-held st t j (y .slotAt) (y .entries64) o))
-      go (no o) = let g : 64 ≤ j = omega (arith, o) in le-leb slots j g ∙ sym (ap not (slot-none st t j (y .slotAt) (y .entries64) g))
+      go : Dec (j < 64) → leb entryPlaces j ≡ not (isHeld t st)
+      go (yes o) = lt-leb entryPlaces j o ∙ sym (ap not (slot-held st t j (y .slotAt) (y .entries64) o))
+      go (no o) = let g : 64 ≤ j = omega (arith, o) in le-leb entryPlaces j g ∙ sym (ap not (slot-none st t j (y .slotAt) (y .entries64) g))
 
   module _ (x : ℕ) where
     abbrev rest : Effect
@@ -141,7 +141,7 @@ module _ (st : Station) (t j i : ℕ) (y : Sought st t j i) where
             right = not-false _ (c .0);
             numbered = eqb-false t 0 (d .0);
             clocked = eqb-false x 0 (f .0);
-            somewhere = λ o. leb-false livePlaces i (and-first _ _ (g .0) (le-leb slots j o));
+            somewhere = λ o. leb-false livePlaces i (and-first _ _ (g .0) (le-leb entryPlaces j o));
             passed = commit-rows ∙ rows-passed st (unknownRows t x j i) b tested r e unknown-numbered z _;
           }
 
@@ -192,11 +192,11 @@ module _ {st : Station} {t x j i : ℕ} (k : Known st t x j i) where
     }
 
 -- ── rows 13 and 21, and the effect: with the slot and the clock that `slot_for` and `clock_for` give ──
-module _ {st : Station} {t x i : ℕ} {l : Live} (k : IsOpen st t x i l) (d : ℕ) (q : d ≡ slotFor (writeCount l) st) where
+module _ {st : Station} {t x i : ℕ} {l : Live} (k : IsOpen st t x i l) (few : st .kind .slots ≤ entryPlaces) (d : ℕ) (q : d ≡ slotFor (writeCount l) st) where
   pub commit-13 : 64 ≤ d → commit st t x ≡ says (A.Refused 13 0) st
   unfolding last-rows
   commit-13 o =
-      let s = no-slot st (writeCount l) d q o in
+      let s = no-slot st few (writeCount l) d q o in
       k .rest ∙ hit 13 _ _ st _ (and-intro _ _ (le-leb 1 (writeCount l) (omega (arith, s .0))) (not-of-false _ (s .1)))
 
   module _ (o : d < 64) (c : ℕ) (p : c ≡ clockFor (writeCount l) x st) where
@@ -205,7 +205,7 @@ module _ {st : Station} {t x i : ℕ} {l : Live} (k : IsOpen st t x i l) (d : �
     commit-21 z =
         let s = no-clock st (writeCount l) x c p (k .clocked) z in
         k .rest
-        ∙ (skipped 13 _ _ st _ (and-none-right _ _ (not-of-true _ (slot-taken st (writeCount l) d q (s .0) o .0)))
+        ∙ (skipped 13 _ _ st _ (and-none-right _ _ (not-of-true _ (slot-taken st few (writeCount l) d q (s .0) o .0)))
         ∙ hit 21 _ _ st _ (and-intro _ _ (le-leb 1 (writeCount l) (omega (arith, s .0))) (s .1)))
 
     pub commit-done : c ≢ 0 → commit st t x ≡ says (commitAnswer (writeCount l) d) (setLive st i (afterCommit d c l))
@@ -221,7 +221,7 @@ module _ {st : Station} {t x i : ℕ} {l : Live} (k : IsOpen st t x i l) (d : �
             ∙ (skipped 21 _ _ st _ (and-none-left _ _ w) ∙ (refusals-none st _ ∙ cond-true _ _ _ h))))
         go false h =
             let w = eqb-false (writeCount l) 0 h in
-            let s = slot-taken st (writeCount l) d q w o in
+            let s = slot-taken st few (writeCount l) d q w o in
             let m = clock-taken st (writeCount l) x c p w z in
             rw h
             (k .rest

@@ -8,11 +8,11 @@ use lib.Dec.{eqb, leb}
 use lib.ListN.{length}
 use borrow.Author.Tests.{le-leb, lt-leb, eq-eqb, ne-eqb}
 use Rattle.model.specs.declared.Live.{Live}
+use Rattle.model.specs.Kinds.{Kind}
 use Rattle.model.specs.Types.{Station}
 use Rattle.model.specs.declared.Answer.{Answer}
 use Rattle.model.specs.declared.Answer.the-variants as A
 use Rattle.model.specs.Lists.{_and_, _or_, first}
-use Rattle.model.specs.Limits.{writeLimit}
 use Rattle.model.specs.Lives.{noLive, hasWritten}
 use Rattle.model.specs.Stations.{liveAt, setLive, liveTxns, isLive, isHeld, placeOf}
 use Rattle.model.specs.Sound.{sound}
@@ -90,7 +90,7 @@ module _ (st : Station) (t : ℕ) (b : Bool) (tested : b ≡ sound st) (r : ℕ)
 module _ (st : Station) (t k v : ℕ) (b : Bool) (tested : b ≡ sound st) (r : ℕ) (e : r ≡ firstRow (openRows (st .live) t k b)) where
   -- row 11 and the effect, of transaction l at place i
   abbrev put-rest : ℕ → Live → Effect
-  put-rest i l = refusals (11 when (not (hasWritten k l) and leb writeLimit (l .«write_count»)) ∷ []) st (says A.Kept (setLive st i (withWrite k v l)))
+  put-rest i l = refusals (11 when (not (hasWritten k l) and leb (st .kind .writeLimit) (l .«write_count»)) ∷ []) st (says A.Kept (setLive st i (withWrite k v l)))
 
   put-rows : put st t k v ≡ refusals (openRows (st .live) t k (sound st)) st (put-rest (placeOf t st) (liveAt st (placeOf t st)))
   unfolding put refusals openRows namedRows unsound isLive liveTxns placeOf liveAt
@@ -106,12 +106,12 @@ module _ (st : Station) (t k v : ℕ) (b : Bool) (tested : b ≡ sound st) (r : 
         put-rows ∙ (rows-passed st (openRows (st .live) t k) b tested r e (open-numbered (st .live) t k (sound st)) z _
         ∙ (ap (λ (j : ℕ). put-rest j (liveAt st j)) (sym p) ∙ ap (put-rest i) (sym f)))
 
-    pub put-11 : writeLimit ≤ l .«write_count» → hasWritten k l ≡ false → put st t k v ≡ says (A.Refused 11 0) st
-    put-11 w h = put-passed ∙ hit 11 _ _ st _ (and-intro _ _ (not-of-false _ h) (le-leb writeLimit _ w))
+    pub put-11 : st .kind .writeLimit ≤ l .«write_count» → hasWritten k l ≡ false → put st t k v ≡ says (A.Refused 11 0) st
+    put-11 w h = put-passed ∙ hit 11 _ _ st _ (and-intro _ _ (not-of-false _ h) (le-leb (st .kind .writeLimit) _ w))
 
-    pub put-done : (not (hasWritten k l) and leb writeLimit (l .«write_count»)) ≡ false → put st t k v ≡ says A.Kept (setLive st i (withWrite k v l))
+    pub put-done : (not (hasWritten k l) and leb (st .kind .writeLimit) (l .«write_count»)) ≡ false → put st t k v ≡ says A.Kept (setLive st i (withWrite k v l))
     put-done h = put-passed ∙ (skipped 11 _ _ st _ h ∙ refusals-none st _)
 
 -- row 11 does not apply: there is room, or the key is there
-pub room : (k : ℕ) (l : Live) → (l .«write_count» < writeLimit) ⊎ (hasWritten k l ≡ true) → (not (hasWritten k l) and leb writeLimit (l .«write_count»)) ≡ false
-room k l x = ⊎-elim (λ o. and-none-right _ _ (lt-leb writeLimit _ o)) (λ e. and-none-left _ _ (not-of-true _ e)) x
+pub room : (κ : Kind) (k : ℕ) (l : Live) → (l .«write_count» < κ .writeLimit) ⊎ (hasWritten k l ≡ true) → (not (hasWritten k l) and leb (κ .writeLimit) (l .«write_count»)) ≡ false
+room κ k l x = ⊎-elim (λ o. and-none-right _ _ (lt-leb (κ .writeLimit) _ o)) (λ e. and-none-left _ _ (not-of-true _ e)) x

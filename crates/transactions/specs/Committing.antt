@@ -9,7 +9,7 @@ use Rattle.model.specs.declared.Phase.the-variants.{Closing}
 use Rattle.model.specs.declared.Answer.{Answer}
 use Rattle.model.specs.declared.Answer.the-variants as A
 use Rattle.model.specs.Lists.{_and_, member, anyBelow}
-use Rattle.model.specs.Limits.{livePlaces, slots, lastClock}
+use Rattle.model.specs.Limits.{livePlaces, entryPlaces, lastClock}
 use Rattle.model.specs.Lives.{noLive, writeCount, withPhase}
 use Rattle.model.specs.Stations.{isFree}
 use Rattle.model.specs.Clocks.{clocks, clockAbove}
@@ -18,11 +18,11 @@ use Rattle.model.specs.Commit.{highestFree}
 
 -- rows 2, 3, 5 and 8 of a commit, where the soundness test said b: of a transaction's number, a clock, and the slot and the place found
 unfoldable pub unknownRows : ℕ → ℕ → ℕ → ℕ → Bool → List Row
-unknownRows t c j i b = 2 when not b ∷ 3 when eqb t 0 ∷ 5 when eqb c 0 ∷ 8 when (leb livePlaces i and leb slots j) ∷ []
+unknownRows t c j i b = 2 when not b ∷ 3 when eqb t 0 ∷ 5 when eqb c 0 ∷ 8 when (leb livePlaces i and leb entryPlaces j) ∷ []
 
 -- the slot that a commit of so many writes takes; none has the number 64
 unfoldable pub slotFor : ℕ → Station → ℕ
-slotFor n st = cond (eqb n 0) 0 (cond (anyBelow (isFree st) slots) (highestFree st) slots)
+slotFor n st = cond (eqb n 0) 0 (cond (anyBelow (isFree st) (st .kind .slots)) (highestFree st) entryPlaces)
 
 -- the clock that a commit of so many writes takes where c is given; where none is left 0, which is no clock. Without writes it takes none: c
 unfoldable pub clockFor : ℕ → ℕ → Station → ℕ

@@ -1,14 +1,14 @@
 use Prim.Native.Nat.{_≤_, _-_}
 use borrow.Author.Needs.{needs}
-use Rattle.model.specs.Limits.{slots}
+use Rattle.model.specs.Limits.{entryPlaces}
 use Rattle.edits.proofs.same_entries.Statement.{statement}
 use Rattle.edits.proofs.same_entries.Tie as tie
 
 abbrev Inv-loop : tie.InvT-loop
-Inv-loop a b i₀ i = i ≤ slots
+Inv-loop a b i₀ i = i ≤ entryPlaces
 
 abbrev μ-loop : tie.MeasureT-loop
-μ-loop a b i₀ i = slots - i
+μ-loop a b i₀ i = entryPlaces - i
 
 loop-holds : tie.Need-loop-holds Inv-loop μ-loop
 loop-holds c = search needs

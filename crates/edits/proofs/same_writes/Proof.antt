@@ -1,14 +1,14 @@
 use Prim.Native.Nat.{_≤_, _-_}
 use borrow.Author.Needs.{needs}
-use Rattle.model.specs.Limits.{writeLimit}
+use Rattle.model.specs.Limits.{writePlaces}
 use Rattle.edits.proofs.same_writes.Statement.{statement}
 use Rattle.edits.proofs.same_writes.Tie as tie
 
 abbrev Inv-loop : tie.InvT-loop
-Inv-loop a b i₀ i = i ≤ writeLimit
+Inv-loop a b i₀ i = i ≤ writePlaces
 
 abbrev μ-loop : tie.MeasureT-loop
-μ-loop a b i₀ i = writeLimit - i
+μ-loop a b i₀ i = writePlaces - i
 
 pub same-writes-spec : {M : Type 1} → statement M
 same-writes-spec =

@@ -1,5 +1,5 @@
 -- `image::place_in` meets its contract.
-use Rattle.image.proofs.Names.{getD, map, Id, writeLimit, readLimit, headSize, itemSize, writesSize, writeFrom, readFrom, placeFrom, _+_, ap, _∙_, drop, length-drop, arith, needs}
+use Rattle.image.proofs.Names.{getD, map, Id, writePlaces, readLimit, headSize, itemSize, writesSize, writeFrom, readFrom, placeFrom, _+_, ap, _∙_, drop, length-drop, arith, needs}
 use Rattle.image.proofs.PartLaws.{parts-take}
 use Rattle.image.proofs.place_in.Statement.{statement}
 use Rattle.image.proofs.place_in.Tie as tie
@@ -11,7 +11,7 @@ returns : tie.Need-returns
 unfolding placeFrom
 returns c =
     let b = c .before .before .before .before .before .before .before .before .before .args .b .now in
-    let w = parts-take itemSize writeLimit (drop headSize b) (omega (arith, length-drop headSize b)) in
+    let w = parts-take itemSize writePlaces (drop headSize b) (omega (arith, length-drop headSize b)) in
     let r = parts-take itemSize readLimit (drop (headSize + writesSize) b) (omega (arith, length-drop (headSize + writesSize) b)) in
     λ z. record {
       txn = c .before .before .before .before .before .before .before .id-in .ensures z .txn;

@@ -9,7 +9,8 @@ use borrow.Rule.Slice.PartMut.{mid-len, same-len-mid}
 use native.Mathlib.Omega.{arith}
 use Rattle.model.specs.declared.Station.{Station}
 use Rattle.model.specs.Listed.{listed}
-use Rattle.model.specs.Limits.{livePlaces, slots}
+use Rattle.model.specs.Limits.{livePlaces, entryPlaces}
+use Rattle.model.specs.Kinds.{narrowKind}
 use Rattle.model.specs.Sound.{sound}
 use Rattle.model.proofs.SoundKept.{sound-scan}
 use Rattle.stations.specs.Changes.{changedBy}
@@ -107,7 +108,7 @@ loop-again c =
       omega (arith, o),
       same-len-mid (answerSize * l .i) (answerSize * l .i + answerSize - answerSize * l .i) (l .answers) (r .last .1 .0) (r .kept .1 .0) ∙ l .inv .1,
       l .inv .2,
-      r .ensures .1 ∙ sym (sound-scan (l .store)) ∙ ap sound (sym (r .ensures .2)),
+      r .ensures .1 ∙ sym (sound-scan narrowKind (l .store)) ∙ ap sound (sym (r .ensures .2)),
       passed-more _ (s .args .requests .now) _ _ (l .i) (heldOf h (l .store)) (l .answers) (l .inv .4) o w (heldOf (r .result) (l .store)) (r .last .1 .0)
           (r .kept .1 .0 ∙ mid-len (answerSize * l .i) (answerSize * l .i + answerSize) (l .answers) w ∙ omega arith)
           (scan-run q h (l .store) d (m .ensures) k (r .result) (r .ensures .0) (r .ensures .2))
@@ -165,7 +166,7 @@ decide-requires c κs =
     (e .before .before .before .before .before .loop .inv .3, sym (e .before .asks-scan .ensures) ∙ e .if1 .left, not-sweep (e .before .before .command-in .result) (c .before .match .keys2))
 
 -- the change's place and slot are there
-inside : (c : tie.After-decide Inv-loop μ-loop) → (c .decide .result .place < livePlaces) × (c .decide .result .slot < slots)
+inside : (c : tie.After-decide Inv-loop μ-loop) → (c .decide .result .place < livePlaces) × (c .decide .result .slot < entryPlaces)
 inside c = is-inside _ _ _ (c .decide .ensures .0)
 
 mul-live : tie.Need-mul-live Inv-loop μ-loop

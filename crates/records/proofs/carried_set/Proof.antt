@@ -7,7 +7,8 @@ use lib.Seq.{getD-take, length-take-le}
 use native.Mathlib.Omega.{arith}
 use borrow.Author.Needs.{needs}
 use borrow.Author.Tests.{not-true, not-false}
-use Rattle.model.specs.Limits.{keys, writeLimit, recordSize}
+use Rattle.model.specs.Limits.{keys, keysSize, recordSize}
+use Rattle.model.specs.Kinds.{narrowKind}
 use Rattle.model.specs.KeySets.{keySet}
 use Rattle.model.specs.Records.{carriesVersion, recordAt}
 use Rattle.model.specs.Slots.{versionsCarry}
@@ -20,7 +21,7 @@ use Rattle.records.proofs.carried_set.Statement.{statement}
 use Rattle.records.proofs.carried_set.Tie as tie
 
 abbrev Inv-loop : tie.InvT-loop
-Inv-loop w ks m id set₀ n₀ set n = (n ≤ m) × (m ≤ writeLimit) × (versionsCarry (recordAt w 0) id 1 (take m ks) ≡ versionsCarry (recordAt w 0) id (n + 1) (drop n (take m ks))) × Made (take m ks) n set
+Inv-loop w ks m id set₀ n₀ set n = (n ≤ m) × (m ≤ keysSize) × (versionsCarry (recordAt narrowKind w 0) id 1 (take m ks) ≡ versionsCarry (recordAt narrowKind w 0) id (n + 1) (drop n (take m ks))) × Made (take m ks) n set
 
 abbrev μ-loop : tie.MeasureT-loop
 μ-loop w ks m id set₀ n₀ set n = m - n
@@ -71,7 +72,7 @@ long s = search needs
 
 carried :
     (a : tie.After-carries-version Inv-loop μ-loop)
-    → carriesVersion (recordAt (start (loop-of a) .args .w .now) 0 (loop-of a .loop .n + 1)) (getD (start (loop-of a) .args .f .keys) (loop-of a .loop .n) 0) (start (loop-of a) .args .f .id) ≡ a .carries-version .result
+    → carriesVersion (recordAt narrowKind (start (loop-of a) .args .w .now) 0 (loop-of a .loop .n + 1)) (getD (start (loop-of a) .args .f .keys) (loop-of a .loop .n) 0) (start (loop-of a) .args .f .id) ≡ a .carries-version .result
 carried a =
     let s = start (loop-of a) .args in
     let n = loop-of a .loop .n in
@@ -82,7 +83,7 @@ unfolding firstKeys
 returns c =
     let l = loop-of (c .before) in
     let s = start l in (
-      λ _. l .loop .inv .2 ∙ versions-not (recordAt (s .args .w .now) 0) (s .args .f .id) (s .args .f .keys) (s .args .f .count) (l .loop .n) (omega arith) (omega (arith, long s)) (carried (c .before) ∙ not-true _ (c .if1 .taken)),
+      λ _. l .loop .inv .2 ∙ versions-not (recordAt narrowKind (s .args .w .now) 0) (s .args .f .id) (s .args .f .keys) (s .args .f .count) (l .loop .n) (omega arith) (omega (arith, long s)) (carried (c .before) ∙ not-true _ (c .if1 .taken)),
       λ z. absurd (omega (arith, z)),
     )
 
@@ -117,7 +118,7 @@ loop-again c =
     let k = at (f .keys) (f .count) (l .loop .n) (long s) (l .loop .inv .1) (a .before .before .loop-test .taken) in (
       omega (arith, a .before .before .loop-test .taken),
       l .loop .inv .1,
-      l .loop .inv .2 ∙ versions-more (recordAt (s .args .w .now) 0) (f .id) (f .keys) (f .count) (l .loop .n) (a .before .before .loop-test .taken) (omega (arith, long s)) (carried a ∙ not-false _ (c .before .if1 .left)),
+      l .loop .inv .2 ∙ versions-more (recordAt narrowKind (s .args .w .now) 0) (f .id) (f .keys) (f .count) (l .loop .n) (a .before .before .loop-test .taken) (omega (arith, long s)) (carried a ∙ not-false _ (c .before .if1 .left)),
       made-more (take (f .count) (f .keys)) (l .loop .n) (l .loop .set) _ _ (k .0) (sym (k .1)) (l .loop .inv .3) (c .with-key .ensures),
     )
 
@@ -138,7 +139,7 @@ returns-2 c =
     let e : keySet set ≡ take (f .count) (f .keys) = made-all (take (f .count) (f .keys)) (l .loop .n) set (omega (arith, c .loop-test .left, h)) (fields-ascend f (s .pre .1)) (l .loop .inv .3) in
     let k : 0 < set = set-some set (take (f .count) (f .keys)) e (omega (arith, h, fields-some f (s .pre .1))) in (
       λ z. absurd (omega (arith, k, z)),
-      λ _. (l .loop .inv .2 ∙ versions-end (recordAt (s .args .w .now) 0) (f .id) (f .keys) (f .count) (l .loop .n) (omega arith), e),
+      λ _. (l .loop .inv .2 ∙ versions-end (recordAt narrowKind (s .args .w .now) 0) (f .id) (f .keys) (f .count) (l .loop .n) (omega arith), e),
     )
 
 pub carried-set-spec : {M : Type 1} → statement M

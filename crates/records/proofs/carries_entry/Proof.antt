@@ -5,12 +5,13 @@ use lib.Dec.{eqb}
 use lib.ListN.{length, getD}
 use borrow.Author.Needs.{needs}
 use borrow.Author.Tests.{not-true, not-false, eq-eqb, ne-eqb}
+use Rattle.model.specs.Kinds.{narrowKind}
 use Rattle.model.specs.declared.Id.{Id}
 use Rattle.model.specs.Lists.{_and_, same}
 use Rattle.model.specs.Ids.{sameId}
 use Rattle.model.specs.Bytes.{idIn}
 use Rattle.model.specs.KeySets.{keySet}
-use Rattle.model.specs.Entries.{markIn, committedMark, countIn, keyBytes, carriesKeys, carriesEntry}
+use Rattle.model.specs.Entries.{markIn, countIn, keyBytes, carriesKeys, carriesEntry}
 use Rattle.records.proofs.carries_entry.Statement.{statement}
 use Rattle.records.proofs.carries_entry.Tie as tie
 
@@ -18,7 +19,7 @@ use Rattle.records.proofs.carries_entry.Tie as tie
 abbrev start : tie.After-same-id → tie.Start
 start p = p .before .before .before .before .before .before
 
-commits : (p : tie.Else1) → (eqb (markIn (p .before .before .before .args .r .now)) committedMark and eqb (getD (p .before .before .before .args .r .now) 2 0) 0 and eqb (getD (p .before .before .before .args .r .now) 3 0) 0) ≡ true
+commits : (p : tie.Else1) → (eqb (markIn (p .before .before .before .args .r .now)) (narrowKind .mark) and eqb (getD (p .before .before .before .args .r .now) 2 0) 0 and eqb (getD (p .before .before .before .args .r .now) 3 0) 0) ≡ true
 commits p = sym (p .before .is-commit .ensures) ∙ not-false _ (p .if1 .left)
 
 ids : (p : tie.After-same-id) → sameId (idIn (start p .args .r .now)) (start p .args .e .id) ≡ p .same-id .result

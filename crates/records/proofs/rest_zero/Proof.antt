@@ -5,17 +5,17 @@ use lib.Dec.{eqb}
 use lib.ListN.{length, drop}
 use native.Mathlib.Omega.{arith}
 use borrow.Author.Needs.{needs}
-use Rattle.model.specs.Limits.{writeLimit}
+use Rattle.model.specs.Limits.{keysSize}
 use Rattle.model.specs.Lists.{all}
 use Rattle.records.proofs.ListSteps.{zeros-next, zeros-not, zeros-end}
 use Rattle.records.proofs.rest_zero.Statement.{statement}
 use Rattle.records.proofs.rest_zero.Tie as tie
 
 abbrev Inv-loop : tie.InvT-loop
-Inv-loop m ks i₀ i = (i ≤ writeLimit) × (all (eqb 0) (drop m ks) ≡ all (eqb 0) (drop i ks))
+Inv-loop m ks i₀ i = (i ≤ keysSize) × (all (eqb 0) (drop m ks) ≡ all (eqb 0) (drop i ks))
 
 abbrev μ-loop : tie.MeasureT-loop
-μ-loop m ks i₀ i = writeLimit - i
+μ-loop m ks i₀ i = keysSize - i
 
 loop-holds : tie.Need-loop-holds Inv-loop μ-loop
 loop-holds c = (omega arith, refl)

@@ -4,17 +4,17 @@ use mathlib.Core.Path.{_≡_, refl, sym, _∙_}
 use lib.ListN.{length, drop}
 use native.Mathlib.Omega.{arith}
 use borrow.Author.Needs.{needs}
-use Rattle.model.specs.Limits.{writeLimit}
+use Rattle.model.specs.Limits.{keysSize}
 use Rattle.model.specs.Lists.{same}
 use Rattle.model.proofs.RestLaws.{same-next, same-not, same-end}
 use Rattle.records.proofs.same_keys.Statement.{statement}
 use Rattle.records.proofs.same_keys.Tie as tie
 
 abbrev Inv-loop : tie.InvT-loop
-Inv-loop part ks i₀ i = (i ≤ writeLimit) × (same part ks ≡ same (drop i part) (drop i ks))
+Inv-loop part ks i₀ i = (i ≤ keysSize) × (same part ks ≡ same (drop i part) (drop i ks))
 
 abbrev μ-loop : tie.MeasureT-loop
-μ-loop part ks i₀ i = writeLimit - i
+μ-loop part ks i₀ i = keysSize - i
 
 loop-holds : tie.Need-loop-holds Inv-loop μ-loop
 loop-holds c = (omega arith, refl)

@@ -6,10 +6,11 @@ use lib.ListN.{length, drop, length-drop}
 use native.Mathlib.Omega.{arith}
 use borrow.Author.Needs.{needs}
 use Rattle.model.specs.Lists.{padded}
-use Rattle.model.specs.Limits.{writeLimit}
+use Rattle.model.specs.Limits.{keysSize}
+use Rattle.model.specs.Kinds.{narrowKind}
 use Rattle.model.specs.Bytes.{headBytes}
 use Rattle.model.specs.KeySets.{keySet}
-use Rattle.model.specs.Entries.{committedMark, commitRecord}
+use Rattle.model.specs.Entries.{commitRecord}
 use Rattle.records.proofs.ByteLaws.{put-end, length-head}
 use Rattle.records.proofs.write_commit.Statement.{statement}
 use Rattle.records.proofs.write_commit.Tie as tie
@@ -46,11 +47,11 @@ returns c =
     let b = w .before .before .before .key-bytes in
     let a = w .before .before .before .before .before .before .args in
     let i = a .e .id in
-    let ks = padded 0 writeLimit (keySet (a .e .keys)) in
+    let ks = padded 0 keysSize (keySet (a .e .keys)) in
     let v = c .before .before .write-keys in
     let l : length (drop 16 (a .part .now)) ≡ 8 = simp length-drop (omega arith) in
-    put-end (w .write-head .last .0) (headBytes committedMark (n .result) i) (drop 16 (a .part .now)) (v .last .0) ks 16 8 (w .write-head .ensures) (length-head committedMark (n .result) i) l (v .ensures ∙ b .ensures)
-    ∙ ap (λ (k : ℕ). headBytes committedMark k i ++ ks) (n .ensures)
+    put-end (w .write-head .last .0) (headBytes (narrowKind .mark) (n .result) i) (drop 16 (a .part .now)) (v .last .0) ks 16 8 (w .write-head .ensures) (length-head (narrowKind .mark) (n .result) i) l (v .ensures ∙ b .ensures)
+    ∙ ap (λ (k : ℕ). headBytes (narrowKind .mark) k i ++ ks) (n .ensures)
 
 pub write-commit-spec : {M : Type 1} → statement M
 write-commit-spec =

@@ -4,17 +4,17 @@ use mathlib.Core.Path.{_≡_, refl}
 use lib.ListN.{length, drop, drop-of-length-le}
 use native.Mathlib.Omega.{arith}
 use borrow.Author.Needs.{needs}
-use Rattle.model.specs.Limits.{writeLimit}
+use Rattle.model.specs.Limits.{keysSize}
 use Rattle.model.proofs.RestLaws.{rest-next}
 use Rattle.records.proofs.WriteLoop.{Written, written-more, written-all}
 use Rattle.records.proofs.write_keys.Statement.{statement}
 use Rattle.records.proofs.write_keys.Tie as tie
 
 abbrev Inv-loop : tie.InvT-loop
-Inv-loop part₀ ks i₀ part i = Written writeLimit part₀ ks i part (drop i ks)
+Inv-loop part₀ ks i₀ part i = Written keysSize part₀ ks i part (drop i ks)
 
 abbrev μ-loop : tie.MeasureT-loop
-μ-loop part₀ ks i₀ part i = writeLimit - i
+μ-loop part₀ ks i₀ part i = keysSize - i
 
 loop-holds : tie.Need-loop-holds Inv-loop μ-loop
 loop-holds c = (omega arith, refl, refl)
@@ -36,7 +36,7 @@ loop-again c =
     let l = c .before in
     let ks = l .before .args .t2 in
     let h : length ks ≡ 8 = search needs in
-    written-more writeLimit (l .before .args .part .now) ks (l .loop .i) (l .loop .part) _ (l .loop .inv) _ _ (omega arith) (omega arith) (rest-next ks (l .loop .i) 0 (omega arith))
+    written-more keysSize (l .before .args .part .now) ks (l .loop .i) (l .loop .part) _ (l .loop .inv) _ _ (omega arith) (omega arith) (rest-next ks (l .loop .i) 0 (omega arith))
 
 same-length : tie.Need-same-length Inv-loop μ-loop
 same-length c = omega arith
@@ -47,7 +47,7 @@ returns c =
     let ks = l .before .args .t2 in
     let h : length ks ≡ 8 = search needs in
     let z : length ks ≤ l .loop .i = omega arith in
-    written-all writeLimit (l .before .args .part .now) ks (l .loop .i) (l .loop .part) _ (l .loop .inv) (omega arith) (drop-of-length-le ks z)
+    written-all keysSize (l .before .args .part .now) ks (l .loop .i) (l .loop .part) _ (l .loop .inv) (omega arith) (drop-of-length-le ks z)
 
 pub write-keys-spec : {M : Type 1} → statement M
 write-keys-spec =

@@ -5,6 +5,7 @@ use mathlib.Core.Logic.{⊎-elim}
 use mathlib.Core.List.{List}
 use native.Mathlib.Omega.{arith}
 use borrow.Author.Needs.{needs}
+use Rattle.model.specs.Kinds.{narrowKind}
 use Rattle.model.specs.Types.{Station}
 use Rattle.model.specs.declared.Answer.the-variants as A
 use Rattle.model.specs.Listed.{listedEntries}
@@ -31,14 +32,14 @@ loop-of p = p .before .before .before
 abbrev store-of : tie.At-loop Inv-loop μ-loop → List ℕ
 store-of l = l .before .before .before .before .before .before .args .store .now
 
-slot-is : (p : tie.After-read-slot Inv-loop μ-loop) (x : Slot) → p .read-slot .result ≡ x → seen (store-of (loop-of p)) (loop-of p .loop .d) ≡ seenAs x
+slot-is : (p : tie.After-read-slot Inv-loop μ-loop) (x : Slot) → p .read-slot .result ≡ x → seen narrowKind (store-of (loop-of p)) (loop-of p .loop .d) ≡ seenAs x
 slot-is p x h = slot-seen (store-of (loop-of p)) (loop-of p .loop .d) (p .read-slot .result) x (p .read-slot .ensures) h
 
 empty-requires : tie.Need-empty-requires Inv-loop μ-loop
 empty-requires c κs = search needs
 
 returns : tie.Need-returns Inv-loop μ-loop
-returns c = handed-back (c .before .before .before .args .store .now) (A.Refused 1 0) (c .before .empty .result) emptyStation (c .before .empty .ensures) (scan-length (c .before .before .before .args .store .now) (c .if1 .taken))
+returns c = handed-back (c .before .before .before .args .store .now) (A.Refused 1 0) (c .before .empty .result) (emptyStation narrowKind) (c .before .empty .ensures) (scan-length narrowKind (c .before .before .before .args .store .now) (c .if1 .taken))
 
 loop-holds : tie.Need-loop-holds Inv-loop μ-loop
 loop-holds c = passed-none (c .before .before .before .before .before .args .store .now) (c .before .before .before .empty .result) (c .before .before .before .empty .ensures)
@@ -75,7 +76,7 @@ returns-2 c =
     let p = c .before .before in
     let l = loop-of p in
     let st = l .before .before .before .before .empty in
-    handed-back (store-of l) (A.Refused 18 (l .loop .d)) (st .result) emptyStation (st .ensures)
+    handed-back (store-of l) (A.Refused 18 (l .loop .d)) (st .result) (emptyStation narrowKind) (st .ensures)
     (refused-damaged (store-of l) (l .loop .entries) (l .loop .txns) (l .loop .found) (l .loop .d) (l .loop .inv) (p .before .before .loop-test .taken) (l .before .before .before .if1 .left)
     (unfold seenAs in slot-is p Damaged (c .enum-told2 .given .1)))
 
@@ -94,7 +95,7 @@ returns-3 c =
     let p = c .before .before .before .before .before .before .before in
     let l = loop-of p in
     let st = l .before .before .before .before .empty in
-    handed-back (store-of l) (A.Refused 18 (l .loop .d)) (st .result) emptyStation (st .ensures)
+    handed-back (store-of l) (A.Refused 18 (l .loop .d)) (st .result) (emptyStation narrowKind) (st .ensures)
     (refused-repeated (store-of l) (l .loop .entries) (l .loop .txns) (l .loop .found) (l .loop .d) (l .loop .inv) (p .before .before .loop-test .taken) (e .0 .0)
     (unfold seenAs in slot-is p (Committed (e .0 .0)) (e .1)) (l .before .before .before .if1 .left) (sym (c .before .has-txn .ensures) ∙ c .if2 .taken))
 
@@ -137,8 +138,8 @@ returns-4 c =
     let l = c .before in
     let s = store-of l in
     let st = l .before .before .before .before .empty in
-    let t : Station = record { live = emptyStation .live; entries = listedEntries (l .loop .entries) } in
-    handed-back s (A.Found (l .loop .found)) (record { live = st .result .live; entries = l .loop .entries }) t (ap (λ (x : Station). record { live = x .live; entries = listedEntries (l .loop .entries) }) (st .ensures)) (found-all s (l .loop .entries) (l .loop .txns) (l .loop .found) (l .loop .d) (l .loop .inv) (c .loop-test .left) (l .before .before .before .if1 .left))
+    let t : Station = record { kind = narrowKind; live = (emptyStation narrowKind) .live; entries = listedEntries (l .loop .entries) } in
+    handed-back s (A.Found (l .loop .found)) (record { live = st .result .live; entries = l .loop .entries }) t (ap (λ (x : Station). record { kind = narrowKind; live = x .live; entries = listedEntries (l .loop .entries) }) (st .ensures)) (found-all s (l .loop .entries) (l .loop .txns) (l .loop .found) (l .loop .d) (l .loop .inv) (c .loop-test .left) (l .before .before .before .if1 .left))
 
 pub scan-spec : {M : Type 1} → statement M
 scan-spec =

@@ -6,6 +6,7 @@ use native.Mathlib.Omega.{arith}
 use lib.Dec.{leb}
 use lib.ListN.{length}
 use borrow.Author.Tests.{eq-eqb, ne-eqb, le-leb, lt-leb}
+use Rattle.model.specs.Kinds.{narrowKind}
 use Rattle.model.specs.Lists.{_and_}
 use Rattle.model.specs.KeySets.{keySet}
 use Rattle.model.proofs.Tests.{and-none-right}
@@ -27,15 +28,15 @@ key-count-requires c κs = tt
 
 returns : tie.Need-returns
 unfolding _and_
-returns c = let a = c .before .before .before in let e = start a .args .e in rw (entry-none e (count a) (counted a) (c .before .before .if1 .taken), ne-eqb (e .id .clock) 0 (c .if2 .taken))
+returns c = let a = c .before .before .before in let e = start a .args .e in rw (entry-none narrowKind e (count a) (counted a) (c .before .before .if1 .taken), ne-eqb (e .id .clock) 0 (c .if2 .taken))
 
 returns-2 : tie.Need-returns-2
 unfolding _and_
-returns-2 c = let a = c .before .before .before .before in let e = start a .args .e in rw (entry-none e (count a) (counted a) (c .before .before .before .if1 .taken), eq-eqb (e .id .clock) 0 (c .before .if2 .left))
+returns-2 c = let a = c .before .before .before .before in let e = start a .args .e in rw (entry-none narrowKind e (count a) (counted a) (c .before .before .before .if1 .taken), eq-eqb (e .id .clock) 0 (c .before .if2 .left))
 
 returns-3 : tie.Need-returns-3
 unfolding _and_
-returns-3 c = let a = c .before .before in let e = start a .args .e in rw (entry-some e (count a) (counted a) (c .before .if1 .left), lt-leb (count a) 8 (omega (arith, c .if3 .taken)))
+returns-3 c = let a = c .before .before in let e = start a .args .e in rw (entry-some narrowKind e (count a) (counted a) (c .before .if1 .left), lt-leb (count a) 8 (omega (arith, c .if3 .taken)))
 
 returns-4 : tie.Need-returns-4
 unfolding _and_
@@ -43,7 +44,7 @@ returns-4 c =
     let a = c .before .before .before .before in
     let e = start a .args .e in
     let t : leb 1 (e .id .txn) ≡ false = lt-leb 1 (e .id .txn) (omega (arith, c .if4 .taken)) in
-    rw (entry-some e (count a) (counted a) (c .before .before .before .if1 .left), and-none-right (leb (count a) 8) (leb 1 (e .id .txn)) t)
+    rw (entry-some narrowKind e (count a) (counted a) (c .before .before .before .if1 .left), and-none-right (leb (count a) 8) (leb 1 (e .id .txn)) t)
 
 returns-5 : tie.Need-returns-5
 unfolding _and_
@@ -51,7 +52,7 @@ returns-5 c =
     let a = c .before .before .before .before .before in
     let e = start a .args .e in
     let t : leb 1 (e .id .txn) ≡ true = le-leb 1 (e .id .txn) (omega (arith, c .before .if4 .left)) in
-    rw (entry-some e (count a) (counted a) (c .before .before .before .before .if1 .left), le-leb (count a) 8 (omega (arith, c .before .before .before .if3 .left)), t) (some-clock (e .id .clock))
+    rw (entry-some narrowKind e (count a) (counted a) (c .before .before .before .before .if1 .left), le-leb (count a) 8 (omega (arith, c .before .before .before .if3 .left)), t) (some-clock (e .id .clock))
 
 pub entry-right-spec : {M : Type 1} → statement M
 entry-right-spec = tie.close (tie.spec key-count-requires returns returns-2 returns-3 returns-4 returns-5)

@@ -6,6 +6,7 @@ use native.Mathlib.Omega.{arith}
 use lib.ListN.{length, length-map}
 use borrow.Author.Needs.{needs}
 use borrow.Author.Tests.{not-true, not-false}
+use Rattle.model.specs.Kinds.{narrowKind}
 use Rattle.model.specs.declared.Live.{Live}
 use Rattle.model.specs.Lives.{writeKey}
 use Rattle.model.specs.Sound.{isNoWrite}
@@ -17,7 +18,7 @@ use Rattle.soundness.proofs.writes_right.Statement.{statement}
 use Rattle.soundness.proofs.writes_right.Tie as tie
 
 abbrev Inv-loop : tie.InvT-loop
-Inv-loop l n low₀ j₀ low j = SetPassed writeKey anyWrite isNoWrite n (l .writes) 8 (writesRight l) true low j
+Inv-loop l n low₀ j₀ low j = SetPassed writeKey anyWrite isNoWrite n (l .writes) 8 (writesRight narrowKind l) true low j
 
 abbrev μ-loop : tie.MeasureT-loop
 μ-loop l n low₀ j₀ low j = 8 - j
@@ -34,10 +35,10 @@ wide-requires : tie.Need-wide-requires Inv-loop μ-loop
 wide-requires c κs = tt
 
 returns : tie.Need-returns Inv-loop μ-loop
-returns c = sym (writes-long (c .before .before .args .t1) (c .before .wide .result) (c .before .wide .ensures) (c .if1 .taken))
+returns c = sym (writes-long narrowKind (c .before .before .args .t1) (c .before .wide .result) (c .before .wide .ensures) (c .if1 .taken))
 
 loop-holds : tie.Need-loop-holds Inv-loop μ-loop
-loop-holds c = set-start writeKey anyWrite isNoWrite (c .before .wide .result) (c .before .before .args .t1 .writes) 8 _ true (writes-is (c .before .before .args .t1) _ (c .before .wide .ensures) (c .if1 .left))
+loop-holds c = set-start writeKey anyWrite isNoWrite (c .before .wide .result) (c .before .before .args .t1 .writes) 8 _ true (writes-is narrowKind (c .before .before .args .t1) _ (c .before .wide .ensures) (c .if1 .left))
 
 mul-w : tie.Need-mul-w Inv-loop μ-loop
 mul-w c = search needs

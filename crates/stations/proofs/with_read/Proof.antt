@@ -4,6 +4,7 @@ use mathlib.Core.Logic.{⊎-elim}
 use lib.ListN.{length, length-map}
 use native.Mathlib.Omega.{arith}
 use borrow.Author.Needs.{needs}
+use Rattle.model.specs.Kinds.{narrowKind}
 use Rattle.model.specs.Lists.{first}
 use Rattle.model.specs.Lives.{readKey, readsOf}
 use Rattle.model.proofs.SoundLaws.{read-limit}
@@ -34,19 +35,19 @@ slice-aggregate-place-for : tie.Need-slice-aggregate-place-for
 slice-aggregate-place-for c = search needs
 
 place-for-requires : tie.Need-place-for-requires
-place-for-requires c κs = omega (arith, c .before .before .before .wide .ensures, read-limit _ (c .before .before .before .before .pre .0))
+place-for-requires c κs = omega (arith, c .before .before .before .wide .ensures, read-limit narrowKind _ (c .before .before .before .before .pre .0))
 
 mul-was : tie.Need-mul-was
 mul-was c = search needs
 
 array-copy-out-was : tie.Need-array-copy-out-was
-array-copy-out-was c = omega (arith, c .if1 .taken, c .before .before .before .before .before .wide .ensures, read-limit _ (start (c .before) .pre .0))
+array-copy-out-was c = omega (arith, c .if1 .taken, c .before .before .before .before .before .wide .ensures, read-limit narrowKind _ (start (c .before) .pre .0))
 
 mul-r : tie.Need-mul-r
 mul-r c = search needs
 
 element-set-from-r : tie.Need-element-set-from-r
-element-set-from-r c = let d = c .before .before .before in omega (arith, d .if1 .taken, d .before .before .before .before .before .wide .ensures, read-limit _ (start (d .before) .pre .0))
+element-set-from-r c = let d = c .before .before .before in omega (arith, d .if1 .taken, d .before .before .before .before .before .wide .ensures, read-limit narrowKind _ (start (d .before) .pre .0))
 
 returns : tie.Need-returns
 returns c =
@@ -58,7 +59,7 @@ read-joined-requires : tie.Need-read-joined-requires
 read-joined-requires c κs = read-place-within _ _ _ (start (c .before) .pre .0) (place (c .before))
 
 add-m : tie.Need-add-m
-add-m c = omega (arith, read-limit _ (start (c .before .before .before) .pre .0))
+add-m c = omega (arith, read-limit narrowKind _ (start (c .before .before .before) .pre .0))
 
 returns-2 : tie.Need-returns-2
 returns-2 c =

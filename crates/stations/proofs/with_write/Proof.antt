@@ -4,6 +4,7 @@ use mathlib.Core.Logic.{⊎-elim}
 use lib.ListN.{length, length-map}
 use native.Mathlib.Omega.{arith}
 use borrow.Author.Needs.{needs}
+use Rattle.model.specs.Kinds.{narrowKind}
 use Rattle.model.specs.Lists.{first}
 use Rattle.model.specs.Lives.{writeKey, writesOf}
 use Rattle.model.proofs.SoundLaws.{write-limit}
@@ -34,19 +35,19 @@ slice-aggregate-place-for : tie.Need-slice-aggregate-place-for
 slice-aggregate-place-for c = search needs
 
 place-for-requires : tie.Need-place-for-requires
-place-for-requires c κs = omega (arith, c .before .before .before .wide .ensures, write-limit _ (c .before .before .before .before .pre .0))
+place-for-requires c κs = omega (arith, c .before .before .before .wide .ensures, write-limit narrowKind _ (c .before .before .before .before .pre .0))
 
 mul-was : tie.Need-mul-was
 mul-was c = search needs
 
 array-copy-out-was : tie.Need-array-copy-out-was
-array-copy-out-was c = omega (arith, c .if1 .taken, c .before .before .before .before .before .wide .ensures, write-limit _ (start (c .before) .pre .0))
+array-copy-out-was c = omega (arith, c .if1 .taken, c .before .before .before .before .before .wide .ensures, write-limit narrowKind _ (start (c .before) .pre .0))
 
 mul-w : tie.Need-mul-w
 mul-w c = search needs
 
 element-set-from-w : tie.Need-element-set-from-w
-element-set-from-w c = let d = c .before .before .before in omega (arith, d .if1 .taken, d .before .before .before .before .before .wide .ensures, write-limit _ (start (d .before) .pre .0))
+element-set-from-w c = let d = c .before .before .before in omega (arith, d .if1 .taken, d .before .before .before .before .before .wide .ensures, write-limit narrowKind _ (start (d .before) .pre .0))
 
 returns : tie.Need-returns
 returns c =
@@ -58,7 +59,7 @@ write-joined-requires : tie.Need-write-joined-requires
 write-joined-requires c κs = write-place-within _ _ _ (start (c .before) .pre .0) (place (c .before))
 
 add-m : tie.Need-add-m
-add-m c = omega (arith, write-limit _ (start (c .before .before .before) .pre .0))
+add-m c = omega (arith, write-limit narrowKind _ (start (c .before .before .before) .pre .0))
 
 returns-2 : tie.Need-returns-2
 returns-2 c =

@@ -6,6 +6,7 @@ use lib.ListN.{length, getD, length-map, List·getD-map}
 use lib.Seq.{getD-take, length-take-le}
 use native.Mathlib.Omega.{arith}
 use borrow.Author.Needs.{needs}
+use Rattle.model.specs.Kinds.{narrowKind}
 use Rattle.model.specs.declared.Live.{Live}
 use Rattle.model.specs.Lives.{noWrite, writesOf, writeKey}
 use Rattle.model.proofs.SoundLaws.{write-limit, writes-length, writes-ascending}
@@ -44,12 +45,12 @@ abbrev live : tie.In-loop Inv-loop μ-loop → Live
 live c = c .before .before .before .args .t1
 
 low : (c : tie.In-loop Inv-loop μ-loop) → c .before .loop .i < 8
-low c = omega (arith, c .loop-test .taken, c .before .before .wide .ensures, write-limit (live c) (c .before .before .before .pre))
+low c = omega (arith, c .loop-test .taken, c .before .before .wide .ensures, write-limit narrowKind (live c) (c .before .before .before .pre))
 
 at : (c : tie.In-loop Inv-loop μ-loop) → (c .before .loop .i < length (keysIn (live c))) × (getD (keysIn (live c)) (c .before .loop .i) 0 ≡ getD (live c .writes) (c .before .loop .i) noWrite .key)
 at c =
     let z : length (live c .writes) ≡ 8 = simp length-map at (c .before .before .before .good .0 .1 .1 .1 .1 .1 .0 .1 .0 .1) in
-    key-at (live c) _ (omega (arith, c .loop-test .taken, c .before .before .wide .ensures)) (omega (arith, z, write-limit (live c) (c .before .before .before .pre)))
+    key-at (live c) _ (omega (arith, c .loop-test .taken, c .before .before .wide .ensures)) (omega (arith, z, write-limit narrowKind (live c) (c .before .before .before .pre)))
 
 mul-w : tie.Need-mul-w Inv-loop μ-loop
 mul-w c = search needs
@@ -58,7 +59,7 @@ element-copy-out-w : tie.Need-element-copy-out-w Inv-loop μ-loop
 element-copy-out-w c = low c
 
 with-key-requires : tie.Need-with-key-requires Inv-loop μ-loop
-with-key-requires c κs = rw (at (c .before) .1) at (key-low (keysIn (live (c .before))) _ (writes-ascending (live (c .before)) (c .before .before .before .before .pre)) (at (c .before) .0))
+with-key-requires c κs = rw (at (c .before) .1) at (key-low (keysIn (live (c .before))) _ (writes-ascending narrowKind (live (c .before)) (c .before .before .before .before .pre)) (at (c .before) .0))
 
 add-i : tie.Need-add-i Inv-loop μ-loop
 add-i c = omega (arith, low (c .before .before))
@@ -74,7 +75,7 @@ loop-again c =
 returns : tie.Need-returns Inv-loop μ-loop
 returns c =
     let l = c .before .before .before .args .t1 in
-    made-all (keysIn l) (c .before .loop .i) _ (omega (arith, key-few l, c .before .before .wide .ensures, c .loop-test .left)) (writes-ascending l (c .before .before .before .pre)) (c .before .loop .inv .1)
+    made-all (keysIn l) (c .before .loop .i) _ (omega (arith, key-few l, c .before .before .wide .ensures, c .loop-test .left)) (writes-ascending narrowKind l (c .before .before .before .pre)) (c .before .loop .inv .1)
 
 pub written-set-spec : {M : Type 1} → statement M
 written-set-spec =

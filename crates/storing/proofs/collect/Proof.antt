@@ -13,7 +13,8 @@ use Rattle.model.specs.declared.Answer.the-variants as A
 use Rattle.model.specs.Types.{Entry, Station}
 use Rattle.model.specs.KeySets.{keySet}
 use Rattle.model.specs.Listed.{listedEntry, listed}
-use Rattle.model.specs.Limits.{slots, slotSize, storeSize}
+use Rattle.model.specs.Limits.{entryPlaces}
+use Rattle.model.specs.Kinds.{narrowKind, slotSize, storeSize}
 use Rattle.model.specs.Entries.{keysOf, carriesEntry}
 use Rattle.model.specs.Stations.{entryAt, setEntry}
 use Rattle.model.specs.Records.{zeroRecord, recordAt}
@@ -23,7 +24,7 @@ use Rattle.model.specs.Effects.{saysStoring}
 use Rattle.model.proofs.ListedLaws.{zeroEntry, listed-any}
 use Rattle.stations.proofs.Callers.{entry-count}
 use Rattle.storing.proofs.CollectRows.{collect-1, collect-2, collect-out, collect-unheld, collect-15, collect-16, collect-17, collect-on}
-use Rattle.model.proofs.RecordLaws.{record-part}
+use Rattle.model.proofs.RecordLaws.{slot-start, record-part}
 use Rattle.storing.proofs.Parts.{handed, handed-storing}
 use Rattle.storing.proofs.collect.Statement.{statement}
 use Rattle.storing.proofs.collect.Tie as tie
@@ -49,7 +50,7 @@ entry-is : (c : tie.Else2) → entryAt (st c) (d c) ≡ listedEntry (entry c)
 unfolding entryAt
 entry-is c = listed-any (start c .args .t1 .entries) (d c)
 
-size : (c : tie.Else2) → length (s c) ≡ storeSize
+size : (c : tie.Else2) → length (s c) ≡ storeSize narrowKind
 size c = c .before .if1 .left
 
 right : (c : tie.Else2) → sound (st c) ≡ true
@@ -59,7 +60,7 @@ right c = sym (start c .pre) ∙ not-false _ (c .if2 .left)
 abbrev e₄ : tie.Else4 → tie.Else2
 e₄ c = c .before .before .before .before .before
 
-low : (c : tie.Else4) → d (e₄ c) < slots
+low : (c : tie.Else4) → d (e₄ c) < entryPlaces
 low c = c .before .before .before .before .if3 .left
 
 held : (c : tie.Else4) → entryAt (st (e₄ c)) (d (e₄ c)) .id .txn ≢ 0
@@ -77,10 +78,10 @@ e₆ c = e₅ (c .before .before .before)
 abbrev e₇ : tie.After-carries-entry → tie.Else2
 e₇ c = e₆ (c .before .before .before)
 
-carried : (c : tie.After-carries-entry) → carriesEntry (recordAt (s (e₇ c)) (d (e₇ c)) 0) (entryAt (st (e₇ c)) (d (e₇ c))) ≡ c .carries-entry .result
+carried : (c : tie.After-carries-entry) → carriesEntry narrowKind (recordAt narrowKind (s (e₇ c)) (d (e₇ c)) 0) (entryAt (st (e₇ c)) (d (e₇ c))) ≡ c .carries-entry .result
 carried c =
     let e = e₇ c in
-    ap₂ carriesEntry (sym (record-part (s e) (d e) 0 (slotSize * d e) (omega arith))) (entry-is e) ∙ sym (c .carries-entry .ensures)
+    ap₂ (carriesEntry narrowKind) (sym (record-part narrowKind (s e) (d e) 0 (slotSize narrowKind * d e) (omega (arith, slot-start narrowKind (d e))))) (entry-is e) ∙ sym (c .carries-entry .ensures)
 
 -- past row 17
 abbrev f₇ : tie.Else7 → tie.Else4
@@ -212,7 +213,7 @@ same-length-2 : tie.Need-same-length-2
 same-length-2 c = search needs
 
 returns-8 : tie.Need-returns-8
-unfolding entryAt
+unfolding entryAt setEntry
 returns-8 c =
     let k = c .before .before .before .before .before .before in
     let h = k .before .before .before .before in

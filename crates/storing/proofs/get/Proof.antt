@@ -13,7 +13,8 @@ use Rattle.model.specs.declared.Entry as machine
 use Rattle.model.specs.declared.Answer.the-variants as A
 use Rattle.model.specs.Types.{Entry, Station}
 use Rattle.model.specs.Listed.{listedEntry, listed}
-use Rattle.model.specs.Limits.{slots, storeSize}
+use Rattle.model.specs.Limits.{entryPlaces}
+use Rattle.model.specs.Kinds.{narrowKind, storeSize}
 use Rattle.model.specs.Lives.{liveBeyond, readsOf}
 use Rattle.model.specs.Entries.{keysOf, wrote, recordOf}
 use Rattle.model.specs.Stations.{liveAt, entryAt, setLive}
@@ -36,7 +37,7 @@ use Rattle.storing.proofs.get.Tie as tie
 abbrev start : tie.Else2 → tie.Start
 start c = c .before .before .before .before .before .before
 
-size : (c : tie.Else2) → length (start c .args .store .now) ≡ storeSize
+size : (c : tie.Else2) → length (start c .args .store .now) ≡ storeSize narrowKind
 size c = c .before .before .before .before .if1 .left
 
 abbrev st : tie.Else2 → Station
@@ -73,11 +74,11 @@ comes c =
     let a = e .before .before .open-at .ensures in
     get-open _ _ _ _ (size e) _ (start e .pre) _ (a .0) (e .if2 .left) _ (a .1) _ (here c)
 
-used : (c : tie.After-l) → Used (st (c .before) .entries) (l c)
-used c = subst (Used _) (sym (here c)) (place-used _ _ _ _ (found (c .before)))
+used : (c : tie.After-l) → Used narrowKind (st (c .before) .entries) (l c)
+used c = subst (Used _ _) (sym (here c)) (place-used _ _ _ _ (found (c .before)))
 
 writes : (c : tie.After-l) → l c .«write_count» ≤ 8
-writes c = write-limit (l c) (used c .sets)
+writes c = write-limit narrowKind (l c) (used c .sets)
 
 numbered : (c : tie.After-l) → l c .txn ≢ 0
 numbered c = subst (λ (x : Live). x .txn ≢ 0) (sym (here c)) (place-numbered _ _ _ _ (found (c .before)))
@@ -108,7 +109,7 @@ d c = c .chosen2 .given .0 .0
 choice : (c : tie.After-chosen2) → choiceOf (st (hᵥ c .before)) (l (hᵥ c)) (k (hᵥ c .before)) ≡ version (d c)
 choice c = asked (g₃ c) ∙ chosen-version (chosen (g₃ c)) (d c) (told (c .before .before) ∙ c .chosen2 .given .1)
 
-entry : (c : tie.After-chosen2) → (d c < slots) × (wrote (entryAt (st (hᵥ c .before)) (d c)) (k (hᵥ c .before)) ≡ true)
+entry : (c : tie.After-chosen2) → (d c < entryPlaces) × (wrote (entryAt (st (hᵥ c .before)) (d c)) (k (hᵥ c .before)) ≡ true)
 entry c =
     let e = hᵥ c .before in
     let z : length (start e .args .t1 .entries) ≡ 64 = simp length-map at (start e .good .0 .1 .1 .1 .0 .1 .0 .1) in
@@ -139,13 +140,13 @@ carried : (c : tie.After-read-version) → carriesVersion (versionAt (st (hᵥ (
 unfolding versionAt
 carried c =
     let e = hᵥ (vᵣ c) .before in
-    ap (λ (x : Entry). carriesVersion (recordAt (s e) (d (vᵣ c)) (recordOf x (k e))) (k e) (x .id)) (entry-is (vᵣ c)) ∙ sym (c .read-version .ensures .0)
+    ap (λ (x : Entry). carriesVersion (recordAt narrowKind (s e) (d (vᵣ c)) (recordOf x (k e))) (k e) (x .id)) (entry-is (vᵣ c)) ∙ sym (c .read-version .ensures .0)
 
 value-read : (c : tie.After-read-version) → c .read-version .result .value ≡ valueIn (versionAt (st (hᵥ (vᵣ c) .before)) (s (hᵥ (vᵣ c) .before)) (k (hᵥ (vᵣ c) .before)) (d (vᵣ c)))
 unfolding versionAt
 value-read c =
     let e = hᵥ (vᵣ c) .before in
-    c .read-version .ensures .1 ∙ sym (ap (λ (x : Entry). valueIn (recordAt (s e) (d (vᵣ c)) (recordOf x (k e)))) (entry-is (vᵣ c)))
+    c .read-version .ensures .1 ∙ sym (ap (λ (x : Entry). valueIn (recordAt narrowKind (s e) (d (vᵣ c)) (recordOf x (k e)))) (entry-is (vᵣ c)))
 
 refused-requires : tie.Need-refused-requires
 refused-requires c κs = tt
@@ -227,7 +228,7 @@ cast-d c = search needs
 no-read-room-requires : tie.Need-no-read-room-requires
 no-read-room-requires c κs =
     let h = hᵥ (c .before) in
-    read-limit (l h) (used h .sets)
+    read-limit narrowKind (l h) (used h .sets)
 
 refused-requires-3 : tie.Need-refused-requires-3
 refused-requires-3 c κs = tt

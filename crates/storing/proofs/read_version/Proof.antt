@@ -1,14 +1,15 @@
 -- `storing::read_version` meets its contract.
 use Prim.Native.Nat.{ℕ, _+_, _*_, _≤_}
-use mathlib.Core.Path.{refl, ap, _∙_}
+use mathlib.Core.Path.{ap, _∙_}
 use mathlib.Core.List.{List}
 use native.Mathlib.Omega.{arith}
 use borrow.Author.Needs.{needs}
-use Rattle.model.specs.Limits.{recordSize, slotSize}
+use Rattle.model.specs.Limits.{recordSize}
+use Rattle.model.specs.Kinds.{narrowKind, slotSize}
 use Rattle.model.specs.Listed.{listedEntry}
 use Rattle.model.specs.Records.{valueIn, carriesVersion, recordAt}
 use Rattle.model.proofs.SlotLaws.{record-of-low}
-use Rattle.model.proofs.RecordLaws.{record-part}
+use Rattle.model.proofs.RecordLaws.{slot-start, record-part}
 use Rattle.storing.proofs.read_version.Statement.{statement}
 use Rattle.storing.proofs.read_version.Tie as tie
 
@@ -78,7 +79,7 @@ returns c =
     let r = c .before .before .before .before in
     let a = r .before .before .before .args in
     let n = r .record-of in
-    let q = record-part (a .store .now) (a .slot) (n .result) (slotSize * a .slot + recordSize * n .result) refl ∙ ap (recordAt (a .store .now) (a .slot)) (n .ensures) in
+    let q = record-part narrowKind (a .store .now) (a .slot) (n .result) (slotSize narrowKind * a .slot + recordSize * n .result) (omega (arith, slot-start narrowKind (a .slot))) ∙ ap (recordAt narrowKind (a .store .now) (a .slot)) (n .ensures) in
     (c .before .before .carries-version .ensures ∙ ap (λ (x : List ℕ). carriesVersion x (a .key) (a .e .id)) q, c .value-in .ensures ∙ ap valueIn q)
 
 pub read-version-spec : {M : Type 1} → statement M

@@ -5,13 +5,13 @@ use mathlib.Core.List.{List}
 use lib.ListN.{length, length-map}
 use native.Mathlib.Omega.{arith}
 use borrow.Author.Needs.{needs}
+use Rattle.model.specs.Kinds.{narrowKind, storeSize}
 use Rattle.model.specs.Types.{Entry, Station}
 use Rattle.model.specs.KeySets.{keySet}
 use Rattle.model.specs.Listed.{listedEntry, listed}
 use Rattle.model.specs.Lives.{writesOf, writeCount, writeKey}
 use Rattle.model.specs.Entries.{keysOf, entryFor}
 use Rattle.model.specs.declared.Phase.the-variants.{Closing}
-use Rattle.model.specs.Limits.{storeSize}
 use Rattle.model.specs.Step.{step}
 use Rattle.model.specs.Stations.{liveAt}
 use Rattle.model.proofs.SoundFacts.{IsClosing, closing-facts}
@@ -27,7 +27,7 @@ use Rattle.storing.proofs.step.Tie as tie
 abbrev start : tie.Else2 → tie.Start
 start c = c .before .before .before .before .before .before
 
-size : (c : tie.Else2) → length (start c .args .store .now) ≡ storeSize
+size : (c : tie.Else2) → length (start c .args .store .now) ≡ storeSize narrowKind
 size c = c .before .before .before .before .if1 .left
 
 abbrev st : tie.Else2 → Station
@@ -82,7 +82,7 @@ unfolding liveAt
 counted c = c .write-count .ensures .1
 
 limit : (c : tie.After-phase) → writeCount (liveAt (st (e₂ c)) (i (e₂ c))) ≤ 8
-limit c = let l = liveAt (st (e₂ c)) (i (e₂ c)) in omega (arith, write-limit l (facts c .used .sets), writes-length l)
+limit c = let l = liveAt (st (e₂ c)) (i (e₂ c)) in omega (arith, write-limit narrowKind l (facts c .used .sets), writes-length l)
 
 -- its entry has as many
 few : (c : tie.After-write-count) → length (keySet (c .before .entry-for .result .keys)) ≤ 8

@@ -2,10 +2,10 @@
 use Prim.Native.Nat.{_*_}
 use native.Mathlib.Omega.{arith}
 use borrow.Author.Needs.{needs}
-use Rattle.model.specs.Limits.{slotSize}
+use Rattle.model.specs.Kinds.{narrowKind, slotSize}
 use Rattle.model.specs.Listed.{listedEntry}
 use Rattle.model.specs.Entries.{commitRecord}
-use Rattle.model.proofs.RecordLaws.{record-written}
+use Rattle.model.proofs.RecordLaws.{slot-start, record-written}
 use Rattle.storing.proofs.store_commit.Statement.{statement}
 use Rattle.storing.proofs.store_commit.Tie as tie
 
@@ -34,7 +34,7 @@ returns : tie.Need-returns
 returns c =
     let a = c .before .before .before .before .before .args in
     let w = c .before .before .write-commit in
-    record-written (a .store .now) (w .last .0) (commitRecord (listedEntry (a .e))) (a .slot) 0 (slotSize * a .slot) (omega arith) (w .ensures)
+    record-written narrowKind (a .store .now) (w .last .0) (commitRecord narrowKind (listedEntry (a .e))) (a .slot) 0 (slotSize narrowKind * a .slot) (omega (arith, slot-start narrowKind (a .slot))) (w .ensures)
 
 pub store-commit-spec : {M : Type 1} → statement M
 store-commit-spec =

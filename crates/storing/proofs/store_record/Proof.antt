@@ -2,6 +2,7 @@
 use mathlib.Core.Path.{_∙_}
 use native.Mathlib.Omega.{arith}
 use borrow.Author.Needs.{needs}
+use Rattle.model.specs.Kinds.{narrowKind}
 use Rattle.model.specs.Listed.{listedEntry}
 use Rattle.storing.proofs.StepRows.{commit-stored, version-stored}
 use Rattle.storing.proofs.store_record.Statement.{statement}
@@ -21,7 +22,7 @@ returns c =
     let k = c .before .before .before .before .before in
     let a = k .before .before .args in
     let w = c .before .before .store-commit in
-    commit-stored (a .t2) (listedEntry (a .e)) (a .slot) (a .n) (a .store .now) (w .last .0) (c .before .before .before .before .if1 .taken ∙ k .write-count .ensures .1) (w .ensures)
+    commit-stored narrowKind (a .t2) (listedEntry (a .e)) (a .slot) (a .n) (a .store .now) (w .last .0) (c .before .before .before .before .if1 .taken ∙ k .write-count .ensures .1) (w .ensures)
 
 mul-w : tie.Need-mul-w
 mul-w c = search needs
@@ -42,7 +43,7 @@ returns-2 : tie.Need-returns-2
 returns-2 c =
     let a = c .before .before .before .before .before .before .before .before .before .args in
     let w = c .before .before .store-version in
-    version-stored (a .t2) (listedEntry (a .e)) (a .slot) (a .n) (a .store .now) (w .last .0) (omega arith) (w .ensures)
+    version-stored narrowKind (a .t2) (listedEntry (a .e)) (a .slot) (a .n) (a .store .now) (w .last .0) (omega arith) (w .ensures)
 
 pub store-record-spec : {M : Type 1} → statement M
 store-record-spec =

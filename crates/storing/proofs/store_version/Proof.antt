@@ -1,10 +1,11 @@
 -- `storing::store_version` meets its contract.
 use Prim.Native.Nat.{_+_, _*_}
-use mathlib.Core.Path.{refl}
 use borrow.Author.Needs.{needs}
-use Rattle.model.specs.Limits.{recordSize, slotSize}
+use native.Mathlib.Omega.{arith}
+use Rattle.model.specs.Limits.{recordSize}
+use Rattle.model.specs.Kinds.{narrowKind, slotSize}
 use Rattle.model.specs.Records.{versionRecord}
-use Rattle.model.proofs.RecordLaws.{record-written}
+use Rattle.model.proofs.RecordLaws.{slot-start, record-written}
 use Rattle.storing.proofs.store_version.Statement.{statement}
 use Rattle.storing.proofs.store_version.Tie as tie
 
@@ -39,7 +40,7 @@ returns : tie.Need-returns
 returns c =
     let a = c .before .before .before .before .before .args in
     let w = c .before .before .write-version in
-    record-written (a .store .now) (w .last .0) (versionRecord (a .key) (a .id) (a .value)) (a .slot) (a .n) (slotSize * a .slot + recordSize * a .n) refl (w .ensures)
+    record-written narrowKind (a .store .now) (w .last .0) (versionRecord (a .key) (a .id) (a .value)) (a .slot) (a .n) (slotSize narrowKind * a .slot + recordSize * a .n) (omega (arith, slot-start narrowKind (a .slot))) (w .ensures)
 
 pub store-version-spec : {M : Type 1} → statement M
 store-version-spec =

@@ -2,9 +2,9 @@
 use Prim.Native.Nat.{_*_}
 use native.Mathlib.Omega.{arith}
 use borrow.Author.Needs.{needs}
-use Rattle.model.specs.Limits.{slotSize}
+use Rattle.model.specs.Kinds.{narrowKind, slotSize}
 use Rattle.model.specs.Records.{zeroRecord}
-use Rattle.model.proofs.RecordLaws.{record-written}
+use Rattle.model.proofs.RecordLaws.{slot-start, record-written}
 use Rattle.storing.proofs.store_zero.Statement.{statement}
 use Rattle.storing.proofs.store_zero.Tie as tie
 
@@ -33,7 +33,7 @@ returns : tie.Need-returns
 returns c =
     let a = c .before .before .before .before .before .args in
     let w = c .before .before .write-zero in
-    record-written (a .store .now) (w .last .0) zeroRecord (a .slot) 0 (slotSize * a .slot) (omega arith) (w .ensures)
+    record-written narrowKind (a .store .now) (w .last .0) zeroRecord (a .slot) 0 (slotSize narrowKind * a .slot) (omega (arith, slot-start narrowKind (a .slot))) (w .ensures)
 
 pub store-zero-spec : {M : Type 1} → statement M
 store-zero-spec =

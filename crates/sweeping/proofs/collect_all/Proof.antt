@@ -12,7 +12,8 @@ use borrow.Author.Tests.{not-true, not-false, ltb-true, ltb-false, lt-ltb}
 use Rattle.model.specs.declared as machine
 use Rattle.model.specs.Types.{Entry, Station}
 use Rattle.model.specs.Lists.{_and_}
-use Rattle.model.specs.Limits.{slotSize, writeLimit}
+use Rattle.model.specs.Limits.{writePlaces}
+use Rattle.model.specs.Kinds.{narrowKind, slotSize}
 use Rattle.model.specs.KeySets.{keySet}
 use Rattle.model.specs.Listed.{listedEntry, listed}
 use Rattle.model.specs.Entries.{keysOf, carriesEntry}
@@ -20,7 +21,7 @@ use Rattle.model.specs.Stations.{entryAt}
 use Rattle.model.specs.Records.{recordAt}
 use Rattle.model.specs.Sweep.{collections}
 use Rattle.model.proofs.Tests.{and-left, and-right, and-second}
-use Rattle.model.proofs.RecordLaws.{record-part}
+use Rattle.model.proofs.RecordLaws.{slot-start, record-part}
 use Rattle.model.proofs.ListedLaws.{zeroEntry, listed-any, listed-length}
 use Rattle.stations.proofs.Callers.{entry-count}
 use Rattle.sweeping.proofs.SweepLoop.{last-low, Sweeping, sweeping-start, sweeping-next, sweeping-as, record-ends, none-ends, limit-ends, swept}
@@ -75,8 +76,8 @@ is-entry : (c : tie.After-wide Inv-loop μ-loop) → entryAt (listed (turn c .lo
 unfolding entryAt
 is-entry c = listed-any (turn c .loop .next .entries) (c .wide .result)
 
-few : (c : tie.After-wide Inv-loop μ-loop) → length (keySet (element c .keys)) ≤ writeLimit
-few c = subst (λ (e : Entry). length (keysOf e) ≤ writeLimit) (is-entry c) (entry-count (listed (turn c .loop .next)) (turn c .loop .inv .right) (c .wide .result))
+few : (c : tie.After-wide Inv-loop μ-loop) → length (keySet (element c .keys)) ≤ writePlaces
+few c = subst (λ (e : Entry). length (keysOf e) ≤ writePlaces) (is-entry c) (entry-count (listed (turn c .loop .next)) (turn c .loop .inv .right) (c .wide .result))
 
 mul-e : tie.Need-mul-e Inv-loop μ-loop
 mul-e c = omega (arith, low c)
@@ -113,12 +114,12 @@ abbrev slot : tie.After-wide Inv-loop μ-loop → ℕ
 slot c = getD (turn c .before .before .args .t3 .slots) (turn c .loop .left - 1) 0
 
 carried : (c : tie.After-carries-entry Inv-loop μ-loop)
-    → carriesEntry (recordAt (turn (wide-at c) .loop .store) (slot (wide-at c)) 0) (entryAt (listed (turn (wide-at c) .loop .next)) (slot (wide-at c))) ≡ c .carries-entry .result
+    → carriesEntry narrowKind (recordAt narrowKind (turn (wide-at c) .loop .store) (slot (wide-at c)) 0) (entryAt (listed (turn (wide-at c) .loop .next)) (slot (wide-at c))) ≡ c .carries-entry .result
 carried c =
     let w = wide-at c .wide in
     let t = turn (wide-at c) in
-    ap (λ (d : ℕ). carriesEntry (recordAt (t .loop .store) d 0) (entryAt (listed (t .loop .next)) d)) (sym (w .ensures))
-    ∙ (ap₂ (λ (x : List ℕ) (e : Entry). carriesEntry x e) (sym (record-part (t .loop .store) (w .result) 0 (slotSize * w .result) (omega arith))) (is-entry (wide-at c)) ∙ sym (c .carries-entry .ensures))
+    ap (λ (d : ℕ). carriesEntry narrowKind (recordAt narrowKind (t .loop .store) d 0) (entryAt (listed (t .loop .next)) d)) (sym (w .ensures))
+    ∙ (ap₂ (λ (x : List ℕ) (e : Entry). carriesEntry narrowKind x e) (sym (record-part narrowKind (t .loop .store) (w .result) 0 (slotSize narrowKind * w .result) (omega (arith, slot-start narrowKind (wide-at c .wide .result))))) (is-entry (wide-at c)) ∙ sym (c .carries-entry .ensures))
 
 returns : tie.Need-returns Inv-loop μ-loop
 returns c =

@@ -4,7 +4,8 @@ use mathlib.Core.Path.{_≡_}
 use mathlib.Core.Bool.{true}
 use lib.ListN.{length}
 use borrow.Author.Needs.{needs}
-use Rattle.model.specs.Limits.{storeSize, sweepLimit}
+use Rattle.model.specs.Limits.{sweepLimit}
+use Rattle.model.specs.Kinds.{narrowKind, storeSize}
 use Rattle.model.specs.Listed.{listed}
 use Rattle.model.specs.Sound.{sound}
 use Rattle.sweeping.proofs.SweepRows.{sweep-refused, sweep-allowed}
@@ -21,7 +22,7 @@ returns c = let s = c .before .before .before in sweep-refused _ _ _ _ (s .pre) 
 abbrev start : tie.Else1 → tie.Start
 start c = c .before .before .before
 
-allowed : (c : tie.Else1) → (length (start c .args .store .now) ≡ storeSize) × (sound (listed (start c .args .station)) ≡ true) × (0 < start c .args .limit) × (start c .args .limit ≤ sweepLimit)
+allowed : (c : tie.Else1) → (length (start c .args .store .now) ≡ storeSize narrowKind) × (sound (listed (start c .args .station)) ≡ true) × (0 < start c .args .limit) × (start c .args .limit ≤ sweepLimit)
 allowed c = sweep-allowed (listed (start c .args .station)) (start c .args .store .now) (start c .args .limit) (start c .args .tested) (start c .pre) _ (c .before .sweep-row .ensures) (c .if1 .left)
 
 to-collect-requires : tie.Need-to-collect-requires

@@ -3,6 +3,7 @@ use Prim.Native.Nat.{ℕ}
 use mathlib.Core.Path.{_≡_, sym, ap, _∙_}
 use lib.ListN.{length, length-map}
 use borrow.Author.Needs.{needs}
+use native.Mathlib.Omega.{arith}
 use Rattle.model.specs.declared.Answer.the-variants as A
 use Rattle.model.specs.Types.{Entry}
 use Rattle.model.specs.Listed.{listed}
@@ -101,7 +102,7 @@ refused-requires-3 : tie.Need-refused-requires-3
 refused-requires-3 c κs = search needs
 
 returns-4 : tie.Need-returns-4
-returns-4 c = as-effect _ _ _ _ (commit-13 (is-open-at (c .before .before .before .before)) _ (slot-at (c .before .before)) (c .before .if4 .taken)) (c .refused3 .ensures)
+returns-4 c = as-effect _ _ _ _ (commit-13 (is-open-at (c .before .before .before .before)) (omega arith) _ (slot-at (c .before .before)) (c .before .if4 .taken)) (c .refused3 .ensures)
 
 clock-for-requires : tie.Need-clock-for-requires
 clock-for-requires c κs = search needs
@@ -112,7 +113,7 @@ refused-requires-4 c κs = search needs
 returns-5 : tie.Need-returns-5
 returns-5 c =
     as-effect _ _ _ _
-    (commit-21 (is-open-at (c .before .before .before .before .before .before)) _ (slot-at (c .before .before .before .before)) (c .before .before .before .if4 .left) _ (clock-at (c .before .before)) (c .before .if5 .taken))
+    (commit-21 (is-open-at (c .before .before .before .before .before .before)) (omega arith) _ (slot-at (c .before .before .before .before)) (c .before .before .before .if4 .left) _ (clock-at (c .before .before)) (c .before .if5 .taken))
     (c .refused4 .ensures)
 
 cast-d : tie.Need-cast-d
@@ -133,7 +134,7 @@ returns-6 : tie.Need-returns-6
 returns-6 c =
     as-effect _ _ _ _
     (placed _ _ _ _ _ _ _ (c .before .commit-answer .ensures ∙ ap (λ (n : ℕ). commitAnswer n (c .before .before .before .before .before .before .slot-for .result)) (c .before .before .before .before .before .before .before .write-count .ensures .1)) (c .before .before .after-commit .ensures)
-    (commit-done (is-open-at (c .before .before .before .before .before .before .before .before)) _ (slot-at (c .before .before .before .before .before .before)) (c .before .before .before .before .before .if4 .left) _ (clock-at (c .before .before .before .before)) (c .before .before .before .if5 .left)))
+    (commit-done (is-open-at (c .before .before .before .before .before .before .before .before)) (omega arith) _ (slot-at (c .before .before .before .before .before .before)) (c .before .before .before .before .before .if4 .left) _ (clock-at (c .before .before .before .before)) (c .before .before .before .if5 .left)))
     (c .live-changed .ensures)
 
 pub commit-spec : {M : Type 1} → statement M

@@ -3,6 +3,7 @@ use mathlib.Core.Path.{refl, sym, subst, _∙_}
 use mathlib.Core.Logic.{inl, inr, ⊎-elim}
 use borrow.Author.Needs.{needs}
 use borrow.Author.Tests.{not-true, not-false}
+use Rattle.model.specs.Kinds.{narrowKind}
 use Rattle.model.specs.declared.Answer.the-variants as A
 use Rattle.model.specs.Listed.{listed}
 use Rattle.model.specs.Stations.{liveAt}
@@ -19,9 +20,9 @@ found c =
     let a = c .before .before .open-at .ensures in
     open-found _ _ _ _ (a .1) (a .2 (c .if1 .left)) _ (c .before .before .before .before .pre) _ (c .if1 .left) (a .0)
 
-used : (c : tie.After-live-at) → Used (listed (c .before .before .before .before .before .args .station) .entries) (c .live-at .result)
+used : (c : tie.After-live-at) → Used narrowKind (listed (c .before .before .before .before .before .args .station) .entries) (c .live-at .result)
 unfolding liveAt
-used c = subst (Used _) (sym (c .live-at .ensures)) (place-used _ _ _ _ (found (c .before)))
+used c = subst (Used _ _) (sym (c .live-at .ensures)) (place-used _ _ _ _ (found (c .before)))
 
 open-at-requires : tie.Need-open-at-requires
 open-at-requires c κs = search needs
@@ -36,7 +37,7 @@ live-at-requires : tie.Need-live-at-requires
 live-at-requires c κs = found c .low
 
 has-written-requires : tie.Need-has-written-requires
-has-written-requires c κs = write-limit _ (used (c .before .before) .sets)
+has-written-requires c κs = write-limit narrowKind _ (used (c .before .before) .sets)
 
 refused-requires-2 : tie.Need-refused-requires-2
 refused-requires-2 c κs = search needs
@@ -51,7 +52,7 @@ returns-2 c =
 with-write-requires : tie.Need-with-write-requires
 with-write-requires c κs =
     let u = used (c .before .before) in
-    (u .sets, (u .zeros, room _ _ (⊎-elim (λ w. inr (sym (w .1 .ensures) ∙ not-false _ (w .2 .left))) (λ w. inl (w .left)) (c .if2 .came))))
+    (u .sets, (u .zeros, room narrowKind _ _ (⊎-elim (λ w. inr (sym (w .1 .ensures) ∙ not-false _ (w .2 .left))) (λ w. inl (w .left)) (c .if2 .came))))
 
 live-changed-requires : tie.Need-live-changed-requires
 live-changed-requires c κs = found (c .before .before .before .before) .low
@@ -62,7 +63,7 @@ returns-3 c =
     as-effect _ _ _ _
     (placed A.Kept _ _ _ _ _ _ refl (c .before .with-write .ensures)
     (put-done _ _ _ _ _ (c .before .before .before .before .before .before .before .before .before .pre) _ (a .0) (c .before .before .before .before .before .if1 .left) _ (a .1) _ (c .before .before .before .before .live-at .ensures)
-    (room _ _ (⊎-elim (λ w. inr (sym (w .1 .ensures) ∙ not-false _ (w .2 .left))) (λ w. inl (w .left)) (c .before .before .if2 .came)))))
+    (room narrowKind _ _ (⊎-elim (λ w. inr (sym (w .1 .ensures) ∙ not-false _ (w .2 .left))) (λ w. inl (w .left)) (c .before .before .if2 .came)))))
     (c .live-changed .ensures)
 
 pub put-spec : {M : Type 1} → statement M

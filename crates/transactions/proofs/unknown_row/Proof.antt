@@ -1,6 +1,6 @@
 -- `transactions::unknown_row` meets its contract. Assumes nothing.
 use borrow.Author.Tests.{eq-eqb, ne-eqb, le-leb, lt-leb}
-use Rattle.model.specs.Limits.{livePlaces, slots}
+use Rattle.model.specs.Limits.{livePlaces, entryPlaces}
 use Rattle.model.proofs.Tests.{and-intro, and-none-left, and-none-right}
 use Rattle.stations.specs.Found.{firstRow}
 use Rattle.transactions.specs.Committing.{unknownRows}
@@ -21,11 +21,11 @@ returns-3 c = rw (c .before .before .if1 .left, ne-eqb _ 0 (c .before .if2 .left
 
 returns-4 : tie.Need-returns-4
 unfolding firstRow unknownRows
-returns-4 c = rw (c .before .before .before .if1 .left, ne-eqb _ 0 (c .before .before .if2 .left), ne-eqb _ 0 (c .before .if3 .left), and-none-right _ _ (lt-leb slots _ (c .if4 .taken)))
+returns-4 c = rw (c .before .before .before .if1 .left, ne-eqb _ 0 (c .before .before .if2 .left), ne-eqb _ 0 (c .before .if3 .left), and-none-right _ _ (lt-leb entryPlaces _ (c .if4 .taken)))
 
 returns-5 : tie.Need-returns-5
 unfolding firstRow unknownRows
-returns-5 c = rw (c .before .before .before .before .if1 .left, ne-eqb _ 0 (c .before .before .before .if2 .left), ne-eqb _ 0 (c .before .before .if3 .left), and-intro _ _ (le-leb livePlaces _ (c .if5 .taken)) (le-leb slots _ (c .before .if4 .left)))
+returns-5 c = rw (c .before .before .before .before .if1 .left, ne-eqb _ 0 (c .before .before .before .if2 .left), ne-eqb _ 0 (c .before .before .if3 .left), and-intro _ _ (le-leb livePlaces _ (c .if5 .taken)) (le-leb entryPlaces _ (c .before .if4 .left)))
 
 returns-6 : tie.Need-returns-6
 unfolding firstRow unknownRows
