@@ -48,15 +48,15 @@ extern "C" {
 #endif
 
 #define GOREHIMU_STORE 13824
-#define GOREHIMU_IMAGE 4544
+#define GOREHIMU_IMAGE 4552
 #define GOREHIMU_REQUEST 16
 #define GOREHIMU_ANSWER 32
 #define GOREHIMU_RECORD 24
 
-/* The version of the image's format: an image is made and read by one version of the library. Version 1 had 4,800 bytes (write sets as lists); an
- * image of that length is refused by its length (1). So after an update recover the station from the store, whose format is the same, with
- * gorehimu_recover: what was live is then dropped, as after a loss of power. */
-#define GOREHIMU_IMAGE_VERSION 2
+/* The version of the image's format: an image is made and read by one version of the library. Versions 1 and 2 had 4,800
+ * and 4,544 bytes (write sets as lists); an image of another length is refused by its length (1). So after an update recover the station from the
+ * store, whose format is the same, with gorehimu_recover: what was live is then dropped, as after a loss of power. */
+#define GOREHIMU_IMAGE_VERSION 3
 
 /* What a request asks. Fields that a verb does not name are 0.
  *

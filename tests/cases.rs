@@ -155,10 +155,9 @@ fn edit(station: &mut Station, field: u64, place: usize, i: usize, x: u64) {
                 _ => *stored = x as u8,
             }
         }
-        7 => l.write_count = x as u8,
+        7 => l.keys = x,
         8 => l.read_count = x as u8,
-        9 => l.writes[i].key = x as u8,
-        10 => l.writes[i].value = x,
+        10 => l.values[i] = x,
         11 => l.reads[i].key = x as u8,
         12 => l.reads[i].id = Id { clock: x, ..l.reads[i].id },
         13 => l.reads[i].id = Id { txn: x as u32, ..l.reads[i].id },

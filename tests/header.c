@@ -41,7 +41,7 @@ static void whole(uint8_t *image, uint8_t *store, uint64_t transaction, uint64_t
 }
 
 int main(void) {
-    static uint8_t image[GOREHIMU_IMAGE], store[GOREHIMU_STORE], bytes[GOREHIMU_REQUEST], answer[GOREHIMU_ANSWER], version_1[4800];
+    static uint8_t image[GOREHIMU_IMAGE], store[GOREHIMU_STORE], bytes[GOREHIMU_REQUEST], answer[GOREHIMU_ANSWER], version_1[4800], version_2[4544];
     const uint64_t most = ~(uint64_t)0;
 
     CHECK(gorehimu_put_number(bytes, 1, 256) == 1 && gorehimu_put_number(bytes, 4, (uint64_t)1 << 32) == 1 && bytes[0] == 0);
@@ -54,9 +54,11 @@ int main(void) {
     CHECK(gorehimu_write_request(bytes, 255, 0xffffffff, 255, most) == 0 && bytes[0] == 255 && bytes[1] == 255 && bytes[15] == 255);
 
     /* an image of version 1 is no image, whatever its bytes */
-    CHECK(GOREHIMU_IMAGE == 4544 && GOREHIMU_IMAGE_VERSION == 2);
+    CHECK(GOREHIMU_IMAGE == 4552 && GOREHIMU_IMAGE_VERSION == 3);
     CHECK(gorehimu_empty(version_1, sizeof version_1) == 1);
     CHECK(gorehimu_recover(version_1, sizeof version_1, store, sizeof store, answer, sizeof answer) == 1);
+    CHECK(gorehimu_empty(version_2, sizeof version_2) == 1);
+    CHECK(gorehimu_recover(version_2, sizeof version_2, store, sizeof store, answer, sizeof answer) == 1);
 
     CHECK(gorehimu_empty(NULL, 0) == 1);
     CHECK(gorehimu_empty(image, sizeof image) == 0);

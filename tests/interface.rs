@@ -11,9 +11,7 @@ use book::{Book, Call};
 use model::*;
 use std::collections::BTreeMap;
 
-const IMAGE: usize = 4544;
-/// The bytes of version 1's image, which had write sets as lists.
-const IMAGE_1: usize = 4800;
+const IMAGE: usize = 4552;
 const REQUEST: usize = 16;
 const ANSWER: usize = 32;
 
@@ -62,19 +60,19 @@ fn recover(image: &mut [u8], store: &[u8], answer: &mut [u8]) -> u32 {
 
 fn encode(s: &Station) -> Vec<u8> {
     let mut b = Vec::with_capacity(IMAGE);
+    b.extend([1, 0, 0, 0, 0, 0, 0, 0]);
     for l in &s.live {
         let (mark, slot, clock, stored) = match l.phase {
             Phase::Unused => (0, 0, 0, 0),
             Phase::Open => (1, 0, 0, 0),
             Phase::Closing { slot, clock, stored } => (2, slot, clock, stored),
         };
-        b.extend([mark, slot, stored, l.write_count]);
+        b.extend([mark, slot, stored, l.read_count]);
         b.extend(l.txn.to_le_bytes());
         b.extend(clock.to_le_bytes());
-        b.extend([l.read_count, 0, 0, 0, 0, 0, 0, 0]);
-        for w in &l.writes {
-            b.extend([w.key, 0, 0, 0, 0, 0, 0, 0]);
-            b.extend(w.value.to_le_bytes());
+        b.extend(l.keys.to_le_bytes());
+        for v in &l.values {
+            b.extend(v.to_le_bytes());
         }
         for r in &l.reads {
             b.extend([r.key, 0, 0, 0]);
@@ -97,17 +95,16 @@ fn decode(b: &[u8]) -> Option<Station> {
     let eight = |at: usize| u64::from_le_bytes(b[at..at + 8].try_into().unwrap());
     let mut s = Station::empty();
     for (i, l) in s.live.iter_mut().enumerate() {
-        let at = 408 * i;
+        let at = 8 + 408 * i;
         l.phase = match b[at] {
             0 => Phase::Unused,
             1 => Phase::Open,
             2 => Phase::Closing { slot: b[at + 1], clock: eight(at + 8), stored: b[at + 2] },
             _ => return None,
         };
-        (l.write_count, l.txn, l.read_count) = (b[at + 3], four(at + 4), b[at + 16]);
-        for (j, w) in l.writes.iter_mut().enumerate() {
-            let at = at + 24 + 16 * j;
-            *w = Write { key: b[at], value: eight(at + 8) };
+        (l.read_count, l.txn, l.keys) = (b[at + 3], four(at + 4), eight(at + 16));
+        for (j, v) in l.values.iter_mut().enumerate() {
+            *v = eight(at + 24 + 8 * j);
         }
         for (j, r) in l.reads.iter_mut().enumerate() {
             let at = at + 152 + 16 * j;
@@ -115,7 +112,7 @@ fn decode(b: &[u8]) -> Option<Station> {
         }
     }
     for (d, e) in s.entries.iter_mut().enumerate() {
-        let at = 3264 + 20 * d;
+        let at = 3272 + 20 * d;
         *e = Entry { id: Id { clock: eight(at + 4), txn: four(at) }, keys: eight(at + 12) };
     }
     (encode(&s) == b).then_some(s)
@@ -709,16 +706,16 @@ fn wrong_lengths() {
     assert_eq!(run(&mut image, &mut store, &[], &mut []), 0, "no request");
 }
 
-/// An image of version 1 is refused by its length, whatever is asked, and nothing is written: it is never read as one of this version.
-fn version_1() {
+/// An image of an older version is refused by its length, whatever is asked, and nothing is written: it is never read as one of this version.
+fn older_versions() {
     let start = request(Call { verb: 1, txn: 7, key: 0, number: 0 });
-    // the empty station's image was all zeros, as it is now
-    for byte in [0, 0x55] {
-        let before = (vec![byte; IMAGE_1], vec![0; STORE], vec![0x77; ANSWER]);
+    // the empty station's image was all zeros
+    for (version, length, byte) in [(1, 4800, 0), (1, 4800, 0x55), (2, 4544, 0), (2, 4544, 0x55)] {
+        let before = (vec![byte; length], vec![0; STORE], vec![0x77; ANSWER]);
         let refused = |what: &str, call: &dyn Fn(&mut [u8], &mut [u8], &mut [u8]) -> u32| {
             let (mut image, mut store, mut answers) = before.clone();
-            assert_eq!(call(&mut image, &mut store, &mut answers), 1, "version 1, {what}");
-            assert!((image, store, answers) == before, "version 1, {what}: something was written");
+            assert_eq!(call(&mut image, &mut store, &mut answers), 1, "version {version}, {what}");
+            assert!((image, store, answers) == before, "version {version}, {what}: something was written");
         };
         refused("a run", &|image, store, answers| run(image, store, &start, answers));
         refused("a run of nothing", &|image, store, _| run(image, store, &[], &mut []));
@@ -759,7 +756,7 @@ fn main() {
     let (first, count) = (args.first().copied().unwrap_or(1), args.get(1).copied().unwrap_or(600));
     let mut seen = Seen::default();
     wrong_lengths();
-    version_1();
+    older_versions();
     nulls();
     every_byte(&mut seen);
     for seed in first..first + count {

@@ -5,6 +5,8 @@ pub const LIVE: usize = 8;
 pub const SLOTS: usize = 64;
 pub const WRITES: usize = 8;
 pub const READS: usize = 16;
+/// The room for a write set's values.
+pub const VALUES: usize = 16;
 pub const RECORD: usize = 24;
 pub const SLOT: usize = RECORD * (WRITES + 1);
 pub const STORE: usize = SLOT * SLOTS;
@@ -25,23 +27,18 @@ pub enum Phase {
 }
 
 #[derive(Clone, Copy, PartialEq, Eq, Debug, Default)]
-pub struct Write {
-    pub key: u8,
-    pub value: u64,
-}
-
-#[derive(Clone, Copy, PartialEq, Eq, Debug, Default)]
 pub struct Read {
     pub key: u8,
     pub id: Id,
 }
 
+/// Bit k of the keys stands for key k; the values are those of the keys, ascending.
 #[derive(Clone, Copy, PartialEq, Eq, Debug, Default)]
 pub struct Live {
     pub txn: u32,
     pub phase: Phase,
-    pub write_count: u8,
-    pub writes: [Write; WRITES],
+    pub keys: u64,
+    pub values: [u64; VALUES],
     pub read_count: u8,
     pub reads: [Read; READS],
 }
@@ -109,9 +106,33 @@ pub fn key_set(keys: impl Iterator<Item = u8>) -> u64 {
     keys.fold(0, |set, key| set | 1 << key)
 }
 
+/// The keys of a set, ascending.
+fn keys_of(set: u64) -> impl Iterator<Item = u8> {
+    let mut left = set;
+    std::iter::from_fn(move || {
+        if left == 0 {
+            return None;
+        }
+        let key = left.trailing_zeros();
+        left &= left - 1;
+        Some(key as u8)
+    })
+}
+
+/// Of a key below 64.
+fn has(set: u64, key: u8) -> bool {
+    set >> key & 1 == 1
+}
+
+/// How many keys of the set are below one.
+fn below(set: u64, key: u8) -> usize {
+    (set & ((1 << key) - 1)).count_ones() as usize
+}
+
 impl Live {
-    pub fn writes(&self) -> &[Write] {
-        &self.writes[..usize::from(self.write_count)]
+    /// How many keys it writes.
+    pub fn written(&self) -> usize {
+        self.keys.count_ones() as usize
     }
 
     pub fn reads(&self) -> &[Read] {
@@ -119,15 +140,13 @@ impl Live {
     }
 
     fn put(&mut self, key: u8, value: u64) {
-        let n = usize::from(self.write_count);
-        match self.writes[..n].binary_search_by_key(&key, |w| w.key) {
-            Ok(at) => self.writes[at].value = value,
-            Err(at) => {
-                self.writes.copy_within(at..n, at + 1);
-                self.writes[at] = Write { key, value };
-                self.write_count += 1;
-            }
+        let at = below(self.keys, key);
+        if !has(self.keys, key) {
+            let n = self.written();
+            self.values.copy_within(at..n, at + 1);
+            self.keys |= 1 << key;
         }
+        self.values[at] = value;
     }
 
     fn join(&mut self, key: u8, id: Id) {
@@ -144,21 +163,21 @@ impl Live {
 
     /// The entry that this transaction becomes.
     fn entry(&self, clock: u64) -> Entry {
-        Entry { id: Id { clock, txn: self.txn }, keys: key_set(self.writes().iter().map(|w| w.key)) }
+        Entry { id: Id { clock, txn: self.txn }, keys: self.keys }
     }
 
     fn sound(&self, station: &Station) -> bool {
         if self.phase == Phase::Unused {
             return *self == Live::default();
         }
-        let (w, r) = (usize::from(self.write_count), usize::from(self.read_count));
+        let (w, r) = (self.written(), usize::from(self.read_count));
         if self.txn == 0 || w > WRITES || r > READS {
             return false;
         }
-        if !ascends(self.writes().iter().map(|x| x.key)) || !ascends(self.reads().iter().map(|x| x.key)) {
+        if !ascends(self.reads().iter().map(|x| x.key)) {
             return false;
         }
-        if self.writes[w..].iter().any(|x| *x != Write::default()) || self.reads[r..].iter().any(|x| *x != Read::default()) {
+        if self.values[w..].iter().any(|x| *x != 0) || self.reads[r..].iter().any(|x| *x != Read::default()) {
             return false;
         }
         if !self.reads().iter().all(|x| station.held().any(|(_, e)| e.id == x.id && e.wrote(x.key))) {
@@ -176,25 +195,17 @@ impl Live {
 impl Entry {
     /// The keys written, ascending.
     pub fn keys(&self) -> impl Iterator<Item = u8> {
-        let mut left = self.keys;
-        std::iter::from_fn(move || {
-            if left == 0 {
-                return None;
-            }
-            let key = left.trailing_zeros();
-            left &= left - 1;
-            Some(key as u8)
-        })
+        keys_of(self.keys)
     }
 
     /// Of a key below 64.
     pub fn wrote(&self, key: u8) -> bool {
-        self.keys >> key & 1 == 1
+        has(self.keys, key)
     }
 
     /// The number of the version record of a key that it wrote: one for each key, ascending.
     fn record_of(&self, key: u8) -> usize {
-        1 + (self.keys & ((1 << key) - 1)).count_ones() as usize
+        1 + below(self.keys, key)
     }
 
     /// The commit record's rules, as far as they are about an entry.
@@ -354,7 +365,7 @@ impl Station {
             Err(r) => return r,
         };
         let l = &mut self.live[i];
-        if usize::from(l.write_count) == WRITES && !l.writes().iter().any(|w| w.key == key) {
+        if l.written() == WRITES && !has(l.keys, key) {
             return refused(11);
         }
         l.put(key, value);
@@ -401,8 +412,8 @@ impl Station {
             Err(r) => return r,
         };
         let l = &self.live[i];
-        if let Some(w) = l.writes().iter().find(|w| w.key == key) {
-            return Answer::Own(w.value);
+        if has(l.keys, key) {
+            return Answer::Own(l.values[below(l.keys, key)]);
         }
         let d = match self.choose(l, key) {
             Ok(d) => d,
@@ -437,7 +448,7 @@ impl Station {
             Ok(i) => i,
             Err(r) => return r,
         };
-        if self.live[i].write_count == 0 {
+        if self.live[i].keys == 0 {
             self.live[i] = Live::default();
             return Answer::Empty;
         }
@@ -462,19 +473,19 @@ impl Station {
         let Phase::Closing { slot, clock, stored } = l.phase else { return refused(10) };
         let (d, n) = (usize::from(slot), usize::from(stored));
         let e = l.entry(clock);
-        if n > l.writes().len() {
+        if n > l.written() {
             self.live[i] = Live::default();
             self.entries[d] = e;
             return Answer::Done(e.id);
         }
         self.live[i].phase = Phase::Closing { slot, clock, stored: stored + 1 };
-        if n == l.writes().len() {
+        if n == l.written() {
             write(store, d, 0, &commit_record(&e));
             return Answer::Slipped(slot);
         }
-        let w = l.writes[n];
-        write(store, d, n + 1, &version_record(w.key, e.id, w.value));
-        Answer::Stored(w.key)
+        let key = e.keys().nth(n).expect("a key is left to store");
+        write(store, d, n + 1, &version_record(key, e.id, l.values[n]));
+        Answer::Stored(key)
     }
 
     pub fn abort(&mut self, txn: u32) -> Answer {

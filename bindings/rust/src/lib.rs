@@ -23,17 +23,18 @@
 pub const STORE: usize = 13824;
 
 /// The bytes of a station's image.
-pub const IMAGE: usize = 4544;
+pub const IMAGE: usize = 4552;
 
-/// The version of the image's format: an image is made and read by one version of the library. Version 1 had 4,800 bytes (write sets as lists); an
-/// image of that length is refused by its length. So after an update recover the station from the store, whose format is the same, with
-/// [`Desk::recover`]: what was live is then dropped, as after a loss of power.
+/// The version of the image's format: an image is made and read by one version of the library. Versions 1 and 2 had 4,800
+/// and 4,544 bytes (write sets as lists); an image of another length is refused by its length. So after an update recover the station from the
+/// store, whose format is the same, with [`Desk::recover`]: what was live is then dropped, as after a loss of power.
 ///
 /// ```
-/// assert_eq!(gorehimu::IMAGE_VERSION, 2);
+/// assert_eq!(gorehimu::IMAGE_VERSION, 3);
 /// assert!(!gorehimu::empty(&mut [0; 4800]));
+/// assert!(!gorehimu::empty(&mut [0; 4544]));
 /// ```
-pub const IMAGE_VERSION: u32 = 2;
+pub const IMAGE_VERSION: u32 = 3;
 
 /// The bytes of a record.
 pub const RECORD: usize = 24;

@@ -9,7 +9,6 @@ use calls::Outcome;
 use calls::Phase;
 use calls::Read;
 use calls::Station;
-use calls::Write;
 use calls::abort;
 use calls::collect;
 use calls::commit;
@@ -60,7 +59,6 @@ fn read(key: u8, base: u8) -> Read {
 // An open transaction with a number of reads.
 fn live(txn: u32, reads: u8, base: u8) -> Live {
     let none = Id { clock: 0, txn: 0 };
-    let write = Write { key: 0, value: 0 };
     let unread = Read { key: 0, id: none };
     let mut list = [unread; 16];
     let mut i: u8 = 0;
@@ -74,8 +72,8 @@ fn live(txn: u32, reads: u8, base: u8) -> Live {
     Live {
         txn,
         phase: Phase::Open,
-        write_count: 0,
-        writes: [write; 8],
+        keys: 0,
+        values: [0; Station::WRITE_PLACES],
         read_count: reads,
         reads: list,
     }

@@ -20,7 +20,6 @@ pub use model::Outcome;
 pub use model::Phase;
 pub use model::Read;
 pub use model::Station;
-pub use model::Write;
 pub use recovery::scan;
 use soundness::is_sound;
 use stations::changed;

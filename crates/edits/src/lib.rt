@@ -6,7 +6,6 @@ use model::Live;
 use model::Phase;
 use model::Read;
 use model::Station;
-use model::Write;
 use model::same_id;
 
 fn wide(x: u8) -> u64 {
@@ -22,19 +21,10 @@ pub fn low32(x: u64) -> u32 {
     (x % 4294967296) as u32
 }
 
-fn same_write(a: Write, b: Write) -> bool {
-    if a.key != b.key {
-        return false;
-    }
-    a.value == b.value
-}
-
-fn same_writes(a: [Write; Station::WRITES], b: [Write; Station::WRITES]) -> bool {
+fn same_values(a: [u64; Station::WRITE_PLACES], b: [u64; Station::WRITE_PLACES]) -> bool {
     let mut i = 0;
-    while i < Station::WRITES {
-        let x = a[i];
-        let y = b[i];
-        if !same_write(x, y) {
+    while i < Station::WRITE_PLACES {
+        if a[i] != b[i] {
             return false;
         }
         i += 1;
@@ -102,15 +92,15 @@ fn same_phase(a: Live, b: Live) -> bool {
 }
 
 fn same_sets(a: Live, b: Live) -> bool {
-    if a.write_count != b.write_count {
+    if a.keys != b.keys {
         return false;
     }
     if a.read_count != b.read_count {
         return false;
     }
-    let v = a.writes;
-    let w = b.writes;
-    if !same_writes(v, w) {
+    let v = a.values;
+    let w = b.values;
+    if !same_values(v, w) {
         return false;
     }
     let r = a.reads;
@@ -206,20 +196,6 @@ fn edited_phase(p: Phase, field: u64, x: u64) -> Phase {
     edited_closing(p, field, x)
 }
 
-// 9: key. 10: value.
-fn edited_write(w: Write, field: u64, x: u64) -> Write {
-    if field == 9 {
-        return Write {
-            key: low8(x),
-            value: w.value,
-        };
-    }
-    Write {
-        key: w.key,
-        value: x,
-    }
-}
-
 // 11: key. 12: clock. 13: number.
 fn edited_read(r: Read, field: u64, x: u64) -> Read {
     let id = r.id;
@@ -249,14 +225,12 @@ fn edited_read(r: Read, field: u64, x: u64) -> Read {
     }
 }
 
-fn with_write(l: Live, field: u64, i: usize, x: u64) -> Live {
-    if i >= Station::WRITES {
+fn with_value(l: Live, i: usize, x: u64) -> Live {
+    if i >= Station::WRITE_PLACES {
         return l;
     }
     let mut m = l;
-    let w = l.writes[i];
-    let v = edited_write(w, field, x);
-    m.writes[i] = v;
+    m.values[i] = x;
     m
 }
 
@@ -271,7 +245,7 @@ fn with_read(l: Live, field: u64, i: usize, x: u64) -> Live {
     m
 }
 
-// 0: number. 1 to 6: phase. 7: keys written. 8: keys read. 9, 10: a write. 11 to 13: a read.
+// 0: number. 1 to 6: phase. 7: keys written, bit k of the value standing for key k. 8: how many keys are read. 10: a value. 11 to 13: a read.
 fn edited_live(l: Live, field: u64, i: usize, x: u64) -> Live {
     let mut m = l;
     if field == 0 {
@@ -283,7 +257,7 @@ fn edited_live(l: Live, field: u64, i: usize, x: u64) -> Live {
         return stations::with_phase(l, edited_phase(p, field, x));
     }
     if field == 7 {
-        m.write_count = low8(x);
+        m.keys = x;
         return m;
     }
     if field == 8 {
@@ -291,7 +265,7 @@ fn edited_live(l: Live, field: u64, i: usize, x: u64) -> Live {
         return m;
     }
     if field < 11 {
-        return with_write(l, field, i, x);
+        return with_value(l, i, x);
     }
     with_read(l, field, i, x)
 }

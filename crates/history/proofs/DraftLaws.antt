@@ -9,8 +9,7 @@ use lib.Dec.{eqb}
 use lib.ListN.{length}
 use native.Mathlib.Decide.{ℕ-discrete}
 use borrow.Author.Tests.{eqb-true, eqb-false, eq-eqb, ne-eqb}
-use Rattle.model.specs.declared.Live.{Live}
-use Rattle.model.specs.Types.{Station}
+use Rattle.model.specs.Types.{Live, Station}
 use Rattle.model.specs.Lives.{noLive}
 use Rattle.model.specs.Stations.{liveAt, setLive, isLive, placeOf}
 use Rattle.model.specs.Sound.{sound}

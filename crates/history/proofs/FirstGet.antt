@@ -13,15 +13,14 @@ use native.Mathlib.Omega.{arith}
 use borrow.Author.Tests.{ne-eqb, lt-leb}
 use Rattle.model.specs.declared.Id.{Id}
 use Rattle.model.specs.declared.Read.{Read}
-use Rattle.model.specs.declared.Live.{Live}
-use Rattle.model.specs.Types.{Entry, Station}
+use Rattle.model.specs.Types.{Entry, Live, Station}
 use Rattle.model.specs.declared.Answer.the-variants as A
 use Rattle.model.specs.Limits.{keys, readLimit}
 use Rattle.model.specs.Ids.{older}
 use Rattle.model.specs.Lives.{readsOf, hasWritten, isClosing}
 use Rattle.model.specs.Entries.{noEntry, keysOf, wrote}
 use Rattle.model.specs.Stations.{liveAt, entryAt, isLive, placeOf}
-use Rattle.model.specs.Ranges.{LiveFits, ListsFit}
+use Rattle.model.specs.Ranges.{LiveListFits, ListsFit}
 use Rattle.model.specs.Records.{valueIn}
 use Rattle.model.specs.Sound.{sound}
 use Rattle.model.specs.Reading.{version}
@@ -83,7 +82,7 @@ module _ (st : Station) (s : List ℕ) (b : Ledger) (inv : Inv st s b) (h : soun
     none-read : l .«read_count» ≡ 0
     unfolding readsOf
     none-read =
-        let f : length (l .reads) ≡ readLimit = unfold liveAt in every-at LiveFits (st .live) (fits .live) (placeOf u st) _ (place-hit st u lives .0) .read-places in
+        let f : length (l .reads) ≡ readLimit = unfold liveAt in every-at LiveListFits (st .live) (fits .live) (placeOf u st) _ (place-hit st u lives .0) .read-places in
         let o = read-limit (st .kind) l (live-facts st h (placeOf u st) (λ y. is-numbered (sym (place-hit st u lives .1) ∙ y)) .sets) in
         sym (length-take-le (l .«read_count») (l .reads) (omega (arith, f, o))) ∙ ap length no-reads
 

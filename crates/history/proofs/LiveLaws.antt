@@ -6,8 +6,7 @@ use mathlib.Core.List.{List, List·Memᴰ·not-nil}
 use lib.Dec.{lit<}
 use lib.ListN.{length}
 use native.Mathlib.Decide.{ℕ-discrete}
-use Rattle.model.specs.declared.Live.{Live}
-use Rattle.model.specs.Types.{Entry, Station}
+use Rattle.model.specs.Types.{Entry, Live, Station}
 use Rattle.model.specs.declared.Phase.the-variants.{Closing}
 use Rattle.model.specs.Kinds.{Kind}
 use Rattle.model.specs.Lives.{noLive, writesOf, readsOf, isClosing, closingClock}

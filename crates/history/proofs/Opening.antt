@@ -9,9 +9,7 @@ use lib.Dec.{eqb, ltb, lit<}
 use lib.ListN.{length}
 use native.Mathlib.Omega.{arith}
 use borrow.Author.Tests.{ltb-true, eqb-true, eqb-false, not-false}
-use Rattle.model.specs.declared.Write.{Write}
-use Rattle.model.specs.declared.Live.{Live}
-use Rattle.model.specs.Types.{Entry, Station}
+use Rattle.model.specs.Types.{Entry, Write, Live, Station}
 use Rattle.model.specs.declared.Answer.the-variants as A
 use Rattle.model.specs.Lists.{_and_, insert}
 use Rattle.model.specs.Limits.{txnRange, numberRange}

@@ -1,38 +1,26 @@
 -- 02 §5: "Prove the two equal in every answer, sound stations translated both ways.": the functions, which work on write sets that are numbers, against the
 -- definitions, which work on lists.
 use Prim.Native.Nat.{ℕ}
-use mathlib.Core.Path.{_≡_, refl, sym, ap, ap₂, subst, _∙_}
+use mathlib.Core.Path.{_≡_, sym, ap, subst, _∙_}
 use mathlib.Core.Bool.{true}
-use mathlib.Core.List.{List, [], _∷_, map}
+use mathlib.Core.List.{List}
 use Rattle.model.specs.declared as machine
-use Rattle.model.specs.Types.{Entry, Station, Outcome}
-use Rattle.model.specs.Kinds.{Kind, narrowKind}
-use Rattle.model.specs.Lists.{all}
-use Rattle.model.specs.Listed.{listedEntries, listed, numberedEntry, numbered}
+use Rattle.model.specs.Types.{Station, Outcome}
+use Rattle.model.specs.Kinds.{narrowKind}
+use Rattle.model.specs.Listed.{listed, numbered}
 use Rattle.model.specs.Ranges.{Every, IsByte, StationFits, ListsFit}
-use Rattle.model.specs.Sound.{entryRight, sound}
+use Rattle.model.specs.Sound.{sound}
 use Rattle.model.specs.Effects.{Effect, outcomeOf, stored}
 use Rattle.model.specs.Calls.{Call, does, IsTyped}
-use Rattle.model.proofs.Tests.{and-left}
-use Rattle.model.proofs.ListLaws.{all-head, all-tail}
-use Rattle.model.proofs.KeySetLaws.{number-set}
-use Rattle.model.proofs.InsideLaws.{right-ascending}
 use Rattle.model.proofs.ListedLaws.{station-back, station-there, numbered-fits}
 use Rattle.model.proofs.SoundKept.{sound-kept}
 use Rattle.history.specs.Contracts.{Returned, Functions, Meets, returned}
 use Rattle.history.proofs.Carried.{returned-is}
 
 -- ── a station translated there and back is itself ──
-entries-there : (κ : Kind) (es : List Entry) → all (entryRight κ) es ≡ true → listedEntries (map numberedEntry es) ≡ es
-entries-there κ [] h = refl
-entries-there κ (e ∷ es) h = ap₂ (λ (x : Entry) (xs : List Entry). x ∷ xs)
-    (λ z. record { id = e .id; keys = number-set (e .keys) (right-ascending κ e (all-head (entryRight κ) e es h)) z })
-    (entries-there κ es (all-tail (entryRight κ) e es h))
-
--- a sound station of the definitions: its key lists ascend
-pub sound-there : (st : Station) → st .kind ≡ narrowKind → sound st ≡ true → listed (numbered st) ≡ st
-unfolding sound
-sound-there st k h = λ z. record { kind = sym k z; live = st .live; entries = entries-there (st .kind) (st .entries) (and-left _ _ (and-left _ _ (and-left _ _ (and-left _ _ h)))) z }
+-- a station of the definitions that has a machine's places and ranges, the sound ones among them
+pub sound-there : (st : Station) → st .kind ≡ narrowKind → ListsFit st → listed (numbered st) ≡ st
+sound-there st k f = station-there st k f
 
 -- every station of the machine, the sound ones among them
 pub sound-back : (st : machine.Station.Station) → StationFits st → numbered (listed st) ≡ st

@@ -6,10 +6,8 @@ use mathlib.Core.Bool.{cond}
 use mathlib.Core.List.{List, [], _∷_, List·Memᴰ}
 use mathlib.Core.Option.{Option, some, none}
 use lib.Dec.{eqb}
-use Rattle.model.specs.declared.Write.{Write}
 use Rattle.model.specs.declared.Read.{Read}
-use Rattle.model.specs.declared.Live.{Live}
-use Rattle.model.specs.Types.{Station}
+use Rattle.model.specs.Types.{Write, Live, Station}
 use Rattle.model.specs.Lives.{writesOf, readsOf, closingClock}
 use Rattle.model.specs.Stations.{liveAt}
 use Rattle.history.specs.Ledger.{Draft}

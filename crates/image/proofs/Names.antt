@@ -1,5 +1,5 @@
 -- Names that the laws and the proofs of the functions cite, in one place.
-pub use Prim.Native.Nat.{_+_, _*_, _-_, _≤_, ℕ, zero, suc, _/_, _%_, _<_, _^_, suc-le-suc}
+pub use Prim.Native.Nat.{_+_, _*_, _-_, _≤_, ℕ, zero, suc, _<_, _^_, suc-le-suc}
 pub use mathlib.Core.Path.{_≡_, refl, sym, ap, ap₂, _∙_, subst}
 pub use mathlib.Core.Logic.{_≢_}
 pub use mathlib.Core.Bool.{Bool, true, false, true≢false}
@@ -14,14 +14,14 @@ pub use borrow.Author.Needs.{needs}
 pub use borrow.Author.Tests.{not-true, not-false, eqb-true, eq-eqb, ne-eqb}
 pub use borrow.Rule.Slice.PartMut.{putMid, midOf, mid-len, same-len-mid}
 pub use Rattle.model.specs.declared.Id.{Id}
-pub use Rattle.model.specs.declared.Write.{Write}
 pub use Rattle.model.specs.declared.Live.{Live}
 pub use Rattle.model.specs.declared.Entry.{Entry}
 pub use Rattle.model.specs.declared.Phase.{Phase}
 pub use Rattle.model.specs.declared.Phase.the-variants.{Unused, Open, Closing}
 pub use Rattle.model.specs.declared.Station.{Station}
 pub use Rattle.model.specs.Limits.{writePlaces, readLimit, numberRange, byteRange, livePlaces, entryPlaces}
-pub use Rattle.model.specs.Ranges.{IsByte, IdFits, WriteFits, ReadFits, PhaseFits, LiveFits, EntryFits, Every, StationFits}
+pub use Rattle.model.specs.Kinds.{narrowKind}
+pub use Rattle.model.specs.Ranges.{IsByte, IdFits, ReadFits, PhaseFits, LiveFits, EntryFits, Every, StationFits}
 unfoldable pub use Rattle.model.specs.Lists.{_and_, all, same}
 unfoldable pub use Rattle.model.specs.Bytes.{bytes, number, idIn}
 unfoldable pub use Rattle.model.specs.Lives.{closingSlot, closingClock, recordsStored}
@@ -32,5 +32,5 @@ pub use Rattle.model.proofs.RangesKept.{bytes-zeros}
 pub use Rattle.model.proofs.RecordLaws.{Bytes, bytes-take, bytes-drop, length-bytes, number-bytes, same-refl, bytes-number, same-true}
 pub use Rattle.records.proofs.SlotSteps.{part-length}
 pub use Rattle.image.specs.Layout.{Field, num, raw}
-unfoldable pub use Rattle.image.specs.Layout.{headSize, itemSize, writesSize, readsSize, placeSize, fieldBytes, row, flat, parts, writeRow, writeBytes, writeFrom, startBytes, readRow, readBytes, readFrom, entryRow, entryBytes, entryFrom, phaseNumber, phaseOf, phaseFrom, headRow, placeHead, byte, zeros, placesSize, entrySize, entriesSize, imageSize}
-unfoldable pub use Rattle.image.specs.Images.{isAlone, placeBytes, placeFrom, isHead, isPlace, stationBytes, stationIn, isImage}
+unfoldable pub use Rattle.image.specs.Layout.{kindSize, headSize, valueSize, valuesSize, readSize, readsSize, placeSize, fieldBytes, row, flat, parts, kindRow, kindBytes, valueBytes, valueFrom, startBytes, readRow, readBytes, readFrom, entryRow, entryBytes, entryFrom, phaseNumber, phaseOf, phaseFrom, headRow, placeHead, keysFrom, byte, zeros, placesSize, entrySize, entriesSize, imageSize}
+unfoldable pub use Rattle.image.specs.Images.{isAlone, placeBytes, placeFrom, isKind, isHead, isPlace, stationBytes, stationIn, isImage}

@@ -70,7 +70,13 @@ module _ {A : Type 0} where
     pub long : length xs ≡ n
     pub read : take i xs ++ map g (parts k (n - i) (drop (k * i) b)) ≡ map g (parts k n b)
 
-  -- all of them the first, as the loops begin
+  -- none of them yet
+  pub read-none : (g : List ℕ → A) (k n : ℕ) (b : List ℕ) (xs : List A) → length xs ≡ n → Taken g k n b xs 0
+  read-none g k n b xs l =
+      let e : n - 0 ≡ n = omega arith in
+      record { within = omega arith; long = l; read = rw (mul-zero k, e) }
+
+  -- all of them the first, as the loops over structs begin
   pub read-start : (g : List ℕ → A) (k n : ℕ) (b : List ℕ) (x : A) → x ≡ g (take k b) → Taken g k (suc n) b (replicate (suc n) x) 1
   unfolding parts
   read-start g k n b x h =

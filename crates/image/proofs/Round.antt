@@ -1,8 +1,8 @@
 -- A station is written as bytes from which it is read back, and bytes are an image exactly where they are those of the station read.
-use Rattle.image.proofs.Names.{ℕ, _+_, _≤_, _≡_, refl, sym, ap, ap₂, _∙_, _≢_, Bool, true, false, List, [], _∷_, _++_, map, length, take, drop, length-append, length-drop, drop-at, arith, eqb-true, eq-eqb, ne-eqb, Station, livePlaces, entryPlaces, entrySize, _and_, all, same, and-left, and-right, and-intro, Bytes, bytes-drop, same-refl, same-true, placeSize, placesSize, entriesSize, imageSize, flat, parts, entryBytes, entryFrom, placeBytes, isPlace, stationBytes, stationIn, isImage, StationFits, Every, IsByte, every-append}
+use Rattle.image.proofs.Names.{ℕ, _+_, _≤_, _≡_, sym, ap, ap₂, _∙_, _≢_, Bool, true, false, List, _++_, map, length, take, drop, length-append, length-drop, drop-at, drop-drop, arith, eqb-true, eq-eqb, ne-eqb, Station, livePlaces, entryPlaces, entrySize, narrowKind, _and_, all, same, and-left, and-right, and-intro, Bytes, bytes-drop, same-refl, same-true, kindSize, placeSize, placesSize, entriesSize, imageSize, flat, parts, kindBytes, entryBytes, entryFrom, placeBytes, placeFrom, isKind, isPlace, stationBytes, stationIn, isImage, StationFits, Every, IsByte, every-append}
 use Rattle.image.proofs.PartLaws.{parts-take}
-use Rattle.image.proofs.RowLaws.{and-end, begins-then, begins-all, array-long, array-back, array-last, array-many, array-fits, array-begins, array-bytes}
-use Rattle.image.proofs.PlaceLaws.{anyBytes, entry-coded, place-coded}
+use Rattle.image.proofs.RowLaws.{and-end, begins-part, begins-then, begins-at, begins-all, array-long, array-back, array-last, array-many, array-fits, array-begins, array-bytes}
+use Rattle.image.proofs.PlaceLaws.{kind-long, kind-bytes, anyBytes, any-parts, entry-coded, place-coded}
 
 -- ── bytes are an image ──
 pub no-image : (b : List ℕ) → length b ≢ imageSize → isImage b ≡ false
@@ -13,57 +13,73 @@ pub image-length : (b : List ℕ) → isImage b ≡ true → length b ≡ imageS
 unfolding isImage
 image-length b h = eqb-true (length b) imageSize (and-left _ _ h)
 
--- of the right length, where every place is one: any entries' bytes are some entries'
-any-parts : (bs : List (List ℕ)) → all anyBytes bs ≡ true
-unfolding all
-any-parts [] = refl
-any-parts (b ∷ bs) = any-parts bs
-
+-- of the right length, where the kind is one, and every place: any entries' bytes are some entries'
 module _ (b : List ℕ) (l : length b ≡ imageSize) (y : Bytes b) where
-  entries-in : entriesSize ≤ length (drop placesSize b)
-  entries-in = omega (arith, length-drop placesSize b)
+  abbrev placesPart : List ℕ
+  placesPart = drop kindSize b
 
-  image-tested : isImage b ≡ (all isPlace (parts placeSize livePlaces b) and all anyBytes (parts entrySize entryPlaces (drop placesSize b)))
-  unfolding isImage stationBytes stationIn _and_
+  abbrev entriesPart : List ℕ
+  entriesPart = drop (kindSize + placesSize) b
+
+  places-in : placesSize ≤ length placesPart
+  places-in = omega (arith, length-drop kindSize b)
+
+  entries-in : entriesSize ≤ length entriesPart
+  entries-in = omega (arith, length-drop (kindSize + placesSize) b)
+
+  image-tested : isImage b ≡ (isKind (take kindSize b) and (all isPlace (parts placeSize livePlaces placesPart) and all anyBytes (parts entrySize entryPlaces entriesPart)))
+  unfolding isImage isKind stationBytes stationIn _and_
   image-tested =
-      let p = array-begins place-coded livePlaces b (omega arith) y in
-      let e = array-begins entry-coded entryPlaces (drop placesSize b) entries-in (bytes-drop placesSize b y) in
-      let o : length b ≤ placesSize + entriesSize = omega arith in
-      ap (λ (t : Bool). t and same (stationBytes (stationIn b)) b) (eq-eqb (length b) imageSize l) ∙ begins-all (begins-then p e) o
+      let k = begins-part (kindBytes (narrowKind .mark)) b kindSize kind-long (omega arith) in
+      let p = array-begins place-coded livePlaces placesPart places-in (bytes-drop kindSize b y) in
+      let e = array-begins entry-coded entryPlaces entriesPart entries-in (bytes-drop (kindSize + placesSize) b y) in
+      let o : length b ≤ kindSize + (placesSize + entriesSize) = omega arith in
+      ap (λ (t : Bool). t and same (stationBytes (stationIn b)) b) (eq-eqb (length b) imageSize l) ∙ begins-all (begins-then k (begins-then p (begins-at (drop-drop placesSize kindSize b) e))) o
 
-  pub image-is : isImage b ≡ all isPlace (parts placeSize livePlaces (take placesSize b))
+  pub image-is : isImage b ≡ (isKind (take kindSize b) and all isPlace (parts placeSize livePlaces (take placesSize placesPart)))
   image-is =
       image-tested
-      ∙ ap₂ _and_ (ap (all isPlace) (sym (parts-take placeSize livePlaces b (omega arith)))) (any-parts (parts entrySize entryPlaces (drop placesSize b)))
-      ∙ and-end (all isPlace (parts placeSize livePlaces (take placesSize b)))
+      ∙ ap (λ (t : Bool). isKind (take kindSize b) and t)
+      (ap₂ _and_ (ap (all isPlace) (sym (parts-take placeSize livePlaces placesPart places-in))) (any-parts (parts entrySize entryPlaces entriesPart))
+      ∙ and-end (all isPlace (parts placeSize livePlaces (take placesSize placesPart))))
 
   -- what is read off bytes is in its ranges
   pub image-fits : StationFits (stationIn b)
   unfolding stationIn
   image-fits = record {
-    live-places = array-many place-coded livePlaces b;
-    live = array-fits place-coded livePlaces b (omega arith) y;
-    entry-places = array-many entry-coded entryPlaces (drop placesSize b);
-    entries = array-fits entry-coded entryPlaces (drop placesSize b) entries-in (bytes-drop placesSize b y);
+    live-places = array-many place-coded livePlaces placesPart;
+    live = array-fits place-coded livePlaces placesPart places-in (bytes-drop kindSize b y);
+    entry-places = array-many entry-coded entryPlaces entriesPart;
+    entries = array-fits entry-coded entryPlaces entriesPart entries-in (bytes-drop (kindSize + placesSize) b y);
   }
 
 -- ── there and back ──
 module _ (st : Station) (f : StationFits st) where
-  places-long : length (flat placeBytes (st .live)) ≡ placesSize
-  places-long = array-long place-coded (st .live) livePlaces (f .live-places) (f .live)
+  abbrev kindPart : List ℕ
+  kindPart = kindBytes (narrowKind .mark)
 
-  -- the image has 4,544 bytes
+  abbrev livePart : List ℕ
+  livePart = flat placeBytes (st .live)
+
+  abbrev entryPart : List ℕ
+  entryPart = flat entryBytes (st .entries)
+
+  live-long : length livePart ≡ placesSize
+  live-long = array-long place-coded (st .live) livePlaces (f .live-places) (f .live)
+
+  -- the image has 4,552 bytes
   pub image-long : length (stationBytes st) ≡ imageSize
   unfolding stationBytes
-  image-long = length-append (flat placeBytes (st .live)) (flat entryBytes (st .entries)) ∙ ap₂ _+_ places-long (array-long entry-coded (st .entries) entryPlaces (f .entry-places) (f .entries))
+  image-long = length-append kindPart (livePart ++ entryPart) ∙ ap₂ _+_ kind-long (length-append livePart entryPart ∙ ap₂ _+_ live-long (array-long entry-coded (st .entries) entryPlaces (f .entry-places) (f .entries)))
 
   -- the station is read off its image
   pub station-back : stationIn (stationBytes st) ≡ st
   unfolding stationBytes stationIn
   station-back =
-      let d : drop placesSize (flat placeBytes (st .live) ++ flat entryBytes (st .entries)) ≡ flat entryBytes (st .entries) = drop-at (flat placeBytes (st .live)) (flat entryBytes (st .entries)) placesSize places-long in
+      let k : drop kindSize (kindPart ++ (livePart ++ entryPart)) ≡ livePart ++ entryPart = drop-at kindPart (livePart ++ entryPart) kindSize kind-long in
+      let d : drop (kindSize + placesSize) (kindPart ++ (livePart ++ entryPart)) ≡ entryPart = sym (drop-drop placesSize kindSize (kindPart ++ (livePart ++ entryPart))) ∙ ap (drop placesSize) k ∙ drop-at livePart entryPart placesSize live-long in
       λ z. record {
-        live = array-back place-coded (st .live) livePlaces (f .live-places) (f .live) (flat entryBytes (st .entries)) z;
+        live = (ap (λ (b : List ℕ). map placeFrom (parts placeSize livePlaces b)) k ∙ array-back place-coded (st .live) livePlaces (f .live-places) (f .live) entryPart) z;
         entries = (ap (λ (b : List ℕ). map entryFrom (parts entrySize entryPlaces b)) d ∙ array-last entry-coded (st .entries) entryPlaces (f .entry-places) (f .entries)) z;
       }
 
@@ -74,7 +90,7 @@ module _ (st : Station) (f : StationFits st) where
   -- every number of it is a byte
   pub image-bytes : Every IsByte (stationBytes st)
   unfolding stationBytes
-  image-bytes = every-append IsByte (flat placeBytes (st .live)) (flat entryBytes (st .entries)) (array-bytes place-coded (st .live) (f .live)) (array-bytes entry-coded (st .entries) (f .entries))
+  image-bytes = every-append IsByte kindPart (livePart ++ entryPart) kind-bytes (every-append IsByte livePart entryPart (array-bytes place-coded (st .live) (f .live)) (array-bytes entry-coded (st .entries) (f .entries)))
 
 -- bytes that are a station's image
 pub image-of : (st : Station) (b : List ℕ) → StationFits st → b ≡ stationBytes st → (isImage b ≡ true) × (stationIn b ≡ st)

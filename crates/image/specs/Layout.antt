@@ -1,14 +1,14 @@
--- The station as an image of fixed length in lent bytes, for hosts in other languages: sizes, and the bytes of each part.
--- "All numbers are least byte first; 4,544 bytes.
+-- The station as an image of fixed length in lent bytes, for hosts in other languages (image version 3): sizes, and the bytes of each part.
+-- "All numbers are least byte first; 4,552 bytes.
+-- Head, 8 bytes: byte 0 the kind of the station's store, by its mark (1 narrow), bytes 1 to 7 zero.
 -- Live place, 408 bytes, eight of them: byte 0 phase (0 unused, 1 open, 2 closing), byte 1 slot, byte 2 records stored (both 0 unless
--- closing), byte 3 count of writes, bytes 4 to 7 transaction, bytes 8 to 15 clock (0 unless closing), byte 16 count of reads, bytes 17
--- to 23 zero; then 8 writes of 16 bytes (key, seven zeros, value 8); then 16 reads of 16 bytes (key, three zeros, transaction 4, clock 8).
+-- closing), byte 3 count of reads, bytes 4 to 7 transaction, bytes 8 to 15 clock (0 unless closing), bytes 16 to 23 the write set's keys (a
+-- number in which bit k stands for key k); then 16 values of 8 bytes; then 16 reads of 16 bytes (key, three zeros, transaction 4, clock 8).
 -- Entry, 20 bytes, 64 of them after the places: transaction 4, clock 8, keys 8 (a number in which bit k stands for key k)."
 use Prim.Native.Nat.{ℕ, zero, suc, _+_, _*_}
 use mathlib.Core.List.{List, [], _∷_, _++_}
 use lib.ListN.{take, drop, getD, replicate}
 use Rattle.model.specs.declared.Id.{Id}
-use Rattle.model.specs.declared.Write.{Write}
 use Rattle.model.specs.declared.Read.{Read}
 use Rattle.model.specs.declared.Entry.{Entry}
 use Rattle.model.specs.declared.Phase.{Phase}
@@ -18,22 +18,29 @@ use Rattle.model.specs.Bytes.{bytes, number, idIn}
 use Rattle.model.specs.Lives.{closingSlot, closingClock, recordsStored}
 
 -- ── sizes ──
--- the 24 bytes before a place's sets; "writes of 16 bytes", "reads of 16 bytes"
+-- "Head, 8 bytes": the kind's
+abbrev pub kindSize : ℕ
+kindSize = 8
+
+-- the 24 bytes before a place's values; "values of 8 bytes", "reads of 16 bytes"
 abbrev pub headSize : ℕ
 headSize = 24
 
-abbrev pub itemSize : ℕ
-itemSize = 16
+abbrev pub valueSize : ℕ
+valueSize = 8
 
-abbrev pub writesSize : ℕ
-writesSize = itemSize * writePlaces
+abbrev pub readSize : ℕ
+readSize = 16
+
+abbrev pub valuesSize : ℕ
+valuesSize = valueSize * writePlaces
 
 abbrev pub readsSize : ℕ
-readsSize = itemSize * readLimit
+readsSize = readSize * readLimit
 
 -- "live place, 408 bytes, eight of them", "entry, 20 bytes, 64 of them after the places"
 abbrev pub placeSize : ℕ
-placeSize = headSize + writesSize + readsSize
+placeSize = headSize + valuesSize + readsSize
 
 abbrev pub placesSize : ℕ
 placesSize = placeSize * livePlaces
@@ -45,7 +52,7 @@ abbrev pub entriesSize : ℕ
 entriesSize = entrySize * entryPlaces
 
 abbrev pub imageSize : ℕ
-imageSize = placesSize + entriesSize
+imageSize = kindSize + placesSize + entriesSize
 
 -- ── one after the other ──
 -- the bytes of each element; n parts of k bytes
@@ -77,15 +84,19 @@ fieldBytes (raw n xs) = xs
 unfoldable pub row : List Field → List ℕ
 row fs = flat fieldBytes fs
 
--- ── "writes of 16 bytes (key, seven zeros, value 8)" ──
-abbrev pub writeRow : Write → List Field
-writeRow w = byte (w .key) ∷ zeros 7 ∷ num 8 (w .value) ∷ []
+-- ── "Head, 8 bytes: byte 0 the kind .., by its mark .., bytes 1 to 7 zero" ──
+abbrev pub kindRow : ℕ → List Field
+kindRow m = byte m ∷ zeros 7 ∷ []
 
-unfoldable pub writeBytes : Write → List ℕ
-writeBytes w = row (writeRow w)
+unfoldable pub kindBytes : ℕ → List ℕ
+kindBytes m = row (kindRow m)
 
-unfoldable pub writeFrom : List ℕ → Write
-writeFrom b = record { key = getD b 0 0; value = number (take 8 (drop 8 b)) }
+-- ── "values of 8 bytes" ──
+unfoldable pub valueBytes : ℕ → List ℕ
+valueBytes v = bytes valueSize v
+
+unfoldable pub valueFrom : List ℕ → ℕ
+valueFrom b = number b
 
 -- ── what begins a read and a place: four bytes, then "transaction 4, clock 8" ──
 unfoldable pub startBytes : ℕ → ℕ → ℕ → ℕ → Id → List ℕ
@@ -125,10 +136,14 @@ phaseOf (suc (suc m)) d c n = Closing d c n
 unfoldable pub phaseFrom : List ℕ → Phase
 phaseFrom b = phaseOf (getD b 0 0) (getD b 1 0) (idIn b .clock) (getD b 2 0)
 
--- ── what stands before a place's sets: "byte 0 phase .., bytes 17 to 23 zero" ──
--- of a phase, a transaction, and the counts of its writes and reads
+-- ── what stands before a place's values: "byte 0 phase .., bytes 16 to 23 the write set's keys" ──
+-- of a phase, a transaction, the count of its reads and the keys of its write set
 abbrev pub headRow : Phase → ℕ → ℕ → ℕ → List Field
-headRow p t w r = byte (phaseNumber p) ∷ byte (closingSlot p) ∷ byte (recordsStored p) ∷ byte w ∷ num 4 t ∷ num 8 (closingClock p) ∷ byte r ∷ zeros 7 ∷ []
+headRow p t r ks = byte (phaseNumber p) ∷ byte (closingSlot p) ∷ byte (recordsStored p) ∷ byte r ∷ num 4 t ∷ num 8 (closingClock p) ∷ num 8 ks ∷ []
 
 unfoldable pub placeHead : Phase → ℕ → ℕ → ℕ → List ℕ
-placeHead p t w r = row (headRow p t w r)
+placeHead p t r ks = row (headRow p t r ks)
+
+-- the keys that it carries
+unfoldable pub keysFrom : List ℕ → ℕ
+keysFrom b = number (take 8 (drop 16 b))

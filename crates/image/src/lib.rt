@@ -5,7 +5,6 @@ use model::Live;
 use model::Phase;
 use model::Read;
 use model::Station;
-use model::Write;
 use records::id_in;
 use records::number_in;
 use records::write_number;
@@ -16,27 +15,35 @@ ghost use mathlib.Core.List.{map};
 ghost use lib.ListN.{length};
 ghost use Rattle.model.specs.Lists.{all};
 ghost use Rattle.model.specs.Limits.{livePlaces, entryPlaces, writePlaces, readLimit};
+ghost use Rattle.model.specs.Kinds.{narrowKind};
 ghost use Rattle.model.specs.Bytes.{idIn};
 ghost use Rattle.model.specs.Listed.{listed, numbered};
 ghost use Rattle.model.specs.Lives.{closingSlot, closingClock, recordsStored};
-ghost use Rattle.image.specs.Layout.{headSize, itemSize, writesSize, readsSize, placeSize, placesSize, entrySize, entriesSize, imageSize, flat, parts, writeBytes, writeFrom, startBytes, readBytes, readFrom, entryBytes, entryFrom, phaseNumber, placeHead, phaseFrom};
-ghost use Rattle.image.specs.Images.{placeBytes, placeFrom, stationBytes, stationIn, isAlone, isHead, isPlace, isImage};
+ghost use Rattle.image.specs.Layout.{kindSize, headSize, valueSize, valuesSize, readSize, readsSize, placeSize, placesSize, entrySize, entriesSize, imageSize, flat, parts, kindBytes, valueBytes, valueFrom, startBytes, readBytes, readFrom, entryBytes, entryFrom, phaseNumber, placeHead, phaseFrom};
+ghost use Rattle.image.specs.Images.{placeBytes, placeFrom, stationBytes, stationIn, isAlone, isKind, isHead, isPlace, isImage};
 
-// The bytes of a write or a read, of what stands before a place's sets, and where its reads begin.
-const ITEM: usize = 16;
-
+// The bytes of what stands before a place's values, of a value and of a read, and where a place's reads begin.
 const HEAD: usize = 24;
 
-const READS_AT: usize = HEAD + ITEM * Station::WRITES;
+const VALUE: usize = 8;
 
-// The bytes of a place, of an entry, of all places, and of the image.
-const PLACE: usize = READS_AT + ITEM * Station::READS;
+const READ: usize = 16;
+
+const READS_AT: usize = HEAD + VALUE * Station::WRITE_PLACES;
+
+// The bytes of the kind, of a place and of an entry, where the entries begin, and the bytes of the image.
+const KIND: usize = 8;
+
+const PLACE: usize = READS_AT + READ * Station::READS;
 
 const ENTRY: usize = 20;
 
-const ENTRIES_AT: usize = PLACE * Station::LIVE;
+const ENTRIES_AT: usize = KIND + PLACE * Station::LIVE;
 
 pub const IMAGE: usize = ENTRIES_AT + ENTRY * Station::SLOTS;
+
+// The mark of a narrow store.
+const NARROW: u8 = 1;
 
 // A phase's number.
 const UNUSED: u8 = 0;
@@ -68,15 +75,26 @@ fn is_alone(row: &[u8], width: usize) -> bool
     number_in(&row[1..width]) == 0
 }
 
-// So it is in each of n rows, of writes or of reads.
-fn are_alone(b: &[u8], size: usize, n: usize, width: usize) -> bool
-    requires { ⌜ (length (now b) ≡ size * n) × (width ≤ size) × (1 ≤ width) × (width ≤ 8) ⌝ }
-    ensures { λ r. ⌜ r ≡ all (isAlone width) (parts size n (now (b .entry))) ⌝ }
+// The bytes that say the kind of the station's store.
+fn is_kind(b: &[u8]) -> bool
+    requires { ⌜ length (now b) ≡ kindSize ⌝ }
+    ensures { λ r. ⌜ r ≡ isKind (now (b .entry)) ⌝ }
+{
+    if b[0] != NARROW {
+        return false;
+    }
+    is_alone(b, KIND)
+}
+
+// Each read's key stands alone before its transaction.
+fn are_reads(b: &[u8]) -> bool
+    requires { ⌜ length (now b) ≡ readsSize ⌝ }
+    ensures { λ r. ⌜ r ≡ all (isAlone 4) (parts readSize readLimit (now (b .entry))) ⌝ }
 {
     let mut i = 0;
-    while i < n {
-        let at = size * i;
-        if !is_alone(&b[at..at + size], width) {
+    while i < Station::READS {
+        let at = READ * i;
+        if !is_alone(&b[at..at + READ], 4) {
             return false;
         }
         i += 1;
@@ -84,7 +102,7 @@ fn are_alone(b: &[u8], size: usize, n: usize, width: usize) -> bool
     true
 }
 
-// What stands before a place's sets: the phase that is read, written again, is the same, and the last bytes are zero.
+// What stands before a place's values: the phase that is read, written again, is the same.
 fn is_head(b: &[u8]) -> bool
     requires { ⌜ headSize ≤ length (now b) ⌝ }
     ensures { λ r. ⌜ r ≡ isHead (now (b .entry)) ⌝ }
@@ -101,10 +119,7 @@ fn is_head(b: &[u8]) -> bool
     if m.stored != b[2] {
         return false;
     }
-    if m.clock != id.clock {
-        return false;
-    }
-    number_in(&b[17..24]) == 0
+    m.clock == id.clock
 }
 
 fn is_place(b: &[u8]) -> bool
@@ -114,10 +129,7 @@ fn is_place(b: &[u8]) -> bool
     if !is_head(b) {
         return false;
     }
-    if !are_alone(&b[HEAD..READS_AT], ITEM, Station::WRITES, 8) {
-        return false;
-    }
-    are_alone(&b[READS_AT..PLACE], ITEM, Station::READS, 4)
+    are_reads(&b[READS_AT..PLACE])
 }
 
 fn are_places(b: &[u8]) -> bool
@@ -142,20 +154,15 @@ pub fn is_image(bytes: &[u8]) -> bool
     if bytes.len() != IMAGE {
         return false;
     }
-    are_places(&bytes[0..ENTRIES_AT])
+    if !is_kind(&bytes[0..KIND]) {
+        return false;
+    }
+    are_places(&bytes[KIND..ENTRIES_AT])
 }
 
 // ---- parts read off
-fn write_in(b: &[u8]) -> Write
-    requires { ⌜ length (now b) ≡ itemSize ⌝ }
-    ensures { λ r. ⌜ r ≡ writeFrom (now (b .entry)) ⌝ }
-{
-    let value = number_in(&b[8..16]);
-    Write { key: b[0], value }
-}
-
 fn read_in(b: &[u8]) -> Read
-    requires { ⌜ length (now b) ≡ itemSize ⌝ }
+    requires { ⌜ length (now b) ≡ readSize ⌝ }
     ensures { λ r. ⌜ r ≡ readFrom (now (b .entry)) ⌝ }
 {
     let id = id_in(b);
@@ -191,32 +198,31 @@ fn phase_in(b: &[u8], clock: u64) -> Phase
     Phase::Closing(b[1], clock, b[2])
 }
 
-fn writes_in(b: &[u8]) -> [Write; Station::WRITES]
-    requires { ⌜ length (now b) ≡ writesSize ⌝ }
-    ensures { λ r. ⌜ r ≡ map writeFrom (parts itemSize writePlaces (now (b .entry))) ⌝ }
+fn values_in(b: &[u8]) -> [u64; Station::WRITE_PLACES]
+    requires { ⌜ length (now b) ≡ valuesSize ⌝ }
+    ensures { λ r. ⌜ r ≡ map valueFrom (parts valueSize writePlaces (now (b .entry))) ⌝ }
 {
-    let first = write_in(&b[0..ITEM]);
-    let mut writes = [first; Station::WRITES];
-    let mut i = 1;
-    while i < Station::WRITES {
-        let at = ITEM * i;
-        let w = write_in(&b[at..at + ITEM]);
-        writes[i] = w;
+    let mut values = [0u64; Station::WRITE_PLACES];
+    let mut i = 0;
+    while i < Station::WRITE_PLACES {
+        let at = VALUE * i;
+        let v = number_in(&b[at..at + VALUE]);
+        values[i] = v;
         i += 1;
     }
-    writes
+    values
 }
 
 fn reads_in(b: &[u8]) -> [Read; Station::READS]
     requires { ⌜ length (now b) ≡ readsSize ⌝ }
-    ensures { λ r. ⌜ r ≡ map readFrom (parts itemSize readLimit (now (b .entry))) ⌝ }
+    ensures { λ r. ⌜ r ≡ map readFrom (parts readSize readLimit (now (b .entry))) ⌝ }
 {
-    let first = read_in(&b[0..ITEM]);
+    let first = read_in(&b[0..READ]);
     let mut reads = [first; Station::READS];
     let mut i = 1;
     while i < Station::READS {
-        let at = ITEM * i;
-        let r = read_in(&b[at..at + ITEM]);
+        let at = READ * i;
+        let r = read_in(&b[at..at + READ]);
         reads[i] = r;
         i += 1;
     }
@@ -229,14 +235,15 @@ fn place_in(b: &[u8]) -> Live
 {
     let id = id_in(b);
     let phase = phase_in(b, id.clock);
-    let writes = writes_in(&b[HEAD..READS_AT]);
+    let keys = number_in(&b[16..24]);
+    let values = values_in(&b[HEAD..READS_AT]);
     let reads = reads_in(&b[READS_AT..PLACE]);
     Live {
         txn: id.txn,
         phase,
-        write_count: b[3],
-        writes,
-        read_count: b[16],
+        keys,
+        values,
+        read_count: b[3],
         reads,
     }
 }
@@ -284,7 +291,7 @@ pub fn read_image(bytes: &[u8]) -> Image
             station: empty,
         };
     }
-    let live = places_in(&bytes[0..ENTRIES_AT]);
+    let live = places_in(&bytes[KIND..ENTRIES_AT]);
     let entries = entries_in(&bytes[ENTRIES_AT..IMAGE]);
     Image {
         whole: true,
@@ -293,17 +300,16 @@ pub fn read_image(bytes: &[u8]) -> Image
 }
 
 // ---- parts written
-fn write_write(part: &mut [u8], w: Write)
-    requires { ⌜ length (now part) ≡ itemSize ⌝ }
-    ensures { λ _. ⌜ now (part .exit) ≡ writeBytes w ⌝ }
+fn write_kind(part: &mut [u8])
+    requires { ⌜ length (now part) ≡ kindSize ⌝ }
+    ensures { λ _. ⌜ now (part .exit) ≡ kindBytes (narrowKind .mark) ⌝ }
 {
-    write_number(&mut part[0..8], w.key as u64);
-    write_number(&mut part[8..16], w.value);
+    write_number(part, NARROW as u64);
 }
 
-// Four bytes and an id: what begins a place and a read.
+// Four bytes and an id: a read, and what begins a place.
 fn write_start(part: &mut [u8], a: u8, b: u8, c: u8, d: u8, id: Id)
-    requires { ⌜ length (now part) ≡ itemSize ⌝ }
+    requires { ⌜ length (now part) ≡ readSize ⌝ }
     ensures { λ _. ⌜ now (part .exit) ≡ startBytes a b c d id ⌝ }
 {
     write_number(&mut part[4..8], id.txn as u64);
@@ -315,7 +321,7 @@ fn write_start(part: &mut [u8], a: u8, b: u8, c: u8, d: u8, id: Id)
 }
 
 fn write_read(part: &mut [u8], r: Read)
-    requires { ⌜ length (now part) ≡ itemSize ⌝ }
+    requires { ⌜ length (now part) ≡ readSize ⌝ }
     ensures { λ _. ⌜ now (part .exit) ≡ readBytes r ⌝ }
 {
     let id = r.id;
@@ -357,28 +363,28 @@ fn phase_marks(p: Phase) -> Marked
     }
 }
 
-fn write_head(part: &mut [u8], p: Phase, txn: u32, writes: u8, reads: u8)
+fn write_head(part: &mut [u8], p: Phase, txn: u32, reads: u8, keys: u64)
     requires { ⌜ length (now part) ≡ headSize ⌝ }
-    ensures { λ _. ⌜ now (part .exit) ≡ placeHead p txn writes reads ⌝ }
+    ensures { λ _. ⌜ now (part .exit) ≡ placeHead p txn reads keys ⌝ }
 {
     let m = phase_marks(p);
     let id = Id {
         clock: m.clock,
         txn,
     };
-    write_start(&mut part[0..16], m.mark, m.slot, m.stored, writes, id);
-    write_number(&mut part[16..24], reads as u64);
+    write_start(&mut part[0..16], m.mark, m.slot, m.stored, reads, id);
+    write_number(&mut part[16..24], keys);
 }
 
-fn write_writes(part: &mut [u8], writes: [Write; Station::WRITES])
-    requires { ⌜ length (now part) ≡ writesSize ⌝ }
-    ensures { λ _. ⌜ now (part .exit) ≡ flat writeBytes writes ⌝ }
+fn write_values(part: &mut [u8], values: [u64; Station::WRITE_PLACES])
+    requires { ⌜ length (now part) ≡ valuesSize ⌝ }
+    ensures { λ _. ⌜ now (part .exit) ≡ flat valueBytes values ⌝ }
 {
     let mut i = 0;
-    while i < Station::WRITES {
-        let at = ITEM * i;
-        let w = writes[i];
-        write_write(&mut part[at..at + ITEM], w);
+    while i < Station::WRITE_PLACES {
+        let at = VALUE * i;
+        let v = values[i];
+        write_number(&mut part[at..at + VALUE], v);
         i += 1;
     }
 }
@@ -389,9 +395,9 @@ fn write_reads(part: &mut [u8], reads: [Read; Station::READS])
 {
     let mut i = 0;
     while i < Station::READS {
-        let at = ITEM * i;
+        let at = READ * i;
         let r = reads[i];
-        write_read(&mut part[at..at + ITEM], r);
+        write_read(&mut part[at..at + READ], r);
         i += 1;
     }
 }
@@ -401,16 +407,10 @@ fn write_place(part: &mut [u8], l: Live)
     ensures { λ _. ⌜ now (part .exit) ≡ placeBytes l ⌝ }
 {
     let phase = l.phase;
-    let writes = l.writes;
+    let values = l.values;
     let reads = l.reads;
-    write_head(
-        &mut part[0..HEAD],
-        phase,
-        l.txn,
-        l.write_count,
-        l.read_count,
-    );
-    write_writes(&mut part[HEAD..READS_AT], writes);
+    write_head(&mut part[0..HEAD], phase, l.txn, l.read_count, l.keys);
+    write_values(&mut part[HEAD..READS_AT], values);
     write_reads(&mut part[READS_AT..PLACE], reads);
 }
 
@@ -449,6 +449,7 @@ pub fn write_image(bytes: &mut [u8], station: Station)
 {
     let live = station.live;
     let entries = station.entries;
-    write_places(&mut bytes[0..ENTRIES_AT], live);
+    write_kind(&mut bytes[0..KIND]);
+    write_places(&mut bytes[KIND..ENTRIES_AT], live);
     write_entries(&mut bytes[ENTRIES_AT..IMAGE], entries);
 }

@@ -1,9 +1,10 @@
--- Keys stored one after another in a row of bytes.
+-- Keys taken one after another from a set, and stored in a row of bytes.
 use Prim.Native.Nat.{ℕ, zero, suc, _+_, _-_, _≤_, _<_}
 use mathlib.Core.Path.{_≡_, refl, sym, ap, _∙_}
 use mathlib.Core.List.{List, [], _∷_}
-use lib.ListN.{length, getD, set, replicate}
-use native.Mathlib.Nat.{not-suc-le-zero}
+use lib.ListN.{length, getD, drop, set, replicate}
+use lib.Seq.{drop-cons}
+use native.Mathlib.Nat.{not-suc-le-zero, suc-ne-zero}
 use native.Mathlib.Numerals.{add-one}
 use native.Mathlib.Omega.{arith}
 use Rattle.model.specs.Lists.{padded}
@@ -55,3 +56,21 @@ storing-next whole out rest n k rest′ s (o, (ks, e)) (p, (j, f)) =
 pub storing-ends : (whole out : List ℕ) (rest n : ℕ) → Storing whole out rest n → rest ≡ 0 → out ≡ padded 0 keysSize whole
 unfolding stored
 storing-ends whole out rest n s e = sym (ap (stored out n) (ap keySet e ∙ set-none)) ∙ s .left
+
+-- the rest of a set: its keys from the ith on
+module _ (ks : List ℕ) (rest i : ℕ) (left : keySet rest ≡ drop i ks) (o : i < length ks) where
+  begins : keySet rest ≡ getD ks i 0 ∷ drop (suc i) ks
+  begins = left ∙ drop-cons ks i 0 o
+
+  pub rest-some : 0 < rest
+  rest-some = go rest refl
+    where
+      go : (n : ℕ) → rest ≡ n → 0 < rest
+      go zero e = absurd (suc-ne-zero _ (ap length (sym (sym set-none ∙ (ap keySet (sym e) ∙ begins)))))
+      go (suc n) e = omega (arith, e)
+
+  pub rest-next : (rest′ : ℕ) → IsRest rest rest′ → keySet rest′ ≡ drop (i + 1) ks
+  rest-next rest′ (p, (j, f)) = ap (drop 1) (sym f ∙ begins) ∙ ap (λ (n : ℕ). drop n ks) (sym (add-one i))
+
+  pub rest-lowest : (k : ℕ) → IsLowest rest k → k ≡ getD ks i 0
+  rest-lowest k (p, (js, e)) = ap (λ (x : List ℕ). getD x 0 0) (sym e ∙ begins)

@@ -3,7 +3,7 @@ use Prim.Native.Nat.{ℕ, suc, _+_, _-_, _*_, _%_, _^_, _≤_, _<_}
 use mathlib.Core.Path.{_≡_, refl, sym, ap, subst, _∙_}
 use mathlib.Core.Bool.{Bool, true, false, not, true≢false}
 use mathlib.Core.List.{List, [], _∷_}
-use lib.Dec.{eqb}
+use lib.Dec.{eqb, leb}
 use lib.ListN.{length}
 use lib.Pow.{pow-pos, pow-lt, shl-exact}
 use lib.Bits.{bitAnd, bitOr, and-le-l, and-le-r, and-mask}
@@ -92,9 +92,9 @@ count-is n h = sym (set-ones n h)
 pub count-most : (n mask : ℕ) → n < numberRange → ones (bitAnd n mask) ≤ 64
 count-most n mask h = ones-le 64 (bitAnd n mask) (omega (arith, h, and-le-l n mask))
 
-pub below-is : (n k : ℕ) → n < numberRange → member k (keySet n) ≡ true → ones (bitAnd n (2 ^ k - 1)) ≡ first (eqb k) (keySet n)
+pub below-is : (n k : ℕ) → n < numberRange → ones (bitAnd n (2 ^ k - 1)) ≡ first (leb k) (keySet n)
 unfolding keySet
-below-is n k h m = ap ones (and-mask n k) ∙ sym (ones-below 64 k n h m)
+below-is n k h = ap ones (and-mask n k) ∙ sym (ones-below 64 k n h)
 
 -- ── the lowest key, and the rest ──
 pub lowest-is : (n : ℕ) → n < numberRange → 0 < n → IsLowest n (trailingZeros 64 n)

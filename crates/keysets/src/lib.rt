@@ -1,10 +1,9 @@
 // A write set as one number of 64 bits, bit k standing for key k (02 §5; model's specs/KeySets).
 use model::Station;
 ghost use mathlib.Core.Path.{_≡_};
-ghost use mathlib.Core.Bool.{true};
 ghost use Prim.Native.Nat.{_^_, _≤_, _<_};
-ghost use lib.Dec.{eqb};
-ghost use lib.ListN.{length};
+ghost use lib.Dec.{leb};
+ghost use lib.ListN.{length, getD};
 ghost use Rattle.model.specs.Lists.{all, first, member, padded};
 ghost use Rattle.model.specs.Limits.{keys, keysSize};
 ghost use Rattle.model.specs.KeySets.{keySet};
@@ -34,10 +33,10 @@ pub fn key_count(set: u64) -> u8
     u64::count_ones(set) as u8
 }
 
-// How many keys of the set are lower than one that it has: the ones below it.
+// How many keys of the set are lower than a key: the ones below it.
 pub fn keys_below(set: u64, key: u8) -> usize
-    requires { ⌜ member key (keySet set) ≡ true ⌝ }
-    ensures { λ r. ⌜ r ≡ first (eqb key) (keySet set) ⌝ }
+    requires { ⌜ key < keys ⌝ }
+    ensures { λ r. ⌜ r ≡ first (leb key) (keySet set) ⌝ }
 {
     let this = bit(key);
     u64::count_ones(set & (this - 1)) as usize
@@ -65,6 +64,20 @@ pub fn without_lowest(set: u64) -> u64
     ensures { λ r. ⌜ IsRest set r ⌝ }
 {
     set - bit(lowest_key(set))
+}
+
+// The key with n lower ones.
+pub fn nth_key(set: u64, n: usize) -> u8
+    requires { ⌜ n < length (keySet set) ⌝ }
+    ensures { λ r. ⌜ r ≡ getD (keySet set) n 0 ⌝ }
+{
+    let mut rest = set;
+    let mut i = 0;
+    while i < n {
+        rest = without_lowest(rest);
+        i += 1;
+    }
+    lowest_key(rest)
 }
 
 // Whether the other set has every key of the set.

@@ -9,9 +9,7 @@ use native.Mathlib.Nat.{lt-irrefl}
 use native.Mathlib.Omega.{arith}
 use borrow.Author.Tests.{eq-eqb, ne-eqb}
 use Rattle.model.specs.declared.Id.{Id}
-use Rattle.model.specs.declared.Write.{Write}
-use Rattle.model.specs.declared.Live.{Live}
-use Rattle.model.specs.Types.{Entry, Station}
+use Rattle.model.specs.Types.{Entry, Write, Live, Station}
 use Rattle.model.specs.declared.Answer.the-variants as A
 use Rattle.model.specs.Lists.{all, first, insert, member}
 use Rattle.model.specs.Lives.{noWrite, writesOf, readsOf, writeKey, hasWritten, valueUnder}

@@ -1,4 +1,5 @@
 -- A station that a function is handed: what owning it gives is that its numbers are in their ranges and its arrays have their lengths.
+use Prim.Native.Nat.{_<_}
 use mathlib.Core.Path.{_∙_, sym}
 use mathlib.Core.List.{List, [], _∷_, map}
 use lib.ListN.{length-map}
@@ -6,19 +7,18 @@ use native.Mathlib.Omega.{arith}
 use mir.Val.{Val}
 use denote.Shadow.{shadow}
 use denote.Array.{each}
-use denote.Struct.Field.{Field}
+use denote.Struct.Field.{Field, u64-field}
 use Rattle.model.specs.declared.Id.{Id}
-use Rattle.model.specs.declared.Write.{Write}
 use Rattle.model.specs.declared.Read.{Read}
 use Rattle.model.specs.declared.Live.{Live}
 use Rattle.model.specs.declared.Entry.{Entry}
 use Rattle.model.specs.declared.Station.{Station}
 use Rattle.model.specs.declared.Phase.{Phase}
 use Rattle.model.specs.declared.Phase.the-variants.{Unused, Open, Closing}
+use Rattle.model.specs.Limits.{numberRange}
 use Rattle.model.specs.Lives.{closingSlot, closingClock, recordsStored}
-use Rattle.model.specs.Ranges.{Every, IdFits, WriteFits, ReadFits, PhaseFits, LiveFits, EntryFits, StationFits}
+use Rattle.model.specs.Ranges.{Every, IdFits, ReadFits, PhaseFits, LiveFits, EntryFits, StationFits}
 use Rattle.model.proofs.Id as IdType
-use Rattle.model.proofs.Write as WriteType
 use Rattle.model.proofs.Read as ReadType
 use Rattle.model.proofs.Phase as PhaseType
 use Rattle.model.proofs.Live as LiveType
@@ -34,9 +34,6 @@ each-handed F P h (x ∷ xs) (u ∷ us) s = (h x (u ∷ []) (s .0), each-handed 
 
 id-handed : (i : Id) (vs : List Val) → shadow (IdType.the-row .own i vs) → IdFits i
 id-handed i vs s = record { clock64 = s .1 .1 .0 .1; txn32 = s .1 .1 .1 .0 .1 }
-
-write-handed : (w : Write) (vs : List Val) → shadow (WriteType.the-row .own w vs) → WriteFits w
-write-handed w vs s = record { key8 = s .1 .1 .0 .1; value64 = s .1 .1 .1 .0 .1 }
 
 read-handed : (r : Read) (vs : List Val) → shadow (ReadType.the-row .own r vs) → ReadFits r
 read-handed r vs s = record { key8 = s .1 .1 .0 .1; id = id-handed (r .id) _ (s .1 .1 .1 .0) }
@@ -54,16 +51,16 @@ live-handed : (l : Live) (vs : List Val) → shadow (LiveType.the-row .own l vs)
 live-handed l vs s =
     let txn = s .1 .1 in
     let phase = txn .1 in
-    let write-count = phase .1 in
-    let writes = write-count .1 in
-    let read-count = writes .1 in
+    let keys = phase .1 in
+    let values = keys .1 in
+    let read-count = values .1 in
     let reads = read-count .1 in
     record {
       txn32 = txn .0 .1;
       phase = phase-handed (l .phase) _ (phase .0);
-      writes8 = write-count .0 .1;
-      write-places = sym (length-map (l .writes) (WriteType.the-field .into)) ∙ writes .0 .1 .0 .1;
-      writes = each-handed WriteType.the-field WriteFits write-handed (l .writes) (writes .0 .0) (writes .0 .1 .1);
+      keys64 = keys .0 .1;
+      value-places = sym (length-map (l .values) (u64-field .into)) ∙ values .0 .1 .0 .1;
+      values = each-handed u64-field (λ v. v < numberRange) (λ v vs h. h .1) (l .values) (values .0 .0) (values .0 .1 .1);
       reads8 = read-count .0 .1;
       read-places = sym (length-map (l .reads) (ReadType.the-field .into)) ∙ reads .0 .1 .0 .1;
       reads = each-handed ReadType.the-field ReadFits read-handed (l .reads) (reads .0 .0) (reads .0 .1 .1);

@@ -10,11 +10,11 @@ use lib.Seq.{take-append-seam, drop-append-seam, getD-append-add}
 use native.Mathlib.Nat.{lt-irrefl, le-refl, le-of-suc-le-suc, not-suc-le-zero}
 use native.Mathlib.Omega.{arith}
 use borrow.Author.Tests.{ltb-true, ltb-false, leb-true, leb-false, eqb-true, eqb-false, lt-ltb, le-leb, ne-eqb}
-use Rattle.model.specs.Lists.{_and_, all, any, insert, padded, member, ascending}
+use Rattle.model.specs.Lists.{_and_, _or_, all, any, insert, padded, member, ascending}
 use Rattle.model.specs.Limits.{keys}
 use Rattle.model.specs.Ranges.{Every, IsByte}
-use Rattle.model.proofs.Tests.{and-left, and-right, and-intro, and-second, not-of-false}
-use Rattle.model.proofs.ListLaws.{all-head, all-tail, all-cons, member-no, member-at, getD-all, every-append, every-replicate}
+use Rattle.model.proofs.Tests.{and-left, and-right, and-intro, and-second, not-of-false, or-swap, or-twice}
+use Rattle.model.proofs.ListLaws.{all-head, all-tail, all-cons, member-cons, member-no, member-at, getD-all, every-append, every-replicate}
 
 -- ── ascending ──
 pub ascending-head : (lo hi n : ℕ) (ns : List ℕ) → ascending lo hi (n ∷ ns) ≡ true → (lo ≤ n) × (n < hi)
@@ -148,6 +148,18 @@ module _ {A : Type 0} (key : A → ℕ) (x : A) where
       (λ o. ⊎-elim (λ e. List·Memᴰ·head e) (λ m′. List·Memᴰ·tail (insert-keeps ys z m′ n)) (List·Memᴰ·cases-cons m))
       (λ e. ⊎-elim (λ q. absurd (n (ap key q ∙ sym e))) (λ m′. List·Memᴰ·tail m′) (List·Memᴰ·cases-cons m))
       (λ o. List·Memᴰ·tail m)
+
+  -- its keys: x's and those of the list
+  pub insert-member : (j : ℕ) (xs : List A) → member j (map key (insert key x xs)) ≡ (eqb j (key x) or member j (map key xs))
+  unfolding insert
+  insert-member j [] = member-cons j (key x) []
+  insert-member j (y ∷ ys) = insert-rule (λ l. member j (map key l) ≡ (eqb j (key x) or member j (key y ∷ map key ys))) y ys
+      (λ o. member-cons j (key y) (map key (insert key x ys)) ∙ (ap (λ (b : Bool). eqb j (key y) or b) (insert-member j ys) ∙ (or-swap (eqb j (key y)) (eqb j (key x)) _ ∙ again)))
+      (λ e. member-cons j (key x) (map key ys) ∙ (sym (or-twice (eqb j (key x)) _) ∙ (ap (λ (n : ℕ). eqb j (key x) or (eqb j n or member j (map key ys))) e ∙ again)))
+      (λ o. member-cons j (key x) (key y ∷ map key ys))
+    where
+      again : (eqb j (key x) or (eqb j (key y) or member j (map key ys))) ≡ (eqb j (key x) or member j (key y ∷ map key ys))
+      again = ap (λ (b : Bool). eqb j (key x) or b) (sym (member-cons j (key y) (map key ys)))
 
   -- within a limit, where the key is there or the list is shorter
   pub insert-fits : (hi n limit : ℕ) (xs : List A) → ascending 0 hi (map key xs) ≡ true → length xs ≤ n → n ≤ limit

@@ -14,15 +14,14 @@ use native.Mathlib.Numerals.{add-one}
 use borrow.Author.Tests.{eqb-true, leb-true, le-leb, lt-leb, eq-eqb, ne-eqb}
 use Rattle.model.specs.declared.Id.{Id}
 use Rattle.model.specs.declared.Read.{Read}
-use Rattle.model.specs.declared.Live.{Live}
-use Rattle.model.specs.Types.{Entry}
+use Rattle.model.specs.Types.{Entry, Live}
 use Rattle.model.specs.declared.Phase.{Phase}
 use Rattle.model.specs.declared.Phase.the-variants.{Unused, Open, Closing}
 use Rattle.model.specs.Lists.{_and_, _or_, any, member, ascending}
-use Rattle.model.specs.Limits.{keys, writePlaces, readLimit}
+use Rattle.model.specs.Limits.{keys, readLimit}
 use Rattle.model.specs.Kinds.{Kind}
 use Rattle.model.specs.Ids.{sameId, noId}
-use Rattle.model.specs.Lives.{writeKey, readsOf, closingClock, slotMark, withPhase, writeCount, writesOf}
+use Rattle.model.specs.Lives.{writeKey, readsOf, closingClock, slotMark, withPhase, writesOf}
 use Rattle.model.specs.Entries.{keysOf, wrote, noEntry, entryRules, isNoEntry, entryFor, noEntry}
 use Rattle.model.specs.Sound.{entryRight}
 use Rattle.model.proofs.Tests.{and-left, and-right, and-true, or-cases}
@@ -46,11 +45,6 @@ module _ (l : Live) where
   -- n is how many, as code counts them
   pub reads-counted : (n : ℕ) → length (l .reads) ≡ readLimit → n ≡ min (l .«read_count») readLimit → (n ≤ readLimit) × (n ≡ length (readsOf l))
   reads-counted n h e = (omega arith, omega (arith, reads-are))
-
-  -- and of the writes
-  pub writes-counted : (n : ℕ) → length (l .writes) ≡ writePlaces → n ≡ min (l .«write_count») writePlaces → (n ≤ writePlaces) × (n ≡ writeCount l)
-  unfolding writesOf
-  writes-counted n h e = (omega arith, omega (arith, length-take (l .«write_count») (l .writes)))
 
 -- ── whether an entry wrote a key ──
 module _ (e : Entry) (k : ℕ) where

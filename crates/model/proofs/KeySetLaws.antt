@@ -3,8 +3,9 @@ use Prim.Native.Nat.{ℕ, zero, suc, _+_, _-_, _*_, _/_, _%_, _^_, _<_, _≤_, s
 use mathlib.Core.Path.{_≡_, refl, sym, ap, ap₂, subst, _∙_}
 use mathlib.Core.Bool.{Bool, true, false, true≢false, false≢true}
 use mathlib.Core.List.{List, [], _∷_, map}
-use lib.Dec.{eqb}
+use lib.Dec.{eqb, leb}
 use lib.ListN.{length, getD, length-map}
+use lib.Arith.{digits-mod}
 use lib.Pow.{pow-pos, shr-shr, mod-pow-add}
 use lib.Bits.{bitAnd, bitOr, and-step, or-step, and-shr, or-shr, and-le-l}
 use lib.Count.{ones, ones-step, under, trailingZeros}
@@ -12,7 +13,7 @@ use native.Mathlib.Nat.{suc-ne-zero}
 use native.Mathlib.Decide.{ℕ-discrete, decLt}
 use native.Mathlib.Numerals.{add-one}
 use native.Mathlib.Omega.{arith}
-use borrow.Author.Tests.{eq-eqb, ne-eqb, eqb-true, eqb-false}
+use borrow.Author.Tests.{eq-eqb, ne-eqb, eqb-true, eqb-false, le-leb, lt-leb, leb-true, leb-false}
 use Rattle.model.specs.Lists.{_and_, _or_, all, any, member, ascending, first}
 use Rattle.model.specs.Limits.{keys, numberRange}
 use Rattle.model.specs.KeySets.{withLowest, keysBelow, keySet, setNumber}
@@ -261,18 +262,22 @@ one-key d k o =
     let e : 2 ^ k ≡ setNumber (k ∷ []) = omega arith in
     ap (keysBelow d) e ∙ keys-of-number d (k ∷ []) (ascending-cons 0 d k [] (omega arith) o refl)
 
--- ── the keys below one: the ones below it ──
-first-up : (k : ℕ) (ks : List ℕ) → first (eqb (suc k)) (map suc ks) ≡ first (eqb k) ks
+-- ── the keys below a number: the ones below it ──
+first-up : (k : ℕ) (ks : List ℕ) → first (leb (suc k)) (map suc ks) ≡ first (leb k) ks
 unfolding first
 first-up k [] = refl
-first-up k (j ∷ ks) = go (eqb k j) refl (first-up k ks)
+first-up k (j ∷ ks) = go (leb k j) refl (first-up k ks)
   where
-    go : (b : Bool) → eqb k j ≡ b → first (eqb (suc k)) (map suc ks) ≡ first (eqb k) ks
-        → first (eqb (suc k)) (suc j ∷ map suc ks) ≡ first (eqb k) (j ∷ ks)
-    go true e ih = first-yes (eqb (suc k)) (suc j) (map suc ks) (eq-eqb (suc k) (suc j) (ap suc (eqb-true k j e))) ∙ sym (first-yes (eqb k) j ks e)
+    go : (b : Bool) → leb k j ≡ b → first (leb (suc k)) (map suc ks) ≡ first (leb k) ks → first (leb (suc k)) (suc j ∷ map suc ks) ≡ first (leb k) (j ∷ ks)
+    go true e ih = first-yes (leb (suc k)) (suc j) (map suc ks) (le-leb (suc k) (suc j) (suc-le-suc (leb-true k j e))) ∙ sym (first-yes (leb k) j ks e)
     go false e ih =
-        first-no (eqb (suc k)) (suc j) (map suc ks) (ne-eqb (suc k) (suc j) (λ z. eqb-false k j e (omega (arith, z))))
-        ∙ (ap suc ih ∙ sym (first-no (eqb k) j ks e))
+        first-no (leb (suc k)) (suc j) (map suc ks) (lt-leb (suc k) (suc j) (suc-le-suc (leb-false k j e)))
+        ∙ (ap suc ih ∙ sym (first-no (leb k) j ks e))
+
+first-low : (ks : List ℕ) → first (leb 0) ks ≡ 0
+unfolding first
+first-low [] = refl
+first-low (k ∷ ks) = first-yes (leb 0) k ks (le-leb 0 k (omega arith))
 
 ones-lower : (k n : ℕ) → ones (n % 2 ^ suc k) ≡ n % 2 + ones (n / 2 % 2 ^ k)
 ones-lower k n = ones-step (n % 2 ^ suc k) ∙ ap₂ (λ (x y : ℕ). x + ones y) (omega (arith, e)) (omega (arith, e))
@@ -280,34 +285,37 @@ ones-lower k n = ones-step (n % 2 ^ suc k) ∙ ap₂ (λ (x y : ℕ). x + ones y
     e : n % 2 ^ suc k ≡ (n / 2 % 2 ^ k) * 2 + n % 2
     e = ap (λ (x : ℕ). n % 2 ^ x) (sym (add-one k)) ∙ mod-pow-add n k 1
 
-pub ones-below : (d k n : ℕ) → n < 2 ^ d → member k (keysBelow d n) ≡ true → first (eqb k) (keysBelow d n) ≡ ones (n % 2 ^ k)
+pub ones-below : (d k n : ℕ) → n < 2 ^ d → first (leb k) (keysBelow d n) ≡ ones (n % 2 ^ k)
 unfolding keysBelow withLowest
-ones-below zero k n h m = absurd (false≢true (unfold member any in m))
-ones-below (suc d) zero n h m = go (n % 2) refl m
-  where
-    z : ones (n % 2 ^ 0) ≡ 0
-    z = let e : n % 1 ≡ 0 = omega arith in ap ones e ∙ (unfold ones in refl)
-
-    go : (b : ℕ) → n % 2 ≡ b → member 0 (withLowest b (map suc (keysBelow d (n / 2)))) ≡ true
-        → first (eqb 0) (withLowest b (map suc (keysBelow d (n / 2)))) ≡ ones (n % 2 ^ 0)
-    go zero e m = absurd (false≢true (sym (member-none-up (keysBelow d (n / 2))) ∙ m))
-    go (suc b) e m = first-yes (eqb 0) 0 (map suc (keysBelow d (n / 2))) (eq-eqb 0 0 refl) ∙ sym z
-ones-below (suc d) (suc k) n h m = go (n % 2) refl m (ones-below d k (n / 2) half) ∙ sym (ones-lower k n)
+ones-below zero k n h =
+    let e : n ≡ 0 * 2 ^ k + 0 = omega arith in
+    let z : first (leb k) [] ≡ ones 0 = unfold first ones in refl in
+    z ∙ sym (ap (λ (x : ℕ). ones (x % 2 ^ k)) e ∙ ap ones (digits-mod 0 (pow-pos k)))
+ones-below (suc d) zero n h = let e : n % 1 ≡ 0 = omega arith in first-low _ ∙ sym (ap ones e ∙ (unfold ones in refl))
+ones-below (suc d) (suc k) n h = go (n % 2) refl (ones-below d k (n / 2) half) ∙ sym (ones-lower k n)
   where
     half : n / 2 < 2 ^ d
     half = let a : n < 2 ^ suc d = h in omega arith
 
-    differs : eqb (suc k) 0 ≡ false
-    differs = ne-eqb (suc k) 0 (λ z. suc-ne-zero k z)
+    go : (b : ℕ) → n % 2 ≡ b → first (leb k) (keysBelow d (n / 2)) ≡ ones (n / 2 % 2 ^ k)
+        → first (leb (suc k)) (withLowest b (map suc (keysBelow d (n / 2)))) ≡ n % 2 + ones (n / 2 % 2 ^ k)
+    go zero e ih = omega (arith, e, ih, first-up k (keysBelow d (n / 2)))
+    go (suc zero) e ih =
+        omega (arith, e, ih, first-up k (keysBelow d (n / 2)), first-no (leb (suc k)) 0 (map suc (keysBelow d (n / 2))) (lt-leb (suc k) 0 (omega arith)))
+    go (suc (suc b)) e ih = absurd (omega (arith, e))
 
-    go : (b : ℕ) → n % 2 ≡ b → member (suc k) (withLowest b (map suc (keysBelow d (n / 2)))) ≡ true
-        → (member k (keysBelow d (n / 2)) ≡ true → first (eqb k) (keysBelow d (n / 2)) ≡ ones (n / 2 % 2 ^ k))
-        → first (eqb (suc k)) (withLowest b (map suc (keysBelow d (n / 2)))) ≡ n % 2 + ones (n / 2 % 2 ^ k)
-    go zero e m ih = let q = ih (sym (member-up k (keysBelow d (n / 2))) ∙ m) in omega (arith, e, q, first-up k (keysBelow d (n / 2)))
-    go (suc zero) e m ih =
-        let q = ih (sym (member-up k (keysBelow d (n / 2))) ∙ (sym (member-no (suc k) 0 (map suc (keysBelow d (n / 2))) differs) ∙ m)) in
-        omega (arith, e, q, first-up k (keysBelow d (n / 2)), first-no (eqb (suc k)) 0 (map suc (keysBelow d (n / 2))) differs)
-    go (suc (suc b)) e m ih = absurd (omega (arith, e))
+-- of one of them, its position
+pub first-same : (lo hi k : ℕ) (ks : List ℕ) → ascending lo hi ks ≡ true → member k ks ≡ true → first (leb k) ks ≡ first (eqb k) ks
+unfolding first
+first-same lo hi k [] h m = refl
+first-same lo hi k (j ∷ ks) h m = go (eqb k j) refl (first-same (suc j) hi k ks (ascending-tail lo hi j ks h))
+  where
+    go : (b : Bool) → eqb k j ≡ b → (member k ks ≡ true → first (leb k) ks ≡ first (eqb k) ks) → first (leb k) (j ∷ ks) ≡ first (eqb k) (j ∷ ks)
+    go true e ih = first-yes (leb k) j ks (le-leb k j (omega (arith, eqb-true k j e))) ∙ sym (first-yes (eqb k) j ks e)
+    go false e ih =
+        let m′ : member k ks ≡ true = sym (member-no k j ks e) ∙ m in
+        let o = ascending-member (suc j) hi k ks (ascending-tail lo hi j ks h) m′ in
+        first-no (leb k) j ks (lt-leb k j (o .0)) ∙ (ap suc (ih m′) ∙ sym (first-no (eqb k) j ks e))
 
 -- ── the lowest key, and the rest ──
 pub lowest-first : (d n : ℕ) → n < 2 ^ d → 0 < n
@@ -411,6 +419,9 @@ set-none = keys-none 64
 pub set-ascends : (n : ℕ) → ascending 0 keys (keySet n) ≡ true
 unfolding keySet
 set-ascends n = keys-ascend 64 n
+
+pub set-position : (n k : ℕ) → member k (keySet n) ≡ true → first (leb k) (keySet n) ≡ first (eqb k) (keySet n)
+set-position n k m = first-same 0 keys k (keySet n) (set-ascends n) m
 
 pub set-number : (n : ℕ) → n < numberRange → setNumber (keySet n) ≡ n
 unfolding keySet

@@ -5,10 +5,9 @@ use mathlib.Core.Bool.{Bool, true, false, cond}
 use mathlib.Core.List.{List, [], _∷_}
 use lib.Dec.{eqb, ltb}
 use lib.ListN.{length}
-use Rattle.model.specs.declared.Live.{Live}
 use Rattle.model.specs.declared.Answer.{Answer}
 use Rattle.model.specs.Kinds.{Kind}
-use Rattle.model.specs.Types.{Station}
+use Rattle.model.specs.Types.{Live, Station}
 use Rattle.model.specs.Lives.{writeCount, recordsStored}
 use Rattle.model.specs.Stations.{emptyStation, liveAt, setLive, setEntry, isHeld, placeOf}
 use Rattle.model.specs.Reading.{Choice, own, absent, nofit, version}

@@ -1,16 +1,14 @@
 -- Both kinds have what is asked of a kind (specs/Kinds), and their sizes are the papers'.
-use Prim.Native.Nat.{ℕ, _<_}
 use mathlib.Core.Path.{_≡_, refl, ap, _∙_}
-use mathlib.Core.List.{List}
 use lib.Dec.{lit<}
-use lib.ListN.{length, getD}
+use lib.ListN.{length}
 use lib.Seq.{take-at}
 use native.Mathlib.Omega.{arith}
 use Rattle.model.specs.Lists.{padded}
-use Rattle.model.specs.Limits.{keys, keysSize, byteRange}
+use Rattle.model.specs.Limits.{keys, keysSize}
 use Rattle.model.specs.Bytes.{bytes}
 use Rattle.model.specs.KeySets.{keySet, setNumber}
-use Rattle.model.specs.Kinds.{narrowKind, wideKind, storeSize, WriteSet, KindFits}
+use Rattle.model.specs.Kinds.{narrowKind, wideKind, storeSize, KindFits}
 use Rattle.model.specs.Ranges.{IsByte}
 use Rattle.model.proofs.ListLaws.{every-everywhere}
 use Rattle.model.proofs.InsertLaws.{padded-length, every-padded, ascending-bytes}
@@ -35,12 +33,13 @@ narrow-fits = record {
   round = λ ks w. unfold padded in take-at ks _ (length ks) refl;
 }
 
--- a wide write set's eight key bytes, and that they name its keys
-pub wide-eight : (ks : List ℕ) → length (wideKind .encode ks) ≡ keysSize
-wide-eight ks = length-bytes keysSize (setNumber ks)
-
-pub wide-bytes : (ks : List ℕ) (i : ℕ) → getD (wideKind .encode ks) i 0 < byteRange
-wide-bytes ks i = every-everywhere IsByte (bytes keysSize (setNumber ks)) (bytes-are keysSize (setNumber ks)) 0 (lit< tt) i
-
-pub wide-round : (ks : List ℕ) → WriteSet wideKind ks → wideKind .decode (length ks) (wideKind .encode ks) ≡ ks
-wide-round ks w = ap keySet (number-bytes keysSize (setNumber ks) (number-below keys ks (w .0))) ∙ number-set ks (w .0)
+pub wide-fits : KindFits wideKind
+wide-fits = record {
+  slots-fit = lit< tt;
+  writes-fit = lit< tt;
+  marked = λ z. omega (arith, z);
+  mark8 = lit< tt;
+  eight = λ ks w. length-bytes keysSize (setNumber ks);
+  bytes8 = λ ks w i. every-everywhere IsByte (bytes keysSize (setNumber ks)) (bytes-are keysSize (setNumber ks)) 0 (lit< tt) i;
+  round = λ ks w. ap keySet (number-bytes keysSize (setNumber ks) (number-below keys ks (w .0))) ∙ number-set ks (w .0);
+}

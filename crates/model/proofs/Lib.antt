@@ -9,6 +9,7 @@ pub mod RefusalLaws
 pub mod StoreLaws
 pub mod RecordLaws
 pub mod KindLaws
+pub mod ValuedLaws
 pub mod ListedLaws
 pub mod InsideLaws
 pub mod SlotLaws

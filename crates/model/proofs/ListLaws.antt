@@ -12,7 +12,7 @@ use native.Mathlib.Nat.{le-of-suc-le-suc, not-suc-le-zero, zero-lt-suc, lt-irref
 use native.Mathlib.Decide.{ℕ-discrete, decLt}
 use native.Mathlib.Omega.{arith}
 use borrow.Author.Tests.{eqb-true, eq-eqb}
-use Rattle.model.specs.Lists.{all, any, first, filter, count, from, member, least, anyBelow, greatestBelow}
+use Rattle.model.specs.Lists.{_or_, all, any, first, filter, count, from, member, least, anyBelow, greatestBelow}
 use Rattle.model.specs.Ranges.{Every}
 use Rattle.model.proofs.Tests.{or-cases}
 
@@ -232,6 +232,14 @@ pub member-no : (t x : ℕ) (xs : List ℕ) → eqb t x ≡ false → member t (
 unfolding member
 member-no t x xs h = any-no (eqb t) x xs h
 
+pub member-cons : (t x : ℕ) (xs : List ℕ) → member t (x ∷ xs) ≡ (eqb t x or member t xs)
+unfolding _or_
+member-cons t x xs = go (eqb t x) refl
+  where
+    go : (b : Bool) → eqb t x ≡ b → member t (x ∷ xs) ≡ (b or member t xs)
+    go true e = member-yes t x xs e
+    go false e = member-no t x xs e
+
 pub member-finds : (t : ℕ) (l : List ℕ) → member t l ≡ true → (first (eqb t) l < length l) × (getD l (first (eqb t) l) 0 ≡ t)
 unfolding member
 member-finds t l h =
@@ -288,6 +296,16 @@ module _ {A : Type 0} where
       any-at p (set l i a) d (r .0) (rw (length-set l i a) (r .1)) (rw (getD-set-other l i (r .0) a d n) (r .2))
 
   module _ {B : Type 0} (f : A → B) where
+    pub map-at : (l : List A) (i : ℕ) → i < length l → (y : B) (z : A) → getD (map f l) i y ≡ f (getD l i z)
+    map-at [] i o y z = absurd (not-suc-le-zero o)
+    map-at (x ∷ xs) zero o y z = refl
+    map-at (x ∷ xs) (suc i) o y z = map-at xs i (le-of-suc-le-suc o) y z
+
+    pub map-set : (l : List A) (i : ℕ) (a : A) → map f (set l i a) ≡ set (map f l) i (f a)
+    map-set [] i a = refl
+    map-set (x ∷ xs) zero a = refl
+    map-set (x ∷ xs) (suc i) a = ap (λ (l : List B). f x ∷ l) (map-set xs i a)
+
     pub take-map : (n : ℕ) (l : List A) → take n (map f l) ≡ map f (take n l)
     take-map zero l = refl
     take-map (suc n) [] = refl

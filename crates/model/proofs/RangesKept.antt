@@ -1,22 +1,21 @@
 -- A station within its types stays so under every call, and a store of bytes stays one of bytes (specs/Ranges).
-use Prim.Native.Nat.{ℕ, zero, suc, _+_, _*_, _^_, _<_, _≤_}
-use mathlib.Core.Path.{_≡_, refl, sym, _∙_}
+use Prim.Native.Nat.{ℕ, zero, suc, _+_, _-_, _*_, _^_, _<_, _≤_}
+use mathlib.Core.Path.{_≡_, refl, sym, subst, _∙_}
 use mathlib.Core.Logic.{_⊎_, inl, inr}
 use mathlib.Core.Bool.{Bool, true, false, not}
 use mathlib.Core.List.{List, [], _∷_, map, List·Memᴰ}
 use lib.Dec.{eqb, ltb, leb, lit<}
-use lib.ListN.{length, take, drop, replicate, length-set, length-drop}
+use lib.ListN.{length, take, drop, replicate, length-set, length-drop, getD, take-append-drop, drop-of-length-le}
 use lib.Seq.{length-take-le}
 use native.Mathlib.Nat.{suc-ne-zero}
 use native.Mathlib.Omega.{arith}
 use borrow.Author.Tests.{ltb-true, leb-false, eqb-true, eqb-false, not-false, le-leb}
 use Rattle.model.specs.declared.Id.{Id}
-use Rattle.model.specs.declared.Live.{Live}
-use Rattle.model.specs.Types.{Entry, Station}
+use Rattle.model.specs.Types.{Entry, Write, Live, Station}
 use Rattle.model.specs.declared.Phase.{Phase}
 use Rattle.model.specs.declared.Phase.the-variants.{Unused, Open, Closing}
 use Rattle.model.specs.declared.Answer.{Answer}
-use Rattle.model.specs.Lists.{_and_, member, ascending, anyBelow}
+use Rattle.model.specs.Lists.{insert, padded, _and_, member, ascending, anyBelow}
 use Rattle.model.specs.Limits.{keys, livePlaces, entryPlaces, writePlaces, readLimit, recordSize, txnRange, numberRange, lastClock, byteRange}
 use Rattle.model.specs.Kinds.{Kind, storeSize, WriteSet, KindFits}
 use Rattle.model.specs.Ids.{noId}
@@ -37,12 +36,12 @@ use Rattle.model.specs.Step.{oneMore, stepped, step}
 use Rattle.model.specs.Abort.{abort}
 use Rattle.model.specs.Collect.{collect}
 use Rattle.model.specs.Scan.{slotsSeen, entrySeen, entriesSeen, lowestBroken, scanned, scan}
-use Rattle.model.specs.Ranges.{Every, IsByte, IdFits, WriteFits, ReadFits, PhaseFits, LiveFits, ListFits, ListsFit}
+use Rattle.model.specs.Ranges.{Every, IsByte, IdFits, ReadFits, PhaseFits, LiveListFits, ListFits, ListsFit}
 use Rattle.model.specs.Sweep.{collections, stationAfter, recordsOf, sweep}
 use Rattle.model.specs.Calls.{Call, Start, Put, Get, Commit, Step, Abort, Collect, Scan, Sweep, does, txnOf, numberOf, IsTyped}
 use Rattle.model.proofs.Tests.{and-left, and-right, and-first, and-second, not-of-false}
 use Rattle.model.proofs.ListLaws.{greatest-below, every-at, every-of, every-everywhere, every-set, every-take, every-drop, every-append, every-replicate, every-from, every-map}
-use Rattle.model.proofs.InsertLaws.{every-insert, padded-length, every-padded}
+use Rattle.model.proofs.InsertLaws.{ascending-bytes, every-insert, padded-drop, padded-length, every-padded}
 use Rattle.model.proofs.RecordLaws.{bytes-are, rules-entry, place-inside}
 use Rattle.model.proofs.RefusalLaws.{guard, unguarded, cond-rule}
 use Rattle.model.proofs.ScanLaws.{entries-length}
@@ -72,37 +71,37 @@ number-below (suc n) (b ∷ bs) l h =
 noId-fits : IdFits noId
 noId-fits = record { clock64 = lit< tt; txn32 = lit< tt }
 
-noWrite-fits : WriteFits noWrite
-noWrite-fits = record { key8 = lit< tt; value64 = lit< tt }
-
 noRead-fits : ReadFits noRead
 noRead-fits = record { key8 = lit< tt; id = noId-fits }
 
 noEntry-fits : ListFits noEntry
 noEntry-fits = record { id = noId-fits; ascends = unfold ascending in refl }
 
-blank-fits : (t : ℕ) (p : Phase) → t < txnRange → PhaseFits p → LiveFits (blank t p)
+blank-fits : (t : ℕ) (p : Phase) → t < txnRange → PhaseFits p → LiveListFits (blank t p)
+unfolding writesOf ascending
 blank-fits t p o f = record {
   txn32 = o;
   phase = f;
-  writes8 = lit< tt;
+  ascends = refl;
   write-places = refl;
-  writes = every-replicate WriteFits writePlaces noWrite noWrite-fits;
+  unkeyed = every-replicate (λ (w : Write). w .key ≡ 0) writePlaces noWrite refl;
+  unvalued = tt;
+  values = every-replicate (λ (w : Write). w .value < numberRange) writePlaces noWrite (lit< tt);
   reads8 = lit< tt;
   read-places = refl;
   reads = every-replicate ReadFits readLimit noRead noRead-fits;
 }
 
-noLive-fits : LiveFits noLive
+noLive-fits : LiveListFits noLive
 unfolding closingSlot closingClock recordsStored
 noLive-fits = blank-fits 0 Unused (lit< tt) (record { slot8 = lit< tt; clock64 = lit< tt; stored8 = lit< tt })
 
-opened-fits : (t : ℕ) → t < txnRange → LiveFits (opened t)
+opened-fits : (t : ℕ) → t < txnRange → LiveListFits (opened t)
 unfolding opened closingSlot closingClock recordsStored
 opened-fits t o = blank-fits t Open o (record { slot8 = lit< tt; clock64 = lit< tt; stored8 = lit< tt })
 
 idle-fits : (κ : Kind) (es : List Entry) → KindFits κ → length es ≡ entryPlaces → Every ListFits es → ListsFit (idleStation κ es)
-idle-fits κ es φ l f = record { kind = φ; live-places = refl; live = every-replicate LiveFits livePlaces noLive noLive-fits; entry-places = l; entries = f }
+idle-fits κ es φ l f = record { kind = φ; live-places = refl; live = every-replicate LiveListFits livePlaces noLive noLive-fits; entry-places = l; entries = f }
 
 pub fits-empty : (κ : Kind) → KindFits κ → ListsFit (emptyStation κ)
 unfolding emptyStation
@@ -110,40 +109,50 @@ fits-empty κ φ = idle-fits κ (replicate entryPlaces noEntry) φ refl (every-r
 
 -- ── a station's places and slots ──
 module _ (st : Station) (f : ListsFit st) where
-  setLive-fits : (i : ℕ) (l : Live) → LiveFits l → ListsFit (setLive st i l)
+  setLive-fits : (i : ℕ) (l : Live) → LiveListFits l → ListsFit (setLive st i l)
   unfolding setLive
-  setLive-fits i l g = record { kind = f .kind; live-places = length-set (st .live) i l ∙ f .live-places; live = every-set LiveFits (st .live) (f .live) i l g; entry-places = f .entry-places; entries = f .entries }
+  setLive-fits i l g = record { kind = f .kind; live-places = length-set (st .live) i l ∙ f .live-places; live = every-set LiveListFits (st .live) (f .live) i l g; entry-places = f .entry-places; entries = f .entries }
 
   setEntry-fits : (d : ℕ) (e : Entry) → ListFits e → ListsFit (setEntry st d e)
   unfolding setEntry
   setEntry-fits d e g = record { kind = f .kind; live-places = f .live-places; live = f .live; entry-places = length-set (st .entries) d e ∙ f .entry-places; entries = every-set ListFits (st .entries) (f .entries) d e g }
 
 -- ── a live transaction changed ──
-module _ (κ : Kind) (φ : KindFits κ) (l : Live) (f : LiveFits l) where
-  withWrite-fits : (es : List Entry) (k v : ℕ) → Used κ es l → k < keys → v < numberRange → (not (hasWritten k l) and leb (κ .writeLimit) (l .«write_count»)) ≡ false → LiveFits (withWrite k v l)
-  unfolding withWrite withWrites writesOf
+module _ (κ : Kind) (φ : KindFits κ) (l : Live) (f : LiveListFits l) where
+  withWrite-fits : (es : List Entry) (k v : ℕ) → Used κ es l → k < keys → v < numberRange → (not (hasWritten k l) and leb (κ .writeLimit) (l .«write_count»)) ≡ false → LiveListFits (withWrite k v l)
   withWrite-fits es k v u o ov r = record {
-    txn32 = f .txn32;
-    phase = f .phase;
-    reads8 = f .reads8;
-    read-places = f .read-places;
-    reads = f .reads;
-    writes8 = omega (arith, limit, φ .writes-fit);
-    write-places = padded-length noWrite writePlaces _ (omega (arith, limit, φ .writes-fit));
-    writes = every-padded WriteFits noWrite writePlaces _ (every-insert writeKey _ WriteFits (writesOf l) (every-take WriteFits (l .«write_count») (l .writes) (f .writes)) (record { key8 = omega arith; value64 = ov })) noWrite-fits;
+    txn32 = unfold withWrite withWrites in f .txn32;
+    phase = unfold withWrite withWrites in f .phase;
+    ascends = writes-ascending κ (withWrite k v l) (used-withWrite κ es k v l u o r .sets);
+    write-places = unfold withWrite withWrites in omega (arith, padded-length noWrite writePlaces ws room, room);
+    unkeyed = unfold withWrite withWrites in rw (padded-drop noWrite writePlaces ws) (every-replicate (λ (w : Write). w .key ≡ 0) (writePlaces - length ws) noWrite refl);
+    unvalued = unfold withWrite withWrites in past (padded noWrite writePlaces ws) (padded-length noWrite writePlaces ws room);
+    values = unfold withWrite withWrites in every-padded (λ (w : Write). w .value < numberRange) noWrite writePlaces ws
+        (every-insert writeKey _ (λ (w : Write). w .value < numberRange) (writesOf l) (unfold writesOf in every-take (λ (w : Write). w .value < numberRange) (l .«write_count») (l .writes) (f .values)) ov) (lit< tt);
+    reads8 = unfold withWrite withWrites in f .reads8;
+    read-places = unfold withWrite withWrites in f .read-places;
+    reads = unfold withWrite withWrites in f .reads;
   }
     where
-      limit : withWrite k v l .«write_count» ≤ κ .writeLimit
-      limit = write-limit κ (withWrite k v l) (used-withWrite κ es k v l u o r .sets)
+      ws : List Write
+      ws = insert writeKey (record { key = k; value = v }) (writesOf l)
 
-  withRead-fits : (es : List Entry) (k : ℕ) (i : Id) → Used κ es l → k < keys → IdFits i → (not (hasRead k l) and leb readLimit (l .«read_count»)) ≡ false → wroteAs es i k ≡ true → LiveFits (withRead k i l)
+      room : length (insert writeKey (record { key = k; value = v }) (writesOf l)) ≤ writePlaces
+      room = let h = write-limit κ (withWrite k v l) (used-withWrite κ es k v l u o r .sets) in (unfold withWrite withWrites in omega (arith, h, φ .writes-fit))
+
+      past : (xs : List Write) → length xs ≡ writePlaces → Every (λ (w : Write). w .value ≡ 0) (drop writePlaces xs)
+      past xs e = let z : length xs ≤ writePlaces = omega (arith, e) in rw (drop-of-length-le xs z) tt
+
+  withRead-fits : (es : List Entry) (k : ℕ) (i : Id) → Used κ es l → k < keys → IdFits i → (not (hasRead k l) and leb readLimit (l .«read_count»)) ≡ false → wroteAs es i k ≡ true → LiveListFits (withRead k i l)
   unfolding withRead withReads readsOf
   withRead-fits es k i u o oi r w = record {
     txn32 = f .txn32;
     phase = f .phase;
-    writes8 = f .writes8;
+    ascends = unfold writesOf in f .ascends;
     write-places = f .write-places;
-    writes = f .writes;
+    unkeyed = f .unkeyed;
+    unvalued = f .unvalued;
+    values = f .values;
     reads8 = omega (arith, limit);
     read-places = padded-length noRead readLimit _ limit;
     reads = every-padded ReadFits noRead readLimit _ (every-insert readKey _ ReadFits (readsOf l) (every-take ReadFits (l .«read_count») (l .reads) (f .reads)) (record { key8 = omega arith; id = oi })) noRead-fits;
@@ -152,9 +161,39 @@ module _ (κ : Kind) (φ : KindFits κ) (l : Live) (f : LiveFits l) where
       limit : withRead k i l .«read_count» ≤ readLimit
       limit = read-limit κ (withRead k i l) (used-withRead κ es k i l u o r w .sets)
 
-  withPhase-fits : (p : Phase) → PhaseFits p → LiveFits (withPhase p l)
-  unfolding withPhase
-  withPhase-fits p g = record { txn32 = f .txn32; phase = g; writes8 = f .writes8; write-places = f .write-places; writes = f .writes; reads8 = f .reads8; read-places = f .read-places; reads = f .reads }
+  withPhase-fits : (p : Phase) → PhaseFits p → LiveListFits (withPhase p l)
+  unfolding withPhase writesOf
+  withPhase-fits p g = record {
+    txn32 = f .txn32;
+    phase = g;
+    ascends = f .ascends;
+    write-places = f .write-places;
+    unkeyed = f .unkeyed;
+    unvalued = f .unvalued;
+    values = f .values;
+    reads8 = f .reads8;
+    read-places = f .read-places;
+    reads = f .reads;
+  }
+
+  -- a key of its writes is a byte
+  key-byte : (j : ℕ) → IsByte (getD (l .writes) j noWrite .key)
+  key-byte j = every-everywhere (λ (w : Write). IsByte (w .key)) (l .writes) all-bytes noWrite (lit< tt) j
+    where
+      unmapped : (ws : List Write) → Every IsByte (map writeKey ws) → Every (λ (w : Write). IsByte (w .key)) ws
+      unmapped [] h = tt
+      unmapped (w ∷ ws) h = (h .0, unmapped ws (h .1))
+
+      zeros : (ws : List Write) → Every (λ (w : Write). w .key ≡ 0) ws → Every (λ (w : Write). IsByte (w .key)) ws
+      zeros [] h = tt
+      zeros (w ∷ ws) h = (omega (arith, h .0), zeros ws (h .1))
+
+      up : ascending 0 keys (map writeKey (take (l .«write_count») (l .writes))) ≡ true
+      up = unfold writesOf in f .ascends
+
+      all-bytes : Every (λ (w : Write). IsByte (w .key)) (l .writes)
+      all-bytes = subst (Every (λ (w : Write). IsByte (w .key))) (take-append-drop (l .«write_count») (l .writes))
+          (every-append (λ (w : Write). IsByte (w .key)) (take (l .«write_count») (l .writes)) (drop (l .«write_count») (l .writes)) (unmapped (take (l .«write_count») (l .writes)) (ascending-bytes 0 (map writeKey (take (l .«write_count») (l .writes))) up)) (zeros (drop (l .«write_count») (l .writes)) (f .unkeyed)))
 
   -- its entry
   entryFor-fits : (es : List Entry) → Used κ es l → ListFits (entryFor l)
@@ -271,9 +310,9 @@ module _ (st : Station) (f : ListsFit st) where
   unfolding entryAt
   entry-fits d o = every-at ListFits (st .entries) (f .entries) d _ o
 
-  live-fits : (t : ℕ) → not (isLive t st) ≡ false → LiveFits (liveAt st (placeOf t st))
+  live-fits : (t : ℕ) → not (isLive t st) ≡ false → LiveListFits (liveAt st (placeOf t st))
   unfolding liveAt
-  live-fits t h8 = every-at LiveFits (st .live) (f .live) (placeOf t st) _ (place-hit st t (not-false _ h8) .0)
+  live-fits t h8 = every-at LiveListFits (st .live) (f .live) (placeOf t st) _ (place-hit st t (not-false _ h8) .0)
 
   live-used : (t : ℕ) → unsound st ≡ false → eqb t 0 ≡ false → not (isLive t st) ≡ false → Used (st .kind) (st .entries) (liveAt st (placeOf t st))
   unfolding unsound
@@ -282,7 +321,7 @@ module _ (st : Station) (f : ListsFit st) where
   -- the clocks of entries and closing transactions, and the next one while there is one
   pub clocks-fit : (n : ℕ) → List·Memᴰ n (clocks st) → n < numberRange
   unfolding liveAt
-  clocks-fit = clock-by st (λ (x : ℕ). x < numberRange) (λ d o. entry-fits d o .id .clock64) (λ i o. every-at LiveFits (st .live) (f .live) i _ o .phase .clock64)
+  clocks-fit = clock-by st (λ (x : ℕ). x < numberRange) (λ d o. entry-fits d o .id .clock64) (λ i o. every-at LiveListFits (st .live) (f .live) i _ o .phase .clock64)
 
   clock-fits : (c : ℕ) → c < numberRange → member lastClock (clocks st) ≡ false → clockAbove c (clocks st) < numberRange
   clock-fits c o h = clock-below c (clocks st) o clocks-fit h
@@ -291,7 +330,7 @@ module _ (st : Station) (f : ListsFit st) where
   row = fits-row st f
 
   -- another transaction at a place, and nothing stored
-  relive : (a : Answer) (i : ℕ) (l : Live) → LiveFits l → EffectFits (says a (setLive st i l))
+  relive : (a : Answer) (i : ℕ) (l : Live) → LiveListFits l → EffectFits (says a (setLive st i l))
   relive a i l g = says-fits a _ (setLive-fits st f i l g)
 
   module _ (t : ℕ) where
@@ -301,18 +340,18 @@ module _ (st : Station) (f : ListsFit st) where
     abbrev l : Live
     l = liveAt st (placeOf t st)
 
-    answered-fits : (s : List ℕ) (k : ℕ) → LiveFits l → Used (st .kind) (st .entries) l → k < keys → (ch : Choice) → choiceOf st l k ≡ ch → noRoom l k ch ≡ false → EffectFits (answered st s i k ch)
+    answered-fits : (s : List ℕ) (k : ℕ) → LiveListFits l → Used (st .kind) (st .entries) l → k < keys → (ch : Choice) → choiceOf st l k ≡ ch → noRoom l k ch ≡ false → EffectFits (answered st s i k ch)
     unfolding noRoom answered
     answered-fits s k g u o (own v) e r = says-fits _ st f
     answered-fits s k g u o absent e r = says-fits _ st f
     answered-fits s k g u o (nofit x) e r = says-fits _ st f
     answered-fits s k g u o (version d) e r = relive _ _ _ (withRead-fits (st .kind) (f .kind) l g (st .entries) k _ u o (entry-fits d (version-entry st l k d e .0) .id) r (version-wrote st l k d e))
 
-    stepped-fits : LiveFits l → Used (st .kind) (st .entries) l → EffectFits (stepped st i l (l .phase))
+    stepped-fits : LiveListFits l → Used (st .kind) (st .entries) l → EffectFits (stepped st i l (l .phase))
     unfolding stepped
     stepped-fits g u =
         cond-rule EffectFits (ltb (recordsStored (l .phase)) (writeCount l)) _ _
-        (λ q. stores-fits _ _ _ _ _ (more (omega (arith, ltb-true (recordsStored (l .phase)) (writeCount l) q))) (version-bytes _ _ _ (every-everywhere WriteFits (l .writes) (g .writes) noWrite noWrite-fits _ .key8))) λ n1.
+        (λ q. stores-fits _ _ _ _ _ (more (omega (arith, ltb-true (recordsStored (l .phase)) (writeCount l) q))) (version-bytes _ _ _ (key-byte (st .kind) (f .kind) l g _))) λ n1.
         cond-rule EffectFits (eqb (recordsStored (l .phase)) (writeCount l)) _ _
         (λ q. stores-fits _ _ _ _ _ (more (omega (arith, eqb-true (recordsStored (l .phase)) (writeCount l) q))) (commit-bytes (st .kind) (entryFor l) (f .kind) (entryFor-set (st .kind) (st .entries) l u))) λ n2.
         says-fits _ _ (setEntry-fits _ (setLive-fits st f i noLive noLive-fits) _ _ (entryFor-fits (st .kind) (f .kind) l g (st .entries) u))

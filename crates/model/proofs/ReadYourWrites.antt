@@ -6,8 +6,7 @@ use mathlib.Core.Bool.{true, false}
 use mathlib.Core.List.{List}
 use lib.ListN.{length}
 use borrow.Author.Tests.{leb-false, eqb-false, not-false, lt-leb, eq-eqb, ne-eqb}
-use Rattle.model.specs.declared.Live.{Live}
-use Rattle.model.specs.Types.{Station}
+use Rattle.model.specs.Types.{Live, Station}
 use Rattle.model.specs.declared.Answer.the-variants as A
 use Rattle.model.specs.Lists.{all}
 use Rattle.model.specs.Limits.{keys}

@@ -9,8 +9,7 @@ use native.Mathlib.Nat.{suc-ne-zero}
 use native.Mathlib.Decide.{decLt}
 use native.Mathlib.Omega.{arith}
 use borrow.Author.Tests.{eqb-true, eqb-false, not-true, not-false, eq-eqb}
-use Rattle.model.specs.declared.Live.{Live}
-use Rattle.model.specs.Types.{Entry, Station}
+use Rattle.model.specs.Types.{Entry, Live, Station}
 use Rattle.model.specs.declared.Phase.{Phase}
 use Rattle.model.specs.declared.Phase.the-variants.{Unused, Open, Closing}
 use Rattle.model.specs.Lists.{member}

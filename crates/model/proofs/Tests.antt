@@ -113,3 +113,14 @@ pub same-test : (a b : Bool) → (a ≡ true → b ≡ true) → (b ≡ true →
 same-test true b f g = sym (f refl)
 same-test false true f g = g refl
 same-test false false f g = refl
+
+pub or-swap : (a b c : Bool) → (a or (b or c)) ≡ (b or (a or c))
+unfolding _or_
+or-swap true true c = refl
+or-swap true false c = refl
+or-swap false b c = refl
+
+pub or-twice : (a b : Bool) → (a or (a or b)) ≡ (a or b)
+unfolding _or_
+or-twice true b = refl
+or-twice false b = refl

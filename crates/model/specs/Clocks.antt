@@ -1,8 +1,7 @@
 -- 02 §3: "A closing ticket's clock is now the greater of the clock given and one more than the greatest clock of any entry or closing ticket."
 use Prim.Native.Nat.{ℕ, _+_, max}
 use mathlib.Core.List.{List, _++_, map}
-use Rattle.model.specs.declared.Live.{Live}
-use Rattle.model.specs.Types.{Entry, Station}
+use Rattle.model.specs.Types.{Entry, Live, Station}
 use Rattle.model.specs.Lists.{maximum}
 use Rattle.model.specs.Lives.{closingClock}
 

@@ -6,8 +6,7 @@ use mathlib.Core.List.{List, [], _++_, map}
 use lib.Dec.{eqb, leb}
 use lib.ListN.{length, take, drop, getD}
 use Rattle.model.specs.declared.Id.{Id}
-use Rattle.model.specs.declared.Live.{Live}
-use Rattle.model.specs.Types.{Entry}
+use Rattle.model.specs.Types.{Entry, Live}
 use Rattle.model.specs.Lists.{_and_, any, first, member, ascending, same}
 use Rattle.model.specs.Limits.{keys, keysSize}
 use Rattle.model.specs.Kinds.{Kind}

@@ -4,8 +4,7 @@ use mathlib.Core.Bool.{Bool, false, not, cond}
 use mathlib.Core.List.{List, [], _∷_}
 use lib.Dec.{eqb, leb}
 use Rattle.model.specs.declared.Id.{Id}
-use Rattle.model.specs.declared.Live.{Live}
-use Rattle.model.specs.Types.{Station}
+use Rattle.model.specs.Types.{Live, Station}
 use Rattle.model.specs.declared.Answer.the-variants as A
 use Rattle.model.specs.Lists.{_and_, insert}
 use Rattle.model.specs.Limits.{keys, readLimit}

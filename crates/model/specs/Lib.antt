@@ -4,9 +4,9 @@ pub mod KeySets
 pub mod Bytes
 pub mod Kinds
 pub mod Types
-pub mod Listed
 pub mod Ids
 pub mod Lives
+pub mod Listed
 pub mod Entries
 pub mod Stations
 pub mod Ranges

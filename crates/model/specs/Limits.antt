@@ -14,7 +14,7 @@ entryPlaces = 64
 
 -- "a write list (at most 8 keys ..) and a read list (at most 16 keys ..)": the room for a write list; its limit follows the kind (Kinds)
 abbrev pub writePlaces : ℕ
-writePlaces = 8
+writePlaces = 16
 
 abbrev pub readLimit : ℕ
 readLimit = 16

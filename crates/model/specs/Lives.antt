@@ -4,9 +4,8 @@ use mathlib.Core.Bool.{Bool, true, false}
 use mathlib.Core.List.{List, [], map}
 use lib.Dec.{eqb}
 use lib.ListN.{length, take, getD, replicate}
-use Rattle.model.specs.declared.Write.{Write}
+use Rattle.model.specs.Types.{Write, Live}
 use Rattle.model.specs.declared.Read.{Read}
-use Rattle.model.specs.declared.Live.{Live}
 use Rattle.model.specs.declared.Phase.{Phase}
 use Rattle.model.specs.declared.Phase.the-variants.{Unused, Open, Closing}
 use Rattle.model.specs.Lists.{first, member, padded}
@@ -45,6 +44,9 @@ writeCount l = length (writesOf l)
 -- their keys
 abbrev pub writeKey : Write → ℕ
 writeKey w = w .key
+
+abbrev pub writeValue : Write → ℕ
+writeValue w = w .value
 
 abbrev pub readKey : Read → ℕ
 readKey r = r .key

@@ -4,8 +4,7 @@ use mathlib.Core.Bool.{Bool, not}
 use mathlib.Core.List.{List, map}
 use lib.Dec.{eqb}
 use lib.ListN.{getD, replicate, set}
-use Rattle.model.specs.declared.Live.{Live}
-use Rattle.model.specs.Types.{Entry, Station}
+use Rattle.model.specs.Types.{Entry, Live, Station}
 use Rattle.model.specs.Lists.{_and_, first, member}
 use Rattle.model.specs.Limits.{livePlaces, entryPlaces}
 use Rattle.model.specs.Kinds.{Kind}

@@ -2,8 +2,7 @@
 use Prim.Native.Nat.{ℕ}
 use mathlib.Core.Bool.{Bool}
 use mathlib.Core.List.{List}
-use Rattle.model.specs.declared.Live.{Live}
-use Rattle.model.specs.Types.{Entry, Station}
+use Rattle.model.specs.Types.{Entry, Live, Station}
 use Rattle.model.specs.Lists.{_and_, all, any}
 use Rattle.model.specs.Ids.{older, sameId}
 use Rattle.model.specs.Lives.{readsOf}

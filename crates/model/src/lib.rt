@@ -3,10 +3,10 @@
 ghost use mathlib.Core.Path.{_≡_};
 ghost use Prim.Native.Nat.{_≤_};
 ghost use lib.ListN.{length};
-ghost use Rattle.model.specs.Limits.{writePlaces, readLimit};
+ghost use Rattle.model.specs.Limits.{readLimit};
 ghost use Rattle.model.specs.Kinds.{narrowKind};
 ghost use Rattle.model.specs.Ids.{sameId};
-ghost use Rattle.model.specs.Listed.{listedEntry, listed};
+ghost use Rattle.model.specs.Listed.{listedEntry, listedLive, listed};
 ghost use Rattle.model.specs.Lives.{blank, readsOf, writeCount};
 ghost use Rattle.model.specs.Entries.{noEntry};
 ghost use Rattle.model.specs.Stations.{emptyStation};
@@ -24,24 +24,19 @@ pub enum Phase {
     Closing(u8, u64, u8),
 }
 
-// A key of the write set (01's write list) with its last value.
-pub struct Write {
-    pub key: u8,
-    pub value: u64,
-}
-
 // A key of the read set (01's read list) with the id of the version read.
 pub struct Read {
     pub key: u8,
     pub id: Id,
 }
 
-// A place for a live transaction (01's live ticket).
+// A place for a live transaction (01's live ticket). Its write set (01's write list) is a number in which bit k stands for key k (02 §5), and the
+// values of its keys in their order; room for 16, a wide store's limit (02 §6).
 pub struct Live {
     pub txn: u32,
     pub phase: Phase,
-    pub write_count: u8,
-    pub writes: [Write; Station::WRITES],
+    pub keys: u64,
+    pub values: [u64; Station::WRITE_PLACES],
     pub read_count: u8,
     pub reads: [Read; Station::READS],
 }
@@ -93,6 +88,9 @@ impl Station {
 
     pub const WRITES: usize = 8;
 
+    // The room for a write set, of either kind.
+    pub const WRITE_PLACES: usize = 16;
+
     pub const READS: usize = 16;
 
     pub const KEYS: usize = 64;
@@ -128,13 +126,12 @@ impl Station {
         ensures { λ r. ⌜ listed r ≡ emptyStation narrowKind ⌝ }
     {
         let id = Id { clock: 0, txn: 0 };
-        let write = Write { key: 0, value: 0 };
         let read = Read { key: 0, id: id };
         let live = Live {
             txn: 0,
             phase: Phase::Unused,
-            write_count: 0,
-            writes: [write; Station::WRITES],
+            keys: 0,
+            values: [0; Station::WRITE_PLACES],
             read_count: 0,
             reads: [read; Station::READS],
         };
@@ -149,16 +146,15 @@ impl Station {
 // ---- one value
 // A live transaction with empty sets.
 pub fn blank(txn: u32, phase: Phase) -> Live
-    ensures { λ r. ⌜ r ≡ blank txn phase ⌝ }
+    ensures { λ r. ⌜ listedLive r ≡ blank txn phase ⌝ }
 {
     let id = Id { clock: 0, txn: 0 };
-    let write = Write { key: 0, value: 0 };
     let read = Read { key: 0, id };
     Live {
         txn,
         phase,
-        write_count: 0,
-        writes: [write; Station::WRITES],
+        keys: 0,
+        values: [0; Station::WRITE_PLACES],
         read_count: 0,
         reads: [read; Station::READS],
     }
@@ -190,21 +186,15 @@ pub fn same_id(a: Id, b: Id) -> bool
 
 // How many keys the transaction writes.
 pub fn write_count(l: Live) -> u8
-    ensures { λ r. ⌜ r ≤ writePlaces ⌝ }
-    ensures { λ r. ⌜ r ≡ writeCount l ⌝ }
+    ensures { λ r. ⌜ r ≡ writeCount (listedLive l) ⌝ }
 {
-    let n = l.write_count;
-    if n < Station::WRITES_U8 {
-        n
-    } else {
-        Station::WRITES_U8
-    }
+    u64::count_ones(l.keys) as u8
 }
 
 // How many reads the transaction has.
 pub fn read_count(l: Live) -> usize
     ensures { λ r. ⌜ r ≤ readLimit ⌝ }
-    ensures { λ r. ⌜ r ≡ length (readsOf l) ⌝ }
+    ensures { λ r. ⌜ r ≡ length (readsOf (listedLive l)) ⌝ }
 {
     let n = l.read_count;
     if n < Station::READS_U8 {

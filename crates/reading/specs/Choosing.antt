@@ -1,15 +1,11 @@
 -- What the code is given of a transaction, and what it answers for what Algorithm 1 chose.
-use Prim.Native.Nat.{ℕ, _<_, _≤_}
+use Prim.Native.Nat.{ℕ, _<_}
 use mathlib.Core.Path.{_≡_}
 use mathlib.Core.Logic.{_≢_}
 use mathlib.Core.Bool.{true}
-use mathlib.Core.List.{List, map}
-use Rattle.model.specs.Types.{Entry}
-use Rattle.model.specs.declared.Live.{Live}
-use Rattle.model.specs.Types.{Station}
-use Rattle.model.specs.Lists.{ascending}
-use Rattle.model.specs.Limits.{keys, livePlaces, readLimit}
-use Rattle.model.specs.Lives.{readsOf, readKey}
+use mathlib.Core.List.{List}
+use Rattle.model.specs.Types.{Entry, Live, Station}
+use Rattle.model.specs.Limits.{livePlaces}
 use Rattle.model.specs.Stations.{liveAt}
 use Rattle.model.specs.Sound.{sound}
 use Rattle.model.specs.Reading.{Choice, own, absent, nofit, version}
@@ -22,10 +18,6 @@ chosenAs (own v) = None
 chosenAs absent = None
 chosenAs (nofit k) = Nofit k
 chosenAs (version d) = Version d
-
--- a read set within its limit, its keys ascending
-abbrev pub ReadsFit : Live → Type 0
-ReadsFit l = (l .«read_count» ≤ readLimit) × (ascending 0 keys (map readKey (readsOf l)) ≡ true)
 
 -- a live transaction of a sound station that has these entries
 unfoldable pub IsReader : List Entry → Live → Type 0

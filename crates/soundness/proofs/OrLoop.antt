@@ -8,11 +8,10 @@ use lib.ListN.{length, drop, getD}
 use lib.Bits.{bitOr, or-add-and, and-le-l, and-le-r}
 use native.Mathlib.Omega.{arith}
 use borrow.Author.Tests.{eqb-true, eq-eqb}
-use Rattle.model.specs.declared.Write.{Write}
 use Rattle.model.specs.declared.Read.{Read}
 use Rattle.model.specs.Lists.{_and_, all}
 use Rattle.model.specs.Ids.{sameId}
-use Rattle.model.specs.Sound.{isNoWrite, isNoRead}
+use Rattle.model.specs.Sound.{isNoRead}
 use Rattle.model.proofs.Tests.{and-left, and-right, and-intro, and-true, and-assoc, same-test}
 use Rattle.model.proofs.RestLaws.{all-split, all-end}
 
@@ -24,14 +23,15 @@ crossed true false false d = refl
 crossed false b c d = refl
 
 -- ── the elements one by one ──
-module _ {A : Type 0} (p : A → Bool) (xs : List A) (n : ℕ) where
-  -- j of the n elements are passed, and b says whether they all pass
+-- of the n elements those from i on are asked for
+module _ {A : Type 0} (p : A → Bool) (xs : List A) (n i : ℕ) where
+  -- those before j are passed, and b says whether they all pass
   abbrev pub OrPassed : Bool → ℕ → Type 0
-  OrPassed b j = (j ≤ n) × (all p xs ≡ (b and all p (drop j xs)))
+  OrPassed b j = (j ≤ n) × (all p (drop i xs) ≡ (b and all p (drop j xs)))
 
-  pub or-start : OrPassed true 0
+  pub or-start : i ≤ n → OrPassed true i
   unfolding _and_
-  or-start = (omega arith, refl)
+  or-start o = (o, refl)
 
   module _ (long : length xs ≡ n) (b : Bool) (j : ℕ) (h : OrPassed b j) where
     pub or-next : (d : A) (c : Bool) → j < n → (b and p (getD xs j d)) ≡ c → OrPassed c (j + 1)
@@ -39,7 +39,7 @@ module _ {A : Type 0} (p : A → Bool) (xs : List A) (n : ℕ) where
         let q : j < length xs = omega arith in
         (omega arith, h .1 ∙ ap (λ (x : Bool). b and x) (all-split p xs j d q) ∙ and-assoc b (p (getD xs j d)) (all p (drop (j + 1) xs)) ∙ ap (λ (x : Bool). x and all p (drop (j + 1) xs)) e)
 
-    pub or-done : n ≤ j → all p xs ≡ b
+    pub or-done : n ≤ j → all p (drop i xs) ≡ b
     or-done o = let q : length xs ≤ j = omega arith in h .1 ∙ ap (λ (x : Bool). b and x) (all-end p xs j q) ∙ and-true b
 
 -- ── fields ──
@@ -56,11 +56,7 @@ or-zero a b = same-test (eqb (bitOr a b) 0) (eqb a 0 and eqb b 0) there back
     back : (eqb a 0 and eqb b 0) ≡ true → eqb (bitOr a b) 0 ≡ true
     back h = eq-eqb (bitOr a b) 0 (ap₂ bitOr (eqb-true a 0 (and-left _ _ h)) (eqb-true b 0 (and-right _ _ h)))
 
--- a write's, a read's
-pub write-or : (k v : ℕ) (w : Write) → ((eqb k 0 and eqb v 0) and isNoWrite w) ≡ (eqb (bitOr k (w .key)) 0 and eqb (bitOr v (w .value)) 0)
-unfolding isNoWrite
-write-or k v w = crossed (eqb k 0) (eqb v 0) (eqb (w .key) 0) (eqb (w .value) 0) ∙ ap₂ (λ (a b : Bool). a and b) (sym (or-zero k (w .key))) (sym (or-zero v (w .value)))
-
+-- a read's
 pub read-or : (k c t : ℕ) (r : Read) → ((eqb k 0 and (eqb c 0 and eqb t 0)) and isNoRead r)
     ≡ (eqb (bitOr k (r .key)) 0 and (eqb (bitOr c (r .id .clock)) 0 and eqb (bitOr t (r .id .txn)) 0))
 unfolding isNoRead sameId

@@ -5,44 +5,82 @@ use mathlib.Core.Logic.{_≢_}
 use mathlib.Core.Bool.{Bool, true, false, true≢false, not}
 use mathlib.Core.List.{List, [], _∷_, _++_, map}
 use lib.Dec.{eqb, ltb, leb}
-use lib.ListN.{length, take, drop, getD, set, length-drop, length-map, take-append-drop, List·getD-map}
+use lib.ListN.{length, take, drop, getD, set, length-drop, length-map, take-append-drop, drop-of-length-le, List·getD-map}
 use lib.Seq.{take-all, drop-set-add}
 use native.Mathlib.Nat.{zero-lt-suc, suc-ne-zero}
 use native.Mathlib.Omega.{arith}
-use borrow.Author.Tests.{lt-ltb, le-ltb, le-leb, lt-leb, eq-eqb, ne-eqb}
+use borrow.Author.Tests.{lt-ltb, le-ltb, le-leb, lt-leb, eq-eqb, ne-eqb, eqb-true}
 use Rattle.model.specs.declared as machine
 use Rattle.model.specs.declared.Read.{Read}
-use Rattle.model.specs.declared.Live.{Live}
+use Rattle.model.specs.Types.{Live}
 use Rattle.model.specs.declared.Phase.{Phase}
 use Rattle.model.specs.declared.Phase.the-variants.{Unused, Open, Closing}
 use Rattle.model.specs.Types.{Entry}
-use Rattle.model.specs.KeySets.{keySet}
-use Rattle.model.specs.Listed.{listedEntry, listedEntries}
-use Rattle.model.proofs.KeySetLaws.{set-ascends}
-use Rattle.model.proofs.ListedLaws.{zeroEntry, listed-any}
+use Rattle.model.specs.KeySets.{keySet, setNumber}
+use Rattle.model.specs.Listed.{valued, listedLive, listedLives, listedEntry, listedEntries}
+use Rattle.model.proofs.KeySetLaws.{set-ascends, set-none, set-number}
+use Rattle.model.proofs.ValuedLaws.{valued-keys}
+use Rattle.model.proofs.ListedLaws.{zeroLive, lives-any, zeroEntry, listed-any}
 use Rattle.model.specs.Lists.{_and_, _or_, all, ascending}
-use Rattle.model.specs.Limits.{keys}
+use Rattle.model.specs.Limits.{keys, numberRange}
 use Rattle.model.specs.Kinds.{Kind}
 use Rattle.model.specs.Ids.{sameId}
-use Rattle.model.specs.Lives.{writeKey, slotMark, liveBeyond}
+use Rattle.model.specs.Lives.{noWrite, writesOf, writeKey, slotMark}
 use Rattle.model.specs.Entries.{noEntry}
-use Rattle.model.proofs.Tests.{and-true}
+use Rattle.model.proofs.Tests.{same-test, and-none-right}
 use Rattle.model.proofs.InsideLaws.{right-none, right-some}
-use Rattle.model.specs.Sound.{isNoWrite, isNoLive, entryRight}
-use Rattle.soundness.specs.Parts.{fits, anyWrite, setRight, writesRight, readsRight, liveColumn, heldColumn, txnColumn, markColumn, slotIn}
+use Rattle.model.specs.Sound.{isNoWrite, isNoRead, isNoLive, entryRight}
+use Rattle.soundness.specs.Parts.{fits, isZero, setRight, writesRight, readsRight, liveColumn, heldColumn, txnColumn, markColumn, slotIn}
 use Rattle.soundness.specs.Parts.{isUnused, shapeRight, shape, isNamed, namedBy, placeFits, slotFree}
 use Rattle.soundness.proofs.Loops.{column-more, column-end}
 use Rattle.model.proofs.RestLaws.{all-split}
 
 -- ── a write set within its limit ──
-module _ (κ : Kind) (l : Live) (n : ℕ) where
-  pub writes-is : n ≡ l .«write_count» → n ≤ κ .writeLimit → writesRight κ l ≡ (setRight writeKey anyWrite isNoWrite 0 n (l .writes) and true)
-  unfolding writesRight _and_
-  writes-is e h = rw (← e, le-leb n (κ .writeLimit) h) (sym (and-true _))
+-- past the keys the values alone are left
+unkeyed-is : (ks vs : List ℕ) → all isNoWrite (drop (length ks) (valued ks vs)) ≡ all isZero (drop (length ks) vs)
+unfolding valued isNoWrite all _and_
+unkeyed-is [] [] = refl
+unkeyed-is [] (v ∷ vs) = all-split isNoWrite (valued [] (v ∷ vs)) 0 noWrite (zero-lt-suc _) ∙ (ap (λ (b : Bool). eqb v 0 and b) (unkeyed-is [] vs) ∙ sym (all-split isZero (v ∷ vs) 0 0 (zero-lt-suc _)))
+unkeyed-is (k ∷ ks) [] = unkeyed-is ks [] ∙ ap (all isZero) (drop-of-length-le [] {i = length ks} (omega arith))
+unkeyed-is (k ∷ ks) (v ∷ vs) = unkeyed-is ks vs
 
-  pub writes-long : n ≡ l .«write_count» → κ .writeLimit < n → writesRight κ l ≡ false
+module _ (κ : Kind) (l : machine.Live.Live) (n : ℕ) (e : n ≡ length (keySet (l .keys))) where
+  pub writes-is : n ≤ κ .writeLimit → writesRight κ (listedLive l) ≡ all isZero (drop n (l .values))
+  unfolding writesRight writesOf _and_
+  writes-is h =
+      let ks = keySet (l .keys) in
+      let a : leb (length ks) (κ .writeLimit) ≡ true = subst (λ (m : ℕ). leb m (κ .writeLimit) ≡ true) e (le-leb n (κ .writeLimit) h) in
+      let b : ascending 0 keys (map writeKey (take (length ks) (valued ks (l .values)))) ≡ true = subst (λ (xs : List ℕ). ascending 0 keys xs ≡ true) (sym (valued-keys ks (l .values))) (set-ascends (l .keys)) in
+      ap₂ (λ (x y : Bool). x and y and all isNoWrite (drop (length ks) (valued ks (l .values)))) a b
+      ∙ (unkeyed-is ks (l .values) ∙ ap (λ (m : ℕ). all isZero (drop m (l .values))) (sym e))
+
+  pub writes-long : κ .writeLimit < n → writesRight κ (listedLive l) ≡ false
   unfolding writesRight _and_
-  writes-long e h = rw (← e, lt-leb n (κ .writeLimit) h)
+  writes-long h = rw (← e, lt-leb n (κ .writeLimit) h)
+
+-- a set is empty where its number is 0
+empty-is : (n : ℕ) → n < numberRange → eqb (length (keySet n)) 0 ≡ eqb n 0
+empty-is n h = same-test _ _ (λ q. eq-eqb n 0 (go (keySet n) refl (eqb-true _ 0 q))) (λ q. eq-eqb _ 0 (ap (λ (m : ℕ). length (keySet m)) (eqb-true n 0 q) ∙ ap length set-none))
+  where
+    go : (ks : List ℕ) → keySet n ≡ ks → length ks ≡ 0 → n ≡ 0
+    go [] e z = let none : setNumber [] ≡ 0 = unfold setNumber in refl in sym (set-number n h) ∙ (ap setNumber e ∙ none)
+    go (k ∷ ks) e z = absurd (suc-ne-zero _ z)
+
+unused-values : (l : machine.Live.Live) → l .keys ≡ 0 → all isNoWrite (listedLive l .writes) ≡ all isZero (l .values)
+unused-values l e = ap (λ (ks : List ℕ). all isNoWrite (valued ks (l .values))) (ap keySet e ∙ set-none) ∙ unkeyed-is [] (l .values)
+
+pub unused-is : (l : machine.Live.Live) → l .keys < numberRange
+    → isNoLive (listedLive l) ≡ (eqb (l .txn) 0 and eqb (l .keys) 0 and eqb (l .«read_count») 0 and all isZero (l .values) and all isNoRead (l .reads))
+unfolding isNoLive _and_
+unused-is l h = ap (λ (a : Bool). eqb (l .txn) 0 and a and eqb (l .«read_count») 0 and all isNoWrite (listedLive l .writes) and all isNoRead (l .reads)) (empty-is (l .keys) h) ∙ go (eqb (l .keys) 0) refl
+  where
+    go : (b : Bool) → eqb (l .keys) 0 ≡ b → (eqb (l .txn) 0 and eqb (l .keys) 0 and eqb (l .«read_count») 0 and all isNoWrite (listedLive l .writes) and all isNoRead (l .reads))
+        ≡ (eqb (l .txn) 0 and eqb (l .keys) 0 and eqb (l .«read_count») 0 and all isZero (l .values) and all isNoRead (l .reads))
+    go true e = ap (λ (a : Bool). eqb (l .txn) 0 and eqb (l .keys) 0 and eqb (l .«read_count») 0 and a and all isNoRead (l .reads)) (unused-values l (eqb-true (l .keys) 0 e))
+    go false e =
+        let z : (eqb (l .txn) 0 and eqb (l .keys) 0) ≡ false = and-none-right (eqb (l .txn) 0) (eqb (l .keys) 0) e in
+        ap (λ (a : Bool). a and eqb (l .«read_count») 0 and all isNoWrite (listedLive l .writes) and all isNoRead (l .reads)) z
+        ∙ sym (ap (λ (a : Bool). a and eqb (l .«read_count») 0 and all isZero (l .values) and all isNoRead (l .reads)) z)
 
 -- ── slots ──
 module _ (κ : Kind) (ts : List ℕ) (m : ℕ) where
@@ -90,12 +128,12 @@ unused-shape κ Open l h = absurd (true≢false (sym h))
 unused-shape κ (Closing d c n) l h = absurd (true≢false (sym h))
 
 -- ── columns ──
-pub mark-at : (ls : List Live) (i : ℕ) → getD (markColumn ls) i 0 ≡ slotMark (getD ls i liveBeyond .phase)
+mark-at : (ls : List machine.Live.Live) (i : ℕ) → getD (markColumn (listedLives ls)) i 0 ≡ slotMark (getD ls i zeroLive .phase)
 unfolding slotMark
-mark-at ls i = List·getD-map (λ (l : Live). slotMark (l .phase)) ls i liveBeyond
+mark-at ls i = List·getD-map (λ (l : Live). slotMark (l .phase)) (listedLives ls) i (listedLive zeroLive) ∙ ap (λ (l : Live). slotMark (l .phase)) (lives-any ls i)
 
-pub live-at : (ls : List Live) (i : ℕ) → getD (liveColumn ls) i 0 ≡ getD ls i liveBeyond .txn
-live-at ls i = List·getD-map (λ (l : Live). l .txn) ls i liveBeyond
+live-at : (ls : List machine.Live.Live) (i : ℕ) → getD (liveColumn (listedLives ls)) i 0 ≡ getD ls i zeroLive .txn
+live-at ls i = List·getD-map (λ (l : Live). l .txn) (listedLives ls) i (listedLive zeroLive) ∙ ap (λ (l : Live). l .txn) (lives-any ls i)
 
 pub held-txn-at : (es : List Entry) (d : ℕ) → getD (heldColumn es) d 0 ≡ getD es d noEntry .id .txn
 held-txn-at es d = List·getD-map (λ (e : Entry). e .id .txn) es d noEntry
@@ -113,9 +151,10 @@ held-more xs es d hx he o e =
 pub held-end : (xs : List ℕ) (es : List Entry) (d : ℕ) → length xs ≡ 72 → length es ≡ 64 → 64 ≤ d → take d (drop 8 xs) ≡ take d (heldColumn es) → drop 8 xs ≡ heldColumn es
 held-end xs es d hx he o e = column-end (drop 8 xs) (heldColumn es) 64 d (omega (arith, length-drop 8 xs)) (omega (arith, length-map es (λ (x : Entry). x .id .txn))) o e
 
-pub live-more : (xs : List ℕ) (ls : List Live) (k : ℕ) → length xs ≡ 72 → length ls ≡ 8 → k < 8
-    → take k xs ≡ take k (liveColumn ls) → take (k + 1) (set xs k (getD ls k liveBeyond .txn)) ≡ take (k + 1) (liveColumn ls)
-live-more xs ls k hx hl o e = column-more [] xs (liveColumn ls) k k (getD ls k liveBeyond .txn) (omega arith) (omega (arith, length-map ls (λ (l : Live). l .txn))) (sym (live-at ls k)) e
+pub live-more : (xs : List ℕ) (ls : List machine.Live.Live) (k : ℕ) → length xs ≡ 72 → length (listedLives ls) ≡ 8 → k < 8
+    → take k xs ≡ take k (liveColumn (listedLives ls)) → take (k + 1) (set xs k (getD ls k zeroLive .txn)) ≡ take (k + 1) (liveColumn (listedLives ls))
+live-more xs ls k hx hl o e =
+    column-more [] xs (liveColumn (listedLives ls)) k k (getD ls k zeroLive .txn) (omega arith) (omega (arith, length-map (listedLives ls) (λ (l : Live). l .txn))) (sym (live-at ls k)) e
 
 pub txns-end : (xs : List ℕ) (ls : List Live) (es : List Entry) (k : ℕ) → length ls ≡ 8 → k ≡ 8 → take k xs ≡ take k (liveColumn ls) → drop 8 xs ≡ heldColumn es → xs ≡ txnColumn ls es
 txns-end xs ls es k hl ek el ee =
@@ -123,9 +162,10 @@ txns-end xs ls es k hl ek el ee =
     ∙ ap₂ (λ (a b : List ℕ). a ++ b) (subst (λ (m : ℕ). take m xs ≡ take m (liveColumn ls)) ek el ∙ take-all 8 (liveColumn ls) (omega (arith, length-map ls (λ (l : Live). l .txn)))) ee
 
 -- the column of marks
-pub marks-more : (xs : List ℕ) (ls : List Live) (k m : ℕ) → length xs ≡ 8 → length ls ≡ 8 → k < 8 → m ≡ slotMark (getD ls k liveBeyond .phase)
-    → take k xs ≡ take k (markColumn ls) → take (k + 1) (set xs k m) ≡ take (k + 1) (markColumn ls)
-marks-more xs ls k m hx hl o q e = column-more [] xs (markColumn ls) k k m (omega arith) (omega (arith, length-map ls (λ (l : Live). slotMark (l .phase)))) (q ∙ sym (mark-at ls k)) e
+pub marks-more : (xs : List ℕ) (ls : List machine.Live.Live) (k m : ℕ) → length xs ≡ 8 → length (listedLives ls) ≡ 8 → k < 8 → m ≡ slotMark (getD ls k zeroLive .phase)
+    → take k xs ≡ take k (markColumn (listedLives ls)) → take (k + 1) (set xs k m) ≡ take (k + 1) (markColumn (listedLives ls))
+marks-more xs ls k m hx hl o q e =
+    column-more [] xs (markColumn (listedLives ls)) k k m (omega arith) (omega (arith, length-map (listedLives ls) (λ (l : Live). slotMark (l .phase)))) (q ∙ sym (mark-at ls k)) e
 
 pub marks-end : (xs : List ℕ) (ls : List Live) (k : ℕ) → length xs ≡ 8 → length ls ≡ 8 → 8 ≤ k → take k xs ≡ take k (markColumn ls) → xs ≡ markColumn ls
 marks-end xs ls k hx hl o e = column-end xs (markColumn ls) 8 k hx (omega (arith, length-map ls (λ (l : Live). slotMark (l .phase)))) o e

@@ -12,17 +12,16 @@ use native.Mathlib.Omega.{arith}
 use borrow.Author.Tests.{ltb-true, leb-true, leb-false, eqb-true, lt-ltb, le-leb, eq-eqb}
 use Rattle.model.specs.Kinds.{Kind}
 use Rattle.model.specs.declared.Id.{Id}
-use Rattle.model.specs.declared.Write.{Write}
 use Rattle.model.specs.declared.Read.{Read}
-use Rattle.model.specs.declared.Live.{Live}
+use Rattle.model.specs.Types.{Live}
 use Rattle.model.specs.Types.{Entry, Station}
 use Rattle.model.specs.declared.Phase.{Phase}
 use Rattle.model.specs.declared.Phase.the-variants.{Unused, Open, Closing}
 use Rattle.model.specs.Lists.{_and_, all, any, first, distinct, ascending, same}
-use Rattle.model.specs.Lives.{writesOf, readsOf, writeCount, writeKey, readKey, closingSlot, closingClock, recordsStored, slotMark}
+use Rattle.model.specs.Lives.{readsOf, writeCount, readKey, closingSlot, closingClock, recordsStored, slotMark}
 use Rattle.model.specs.Entries.{isNoEntry, wroteAs, noEntry}
 use Rattle.model.specs.Stations.{entryAt, liveTxns, heldTxns, holds, closingSlots}
-use Rattle.model.specs.Sound.{isNoWrite, isNoRead, isNoLive, names, placeRight, entryRight, sound}
+use Rattle.model.specs.Sound.{isNoRead, isNoLive, names, placeRight, entryRight, sound}
 use Rattle.model.proofs.Tests.{and-left, and-right, and-intro, bool-cases, same-test}
 use Rattle.model.proofs.ListLaws.{first-finds, all-head, all-tail, all-cons, all-at, all-mem, all-by, any-finds, any-at, all-map}
 use Rattle.model.proofs.DistinctLaws.{once-right}
@@ -30,40 +29,33 @@ use Rattle.model.proofs.IdLaws.{same-id}
 use Rattle.model.proofs.StationLaws.{unheld-txn, unheld-of}
 use Rattle.model.proofs.SoundLaws.{Used, used-at, used-of, write-limit, read-limit, writes-ascending, reads-ascending, sets-of, writes-zero}
 use Rattle.model.proofs.SoundLaws.{reads-zero, zeros-of, Shut, shut-at, shut-of, unheld-wrote}
-use Rattle.soundness.specs.Parts.{anyWrite, setRight, writesRight, readsRight, listsRight, countsRight, shapeRight, liveColumn, heldColumn, txnColumn}
+use Rattle.soundness.specs.Parts.{setRight, writesRight, readsRight, listsRight, countsRight, shapeRight, liveColumn, heldColumn, txnColumn}
 use Rattle.soundness.specs.Parts.{markColumn, slotIn, isNamed, namedBy, placeFits, slotFree, parts}
 use Rattle.soundness.proofs.PartLaws.{free-none, free-high, free-is, held-txn-at, set-is}
 
 -- ── a place of a station, by its phase ──
-all-any : (ws : List Write) → all anyWrite ws ≡ true
-unfolding all
-all-any [] = refl
-all-any (w ∷ ws) = all-any ws
-
 module _ (κ : Kind) (es : List Entry) (l : Live) where
   pub lists-of : Used κ es l → listsRight κ l ≡ true
-  unfolding listsRight writesRight writesOf
+  unfolding listsRight writesRight
   lists-of u =
       and-intro _ _
       (and-intro _ _ (le-leb 1 (l .txn) (omega (arith, u .numbered))) (le-leb (l .«read_count») 16 (read-limit κ l (u .sets))))
-      (and-intro _ _ (le-leb (l .«write_count») (κ .writeLimit) (write-limit κ l (u .sets)))
-      (set-is writeKey anyWrite isNoWrite 0 (l .«write_count») (l .writes) ∙ and-intro _ _ (and-intro _ _ (writes-ascending κ l (u .sets)) (all-any (writesOf l))) (writes-zero l (u .zeros))))
+      (and-intro _ _ (and-intro _ _ (le-leb (l .«write_count») (κ .writeLimit) (write-limit κ l (u .sets))) (writes-ascending κ l (u .sets))) (writes-zero l (u .zeros)))
 
   pub reads-of : Used κ es l → readsRight (names es) l ≡ true
   unfolding readsOf
   reads-of u = set-is readKey (names es) isNoRead 0 (l .«read_count») (l .reads) ∙ and-intro _ _ (and-intro _ _ (reads-ascending κ l (u .sets)) (u .named)) (reads-zero l (u .zeros))
 
   pub used-lists : listsRight κ l ≡ true → readsRight (names es) l ≡ true → Used κ es l
-  unfolding listsRight writesRight writesOf readsOf
+  unfolding listsRight writesRight readsOf
   used-lists h r =
       let w : writesRight κ l ≡ true = and-right _ _ h in
-      let x = sym (set-is writeKey anyWrite isNoWrite 0 (l .«write_count») (l .writes)) ∙ and-right _ _ w in
       let y = sym (set-is readKey (names es) isNoRead 0 (l .«read_count») (l .reads)) ∙ r in
       record {
         numbered = λ (z : l .txn ≡ 0). omega (arith, leb-true 1 (l .txn) (and-left _ _ (and-left _ _ h)));
-        sets = sets-of κ l (leb-true (l .«write_count») (κ .writeLimit) (and-left _ _ w)) (leb-true (l .«read_count») 16 (and-right _ _ (and-left _ _ h))) (and-left _ _ (and-left _ _ x)) (and-left _ _ (and-left _ _ y));
+        sets = sets-of κ l (leb-true (l .«write_count») (κ .writeLimit) (and-left _ _ (and-left _ _ w))) (leb-true (l .«read_count») 16 (and-right _ _ (and-left _ _ h))) (and-right _ _ (and-left _ _ w)) (and-left _ _ (and-left _ _ y));
         named = and-right _ _ (and-left _ _ y);
-        zeros = zeros-of l (and-right _ _ x) (and-right _ _ y);
+        zeros = zeros-of l (and-right _ _ w) (and-right _ _ y);
       }
 
 -- an unused place has read nothing

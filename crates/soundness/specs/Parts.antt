@@ -4,17 +4,15 @@ use mathlib.Core.Bool.{Bool, true, false}
 use mathlib.Core.List.{List, [], _∷_, _++_, map}
 use lib.Dec.{eqb, ltb, leb}
 use lib.ListN.{drop, getD}
-use Rattle.model.specs.declared.Write.{Write}
 use Rattle.model.specs.declared.Read.{Read}
-use Rattle.model.specs.declared.Live.{Live}
-use Rattle.model.specs.Types.{Entry}
+use Rattle.model.specs.Types.{Entry, Live}
 use Rattle.model.specs.declared.Phase.{Phase}
 use Rattle.model.specs.declared.Phase.the-variants.{Unused, Open, Closing}
-use Rattle.model.specs.Lists.{_and_, _or_, all, first, distinct}
+use Rattle.model.specs.Lists.{_and_, _or_, all, first, distinct, ascending}
 use Rattle.model.specs.Limits.{keys, livePlaces, entryPlaces, readLimit}
 use Rattle.model.specs.Kinds.{Kind}
 use Rattle.model.specs.Ids.{sameId}
-use Rattle.model.specs.Lives.{writeCount, writeKey, readKey, slotMark}
+use Rattle.model.specs.Lives.{writesOf, writeCount, writeKey, readKey, slotMark}
 use Rattle.model.specs.Entries.{isNoEntry, wrote, noEntry}
 use Rattle.model.specs.Sound.{isNoWrite, isNoRead, isNoLive, entryRight}
 
@@ -29,19 +27,15 @@ module _ {A : Type 0} (key : A → ℕ) (good isZero : A → Bool) where
   setRight lo zero (x ∷ xs) = isZero x and setRight lo zero xs
   setRight lo (suc n) (x ∷ xs) = fits lo (key x) and good x and setRight (suc (key x)) n xs
 
--- of a write no more is asked than its key
-abbrev pub anyWrite : Write → Bool
-anyWrite w = true
-
 unfoldable pub writesRight : Kind → Live → Bool
-writesRight κ l = leb (l .«write_count») (κ .writeLimit) and setRight writeKey anyWrite isNoWrite 0 (l .«write_count») (l .writes)
+writesRight κ l = leb (l .«write_count») (κ .writeLimit) and ascending 0 keys (map writeKey (writesOf l)) and all isNoWrite (drop (l .«write_count») (l .writes))
+
+abbrev pub isZero : ℕ → Bool
+isZero v = eqb v 0
 
 -- its reads, each of them good
 abbrev pub readsRight : (Read → Bool) → Live → Bool
 readsRight good l = setRight readKey good isNoRead 0 (l .«read_count») (l .reads)
-
-abbrev pub noWrites : Live → Bool
-noWrites l = all isNoWrite (l .writes)
 
 abbrev pub noReads : Live → Bool
 noReads l = all isNoRead (l .reads)

@@ -6,21 +6,20 @@ use model::Live;
 use model::Phase;
 use model::Read;
 use model::Station;
-use model::Write;
 use model::wide;
 use model::write_count;
 ghost use mathlib.Core.Path.{_≡_};
 ghost use mathlib.Core.Bool.{false};
 ghost use Prim.Native.Nat.{_+_, _≤_};
 ghost use lib.Dec.{eqb};
-ghost use lib.ListN.{length};
-ghost use Rattle.model.specs.Limits.{livePlaces, entryPlaces};
+ghost use lib.ListN.{length, drop};
+ghost use Rattle.model.specs.Limits.{livePlaces, entryPlaces, writePlaces};
 ghost use Rattle.model.specs.Kinds.{narrowKind};
 ghost use Rattle.model.specs.Lists.{all, count, distinct};
-ghost use Rattle.model.specs.Listed.{listedEntry, listed};
+ghost use Rattle.model.specs.Listed.{listedLive, listedEntry, listed};
 ghost use Rattle.model.specs.Lives.{slotMark};
-ghost use Rattle.model.specs.Sound.{isNoWrite, isNoRead, isNoLive, entryRight, sound};
-ghost use Rattle.soundness.specs.Parts.{fits, writesRight, noWrites, noReads, listsRight, countsRight, isUnused, shape, slotIn, isNamed, slotFree};
+ghost use Rattle.model.specs.Sound.{isNoRead, isNoLive, entryRight, sound};
+ghost use Rattle.soundness.specs.Parts.{fits, isZero, writesRight, noReads, listsRight, countsRight, isUnused, shape, slotIn, isNamed, slotFree};
 
 // Transactions, live and held, at most.
 const TXNS: usize = Station::LIVE + Station::SLOTS;
@@ -60,15 +59,6 @@ fn entry_right(e: Entry) -> bool
 }
 
 // ---- a live place by itself ----
-fn no_write(w: Write) -> bool
-    ensures { λ r. ⌜ r ≡ isNoWrite w ⌝ }
-{
-    if w.key != 0 {
-        return false;
-    }
-    w.value == 0
-}
-
 fn no_read(read: Read) -> bool
     ensures { λ r. ⌜ r ≡ isNoRead read ⌝ }
 {
@@ -82,54 +72,34 @@ fn no_read(read: Read) -> bool
     id.txn == 0
 }
 
-// The write set: within its limit, its keys ascending, the positions past it zero.
-fn writes_right(l: Live) -> bool
-    ensures { λ r. ⌜ r ≡ writesRight narrowKind l ⌝ }
+// The values from a position on are zero: they are or-ed and tested once.
+fn no_values(l: Live, n: usize) -> bool
+    requires { ⌜ n ≤ writePlaces ⌝ }
+    ensures { λ r. ⌜ r ≡ all isZero (drop n (l .values)) ⌝ }
 {
-    let n = wide(l.write_count);
-    if Station::WRITES < n {
-        return false;
-    }
-    let mut low = 0u8;
-    let mut j = 0;
-    while j < Station::WRITES {
-        let w = l.writes[j];
-        if j < n {
-            if !key_fits(low, w.key) {
-                return false;
-            }
-            low = w.key + 1;
-        } else {
-            if !no_write(w) {
-                return false;
-            }
-        }
-        j += 1;
-    }
-    true
-}
-
-// All writes are zero, all reads are: their fields are or-ed and tested once.
-fn no_writes(l: Live) -> bool
-    ensures { λ r. ⌜ r ≡ noWrites l ⌝ }
-{
-    let mut keys = 0u8;
     let mut values = 0u64;
-    let mut j = 0;
-    while j < Station::WRITES {
-        let w = l.writes[j];
-        keys = keys | w.key;
-        values = values | w.value;
+    let mut j = n;
+    while j < Station::WRITE_PLACES {
+        values = values | l.values[j];
         j += 1;
-    }
-    if keys != 0 {
-        return false;
     }
     values == 0
 }
 
+// The write set: within its limit, the values past it zero. Its keys are a number's, and ascend.
+fn writes_right(l: Live) -> bool
+    ensures { λ r. ⌜ r ≡ writesRight narrowKind (listedLive l) ⌝ }
+{
+    let n = wide(key_count(l.keys));
+    if Station::WRITES < n {
+        return false;
+    }
+    no_values(l, n)
+}
+
+// All reads are zero, tested so.
 fn no_reads(l: Live) -> bool
-    ensures { λ r. ⌜ r ≡ noReads l ⌝ }
+    ensures { λ r. ⌜ r ≡ noReads (listedLive l) ⌝ }
 {
     let mut keys = 0u8;
     let mut clocks = 0u64;
@@ -153,18 +123,18 @@ fn no_reads(l: Live) -> bool
 }
 
 fn unused_right(l: Live) -> bool
-    ensures { λ r. ⌜ r ≡ isNoLive l ⌝ }
+    ensures { λ r. ⌜ r ≡ isNoLive (listedLive l) ⌝ }
 {
     if l.txn != 0 {
         return false;
     }
-    if l.write_count != 0 {
+    if l.keys != 0 {
         return false;
     }
     if l.read_count != 0 {
         return false;
     }
-    if !no_writes(l) {
+    if !no_values(l, 0) {
         return false;
     }
     no_reads(l)
@@ -172,7 +142,7 @@ fn unused_right(l: Live) -> bool
 
 // A place in use but for its phase and its reads: these are tested with the entries that they name.
 fn lists_right(l: Live) -> bool
-    ensures { λ r. ⌜ r ≡ listsRight narrowKind l ⌝ }
+    ensures { λ r. ⌜ r ≡ listsRight narrowKind (listedLive l) ⌝ }
 {
     if l.txn == 0 {
         return false;
@@ -211,7 +181,7 @@ fn is_unused(p: Phase) -> bool
 
 // A place in use.
 fn used_right(l: Live) -> bool
-    ensures { λ r. ⌜ (isUnused (l .phase) ≡ false → r ≡ shape narrowKind l) ⌝ }
+    ensures { λ r. ⌜ (isUnused (l .phase) ≡ false → r ≡ shape narrowKind (listedLive l)) ⌝ }
 {
     let p = l.phase;
     match p {

@@ -3,7 +3,7 @@ use Prim.Native.Nat.{ℕ, zero, suc, _+_, _-_, _<_, _≤_, suc-le-suc}
 use mathlib.Core.Path.{_≡_, refl, sym, ap, ap₂, _∙_}
 use mathlib.Core.Logic.{_≢_}
 use mathlib.Core.Bool.{Bool, true}
-use mathlib.Core.List.{List, [], _∷_, _++_, append-assoc}
+use mathlib.Core.List.{List, [], _∷_, _++_, map, map-append, append-assoc}
 use lib.ListN.{length, take, drop, getD, replicate, set, length-append, take-append-drop, length-drop, length-set}
 use lib.Seq.{take-suc-set, drop-set-lt, append-snoc, take-all, drop-cons, take-append-le, drop-append-le, take-append-add, set-append-left, getD-take, take-at, length-take-le}
 use native.Mathlib.Nat.{le-of-suc-le-suc, not-suc-le-zero, zero-lt-suc, lt-irrefl}
@@ -11,7 +11,7 @@ use native.Mathlib.Omega.{arith}
 use native.Mathlib.Numerals.{add-one}
 use borrow.Author.Tests.{le-leb, lt-leb}
 use Rattle.model.specs.Lists.{all, first, insert, padded, same}
-use Rattle.model.proofs.ListLaws.{first-yes, first-no, all-head, all-tail}
+use Rattle.model.proofs.ListLaws.{first-yes, first-no, all-head, all-tail, take-map, drop-map}
 use Rattle.model.proofs.InsertLaws.{insert-rule}
 use Rattle.stations.specs.Found.{atLeast, joined}
 use Rattle.stations.proofs.Search.{first-at-most}
@@ -38,6 +38,11 @@ module _ {A : Type 0} where
   joined-append : (i : ℕ) (x : A) (us rs : List A) → i ≤ length us → joined i x (us ++ rs) ≡ joined i x us ++ rs
   unfolding joined
   joined-append i x us rs o = rw (take-append-le i us rs o, drop-append-le i us rs o) (sym (append-assoc (take i us) (x ∷ drop i us) rs))
+
+  pub joined-map : {B : Type 0} (f : A → B) (i : ℕ) (x : A) (m : List A) → map f (joined i x m) ≡ joined i (f x) (map f m)
+  unfolding joined
+  joined-map {B = B} f i x m =
+      map-append f (take i m) (x ∷ drop i m) ∙ ap₂ (λ (xs ys : List B). xs ++ (f x ∷ ys)) (sym (take-map f i m)) (sym (drop-map f i m))
 
   take-replicate : (n m : ℕ) (z : A) → n ≤ m → take n (replicate m z) ≡ replicate n z
   take-replicate zero m z o = refl

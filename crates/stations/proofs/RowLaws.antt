@@ -10,7 +10,7 @@ use native.Mathlib.Decide.{decLt}
 use native.Mathlib.Nat.{lt-irrefl}
 use native.Mathlib.Omega.{arith}
 use borrow.Author.Tests.{not-false, eqb-false, leb-true, leb-false, le-leb, lt-leb}
-use Rattle.model.specs.declared.Live.{Live}
+use Rattle.model.specs.Types.{Live}
 use Rattle.model.specs.declared.Phase.{Phase}
 use Rattle.model.specs.Types.{Station}
 use Rattle.model.specs.declared.Answer.the-variants as A

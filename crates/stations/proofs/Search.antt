@@ -62,7 +62,7 @@ module _ {A : Type 0} where
       go true e ih = first-yes p x (take n xs) e ∙ (rw e)
       go false e ih = first-no p x (take n xs) e ∙ (rw e (ap suc ih ∙ sym (shifted p x d xs n 0)))
 
-  first-map : (f : A → ℕ) (p : ℕ → Bool) (xs : List A) → first p (map f xs) ≡ first (λ x. p (f x)) xs
+  pub first-map : (f : A → ℕ) (p : ℕ → Bool) (xs : List A) → first p (map f xs) ≡ first (λ x. p (f x)) xs
   unfolding first
   first-map f p [] = refl
   first-map f p (x ∷ xs) = go (p (f x)) refl (first-map f p xs)

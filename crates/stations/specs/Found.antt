@@ -4,10 +4,8 @@ use mathlib.Core.Bool.{Bool, not, cond}
 use mathlib.Core.List.{List, [], _∷_, _++_}
 use lib.Dec.{eqb, leb}
 use lib.ListN.{take, drop}
-use Rattle.model.specs.declared.Live.{Live}
 use Rattle.model.specs.Kinds.{narrowKind}
-use Rattle.model.specs.Types.{Entry}
-use Rattle.model.specs.Types.{Station}
+use Rattle.model.specs.Types.{Live, Entry, Station}
 use Rattle.model.specs.Limits.{keys}
 use Rattle.model.specs.Lives.{slotMark, isClosing}
 use Rattle.model.specs.Stations.{liveAt, isLive, placeOf}

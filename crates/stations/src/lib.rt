@@ -9,13 +9,14 @@ ghost use lib.ListN.{length, take};
 ghost use Rattle.model.specs.Lists.{_and_, first, member, maximum, anyBelow};
 ghost use Rattle.model.specs.Limits.{keys, livePlaces, entryPlaces, writePlaces, readLimit};
 ghost use Rattle.model.specs.Kinds.{narrowKind};
-ghost use Rattle.model.specs.Lives.{noLive, writesOf, writeKey, readKey, hasWritten, hasRead, valueUnder, isClosing, closingClock, slotMark, withPhase};
+ghost use Rattle.model.specs.Lives.{noLive, writesOf, readKey, hasWritten, hasRead, valueUnder, isClosing, closingClock, slotMark, withPhase};
 ghost use Rattle.model.specs.KeySets.{keySet};
-ghost use Rattle.model.specs.Listed.{listedEntry, listedEntries, listed};
+ghost use Rattle.model.specs.Listed.{listedLive, listedLives, listedEntry, listedEntries, listed};
 ghost use Rattle.model.specs.Entries.{wrote, recordOf, entryFor};
 ghost use Rattle.model.specs.Clocks.{entryClock, liveClock, clocks};
 ghost use Rattle.model.specs.Stations.{isFree, placeOf, setLive, setEntry};
-ghost use Rattle.model.specs.Sound.{zeroPastCounts, setsRight};
+ghost use Rattle.model.specs.Sound.{zeroPastCounts};
+ghost use Rattle.model.specs.Ranges.{ReadsFit};
 ghost use Rattle.model.specs.Effects.{says, _when_};
 ghost use Rattle.model.specs.Start.{opened};
 ghost use Rattle.model.specs.Put.{withWrite};
@@ -23,6 +24,7 @@ ghost use Rattle.model.specs.Get.{withRead};
 ghost use Rattle.model.specs.Commit.{highestFree};
 ghost use Rattle.stations.specs.Changes.{changedBy, IsChange};
 ghost use Rattle.stations.specs.Found.{liveTxn, entryTxn, liveMark, stationOf, liveIn, joined, firstRow, namedRows, openRows};
+use keysets::has_key;
 use keysets::keys_below;
 use keysets::with_key;
 use model::Answer;
@@ -33,20 +35,19 @@ use model::Outcome;
 use model::Phase;
 use model::Read;
 use model::Station;
-use model::Write;
 use model::blank;
 pub use model::no_entry;
 use model::wide;
 
 // ---- unused, and just started
 pub fn no_live() -> Live
-    ensures { λ r. ⌜ r ≡ noLive ⌝ }
+    ensures { λ r. ⌜ listedLive r ≡ noLive ⌝ }
 {
     blank(0, Phase::Unused)
 }
 
 pub fn opened(txn: u32) -> Live
-    ensures { λ r. ⌜ r ≡ opened txn ⌝ }
+    ensures { λ r. ⌜ listedLive r ≡ opened txn ⌝ }
 {
     blank(txn, Phase::Open)
 }
@@ -54,7 +55,7 @@ pub fn opened(txn: u32) -> Live
 // ---- where a transaction is
 // The first place with this transaction, 0 for the lowest unused; their number where there is none.
 pub fn place_of(live: [Live; Station::LIVE], txn: u32) -> usize
-    ensures { λ r. ⌜ r ≡ first (eqb txn) (map liveTxn live) ⌝ }
+    ensures { λ r. ⌜ r ≡ first (eqb txn) (map liveTxn (listedLives live)) ⌝ }
 {
     let mut i = 0;
     while i < Station::LIVE {
@@ -70,7 +71,7 @@ pub fn place_of(live: [Live; Station::LIVE], txn: u32) -> usize
 // The transaction at a place. By a search and not by an index: measured, a put in a batch is then a third cheaper.
 pub fn live_at(live: [Live; Station::LIVE], place: usize) -> Live
     requires { ⌜ place < livePlaces ⌝ }
-    ensures { λ r. ⌜ r ≡ liveIn live place ⌝ }
+    ensures { λ r. ⌜ listedLive r ≡ liveIn (listedLives live) place ⌝ }
 {
     let mut i = 0;
     while i < Station::LAST_PLACE {
@@ -85,7 +86,7 @@ pub fn live_at(live: [Live; Station::LIVE], place: usize) -> Live
 // Its phase, by such a search: measured, a put in a batch is a fifth dearer where the whole transaction is read for it.
 fn phase_at(live: [Live; Station::LIVE], place: usize) -> Phase
     requires { ⌜ place < livePlaces ⌝ }
-    ensures { λ r. ⌜ r ≡ liveIn live place .phase ⌝ }
+    ensures { λ r. ⌜ r ≡ liveIn (listedLives live) place .phase ⌝ }
 {
     let mut i = 0;
     while i < Station::LAST_PLACE {
@@ -129,7 +130,7 @@ fn slot_mark(p: Phase) -> usize
 
 // The slots that closing transactions have, counted from 1; 0 for any other place.
 fn closing_slots(live: [Live; Station::LIVE]) -> [usize; Station::LIVE]
-    ensures { λ r. ⌜ r ≡ map liveMark live ⌝ }
+    ensures { λ r. ⌜ r ≡ map liveMark (listedLives live) ⌝ }
 {
     let mut marks = [0usize; Station::LIVE];
     let mut i = 0;
@@ -158,7 +159,7 @@ fn is_marked(marks: [usize; Station::LIVE], mark: usize) -> bool
 
 // The highest slot that no entry and no closing transaction has; their number where there is none.
 pub fn highest_free(live: [Live; Station::LIVE], entries: [Entry; Station::SLOTS]) -> usize
-    ensures { λ r. ⌜ r ≡ cond (anyBelow (isFree (stationOf live (listedEntries entries))) (narrowKind .slots)) (highestFree (stationOf live (listedEntries entries))) entryPlaces ⌝ }
+    ensures { λ r. ⌜ r ≡ cond (anyBelow (isFree (stationOf (listedLives live) (listedEntries entries))) (narrowKind .slots)) (highestFree (stationOf (listedLives live) (listedEntries entries))) entryPlaces ⌝ }
 {
     let marks = closing_slots(live);
     let mut n = Station::SLOTS;
@@ -177,19 +178,6 @@ pub fn highest_free(live: [Live; Station::LIVE], entries: [Entry; Station::SLOTS
 }
 
 // ---- a transaction's sets
-fn write_keys(writes: [Write; Station::WRITES]) -> [u8; Station::WRITES]
-    ensures { λ r. ⌜ r ≡ map writeKey writes ⌝ }
-{
-    let mut keys = [0u8; Station::WRITES];
-    let mut i = 0;
-    while i < Station::WRITES {
-        let w = writes[i];
-        keys[i] = w.key;
-        i += 1;
-    }
-    keys
-}
-
 fn read_keys(reads: [Read; Station::READS]) -> [u8; Station::READS]
     ensures { λ r. ⌜ r ≡ map readKey reads ⌝ }
 {
@@ -236,32 +224,24 @@ fn place_for(keys: &[u8], n: usize, key: u8) -> usize
 }
 
 pub fn has_written(l: Live, key: u8) -> bool
-    requires { ⌜ l .«write_count» ≤ writePlaces ⌝ }
-    ensures { λ r. ⌜ r ≡ hasWritten key l ⌝ }
+    ensures { λ r. ⌜ r ≡ hasWritten key (listedLive l) ⌝ }
 {
-    let n = wide(l.write_count);
-    let writes = l.writes;
-    let keys = write_keys(writes);
-    position(&keys, n, key) < n
+    has_key(l.keys, key)
 }
 
 // The value under a key of the write set.
 pub fn value_under(l: Live, key: u8) -> u64
-    requires { ⌜ l .«write_count» ≤ writePlaces ⌝ }
-    requires { ⌜ hasWritten key l ≡ true ⌝ }
-    ensures { λ r. ⌜ r ≡ valueUnder key (writesOf l) ⌝ }
+    requires { ⌜ length (keySet (l .keys)) ≤ writePlaces ⌝ }
+    requires { ⌜ hasWritten key (listedLive l) ≡ true ⌝ }
+    ensures { λ r. ⌜ r ≡ valueUnder key (writesOf (listedLive l)) ⌝ }
 {
-    let n = wide(l.write_count);
-    let writes = l.writes;
-    let keys = write_keys(writes);
-    let i = position(&keys, n, key);
-    let w = writes[i];
-    w.value
+    let at = keys_below(l.keys, key);
+    l.values[at]
 }
 
 pub fn has_read(l: Live, key: u8) -> bool
     requires { ⌜ l .«read_count» ≤ readLimit ⌝ }
-    ensures { λ r. ⌜ r ≡ hasRead key l ⌝ }
+    ensures { λ r. ⌜ r ≡ hasRead key (listedLive l) ⌝ }
 {
     let n = wide(l.read_count);
     let reads = l.reads;
@@ -270,49 +250,45 @@ pub fn has_read(l: Live, key: u8) -> bool
 }
 
 // ---- a key put into a write set
-// The writes with one more at a position, those from there on moved up by one.
-fn write_joined(old: [Write; Station::WRITES], at: usize, w: Write) -> [Write; Station::WRITES]
+// The values with one more at a position, those from there on moved up by one.
+fn value_joined(
+    old: [u64; Station::WRITE_PLACES],
+    at: usize,
+    value: u64,
+) -> [u64; Station::WRITE_PLACES]
     requires { ⌜ at ≤ writePlaces ⌝ }
-    ensures { λ r. ⌜ r ≡ take writePlaces (joined at w old) ⌝ }
+    ensures { λ r. ⌜ r ≡ take writePlaces (joined at value old) ⌝ }
 {
-    let mut writes = old;
-    let mut carried = w;
+    let mut values = old;
+    let mut carried = value;
     let mut i = at;
-    while i < Station::WRITES {
-        let next = writes[i];
-        writes[i] = carried;
+    while i < Station::WRITE_PLACES {
+        let next = values[i];
+        values[i] = carried;
         carried = next;
         i += 1;
     }
-    writes
+    values
 }
 
 // The key and value put into the write set: in the place of the key, or before the first greater.
 pub fn with_write(l: Live, key: u8, value: u64) -> Live
-    requires { ⌜ setsRight narrowKind l ≡ true ⌝ }
-    requires { ⌜ zeroPastCounts l ≡ true ⌝ }
-    requires { ⌜ (not (hasWritten key l) and leb writePlaces (l .«write_count»)) ≡ false ⌝ }
-    ensures { λ r. ⌜ r ≡ withWrite key value l ⌝ }
+    requires { ⌜ key < keys ⌝ }
+    requires { ⌜ length (keySet (l .keys)) ≤ writePlaces ⌝ }
+    requires { ⌜ zeroPastCounts (listedLive l) ≡ true ⌝ }
+    requires { ⌜ (not (hasWritten key (listedLive l)) and leb writePlaces (length (keySet (l .keys)))) ≡ false ⌝ }
+    ensures { λ r. ⌜ listedLive r ≡ withWrite key value (listedLive l) ⌝ }
 {
-    let n = wide(l.write_count);
-    let old = l.writes;
-    let keys = write_keys(old);
-    let at = place_for(&keys, n, key);
-    let w = Write {
-        key: key,
-        value: value,
-    };
+    let at = keys_below(l.keys, key);
     let mut m = l;
-    if at < n {
-        let was = old[at];
-        if key == was.key {
-            m.writes[at] = w;
-            return m;
-        }
+    if has_key(l.keys, key) {
+        m.values[at] = value;
+        return m;
     }
-    let writes = write_joined(old, at, w);
-    m.writes = writes;
-    m.write_count = l.write_count + 1;
+    let old = l.values;
+    let values = value_joined(old, at, value);
+    m.values = values;
+    m.keys = with_key(l.keys, key);
     m
 }
 
@@ -336,10 +312,10 @@ fn read_joined(old: [Read; Station::READS], at: usize, r: Read) -> [Read; Statio
 
 // The key and id put into the read set: in the place of the key, or before the first greater.
 pub fn with_read(l: Live, key: u8, id: Id) -> Live
-    requires { ⌜ setsRight narrowKind l ≡ true ⌝ }
-    requires { ⌜ zeroPastCounts l ≡ true ⌝ }
-    requires { ⌜ (not (hasRead key l) and leb readLimit (l .«read_count»)) ≡ false ⌝ }
-    ensures { λ r. ⌜ r ≡ withRead key id l ⌝ }
+    requires { ⌜ ReadsFit (listedLive l) ⌝ }
+    requires { ⌜ zeroPastCounts (listedLive l) ≡ true ⌝ }
+    requires { ⌜ (not (hasRead key (listedLive l)) and leb readLimit (l .«read_count»)) ≡ false ⌝ }
+    ensures { λ r. ⌜ listedLive r ≡ withRead key id (listedLive l) ⌝ }
 {
     let n = wide(l.read_count);
     let old = l.reads;
@@ -398,7 +374,7 @@ fn greatest_entry_clock(entries: [Entry; Station::SLOTS]) -> u64
 
 // The greatest clock of the closing transactions; 0 where there is none.
 fn greatest_closing_clock(live: [Live; Station::LIVE]) -> u64
-    ensures { λ r. ⌜ r ≡ maximum (map liveClock live) ⌝ }
+    ensures { λ r. ⌜ r ≡ maximum (map liveClock (listedLives live)) ⌝ }
 {
     let mut most = 0;
     let mut i = 0;
@@ -414,7 +390,7 @@ fn greatest_closing_clock(live: [Live; Station::LIVE]) -> u64
 
 // The greatest clock of the entries and the closing transactions; 0 where there is none.
 pub fn greatest_clock(live: [Live; Station::LIVE], entries: [Entry; Station::SLOTS]) -> u64
-    ensures { λ r. ⌜ r ≡ maximum (clocks (stationOf live (listedEntries entries))) ⌝ }
+    ensures { λ r. ⌜ r ≡ maximum (clocks (stationOf (listedLives live) (listedEntries entries))) ⌝ }
 {
     let held = greatest_entry_clock(entries);
     let closing = greatest_closing_clock(live);
@@ -423,40 +399,23 @@ pub fn greatest_clock(live: [Live; Station::LIVE], entries: [Entry; Station::SLO
 
 // ---- a commit
 pub fn with_phase(l: Live, p: Phase) -> Live
-    ensures { λ r. ⌜ r ≡ withPhase p l ⌝ }
+    ensures { λ r. ⌜ listedLive r ≡ withPhase p (listedLive l) ⌝ }
 {
-    let writes = l.writes;
+    let values = l.values;
     let reads = l.reads;
     Live {
         txn: l.txn,
         phase: p,
-        write_count: l.write_count,
-        writes: writes,
+        keys: l.keys,
+        values: values,
         read_count: l.read_count,
         reads: reads,
     }
 }
 
-// The keys of the write set as one number.
-fn written_set(l: Live) -> u64
-    requires { ⌜ setsRight narrowKind l ≡ true ⌝ }
-    ensures { λ r. ⌜ keySet r ≡ map writeKey (writesOf l) ⌝ }
-{
-    let n = wide(l.write_count);
-    let mut set = 0u64;
-    let mut i = 0;
-    while i < n {
-        let w = l.writes[i];
-        set = with_key(set, w.key);
-        i += 1;
-    }
-    set
-}
-
 // The entry that a closing transaction becomes.
 pub fn entry_for(l: Live) -> Entry
-    requires { ⌜ setsRight narrowKind l ≡ true ⌝ }
-    ensures { λ r. ⌜ listedEntry r ≡ entryFor l ⌝ }
+    ensures { λ r. ⌜ listedEntry r ≡ entryFor (listedLive l) ⌝ }
 {
     let p = l.phase;
     let id = Id {
@@ -465,7 +424,7 @@ pub fn entry_for(l: Live) -> Entry
     };
     Entry {
         id: id,
-        keys: written_set(l),
+        keys: l.keys,
     }
 }
 
@@ -515,7 +474,7 @@ fn named_row(tested: bool, txn: u32, key: u8, place: usize) -> u8
 
 // By rows 2, 3, 4 and 8. A call without a key gives 0.
 pub fn named_at(live: [Live; Station::LIVE], tested: bool, txn: u32, key: u8) -> Named
-    ensures { λ r. ⌜ (r .row ≡ firstRow (namedRows live txn key tested)) × (r .place ≡ placeOf txn (stationOf live [])) × (r .row ≡ 0 → r .place < livePlaces) ⌝ }
+    ensures { λ r. ⌜ (r .row ≡ firstRow (namedRows (listedLives live) txn key tested)) × (r .place ≡ placeOf txn (stationOf (listedLives live) [])) × (r .row ≡ 0 → r .place < livePlaces) ⌝ }
 {
     let place = place_of(live, txn);
     Named {
@@ -526,7 +485,7 @@ pub fn named_at(live: [Live; Station::LIVE], tested: bool, txn: u32, key: u8) ->
 
 // By rows 2, 3, 4, 8 and 9.
 pub fn open_at(live: [Live; Station::LIVE], tested: bool, txn: u32, key: u8) -> Named
-    ensures { λ r. ⌜ (r .row ≡ firstRow (openRows live txn key tested)) × (r .place ≡ placeOf txn (stationOf live [])) × (r .row ≡ 0 → r .place < livePlaces) ⌝ }
+    ensures { λ r. ⌜ (r .row ≡ firstRow (openRows (listedLives live) txn key tested)) × (r .place ≡ placeOf txn (stationOf (listedLives live) [])) × (r .row ≡ 0 → r .place < livePlaces) ⌝ }
 {
     let at = named_at(live, tested, txn, key);
     if at.row != 0 {
@@ -576,7 +535,7 @@ pub fn refused(station: Station, number: u8) -> Change
 // Another transaction, or another state of one, at a place.
 pub fn live_changed(station: Station, answer: Answer, place: usize, live: Live) -> Change
     requires { ⌜ place < livePlaces ⌝ }
-    ensures { λ r. ⌜ IsChange station (says answer (setLive (listed station) place live)) r ⌝ }
+    ensures { λ r. ⌜ IsChange station (says answer (setLive (listed station) place (listedLive live))) r ⌝ }
 {
     let entry = station.entries[0];
     Change {

@@ -10,7 +10,7 @@ use native.Mathlib.Omega.{arith}
 use borrow.Author.Tests.{ne-eqb}
 use Rattle.model.specs.Kinds.{storeSize}
 use Rattle.model.specs.declared.Read.{Read}
-use Rattle.model.specs.declared.Live.{Live}
+use Rattle.model.specs.Types.{Live}
 use Rattle.model.specs.Types.{Entry, Station}
 use Rattle.model.specs.declared.Answer.the-variants as A
 use Rattle.model.specs.Lists.{any}

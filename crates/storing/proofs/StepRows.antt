@@ -5,13 +5,12 @@ use mathlib.Core.Logic.{_≢_, _⊎_, ⊎-elim}
 use mathlib.Core.Bool.{Bool, true, false, not}
 use mathlib.Core.List.{List, [], _∷_}
 use lib.Dec.{ltb}
-use lib.ListN.{length, getD, set}
+use lib.ListN.{length, getD}
 use native.Mathlib.Nat.{lt-irrefl}
 use native.Mathlib.Omega.{arith}
 use borrow.Author.Tests.{ltb-false, lt-ltb, le-ltb, eq-eqb, ne-eqb}
-use Rattle.model.specs.declared.Live.{Live}
 use Rattle.model.specs.declared as machine
-use Rattle.model.specs.Types.{Entry, Station}
+use Rattle.model.specs.Types.{Entry, Live, Station}
 use Rattle.model.specs.declared.Phase.{Phase}
 use Rattle.model.specs.declared.Phase.the-variants.{Unused, Open, Closing}
 use Rattle.model.specs.declared.Answer.{Answer}
@@ -20,13 +19,13 @@ use Rattle.model.specs.Limits.{livePlaces, entryPlaces}
 use Rattle.model.specs.Kinds.{Kind, narrowKind, storeSize}
 use Rattle.model.specs.Lives.{writeCount, withPhase, noWrite, noLive, isClosing, closingSlot, recordsStored}
 use Rattle.model.specs.Entries.{commitRecord, entryFor}
-use Rattle.model.specs.Listed.{listedEntry, listed}
+use Rattle.model.specs.Listed.{listedLive, listedEntry, listed}
 use Rattle.model.specs.Stations.{liveAt, setLive, setEntry, liveTxns, isLive, placeOf}
 use Rattle.model.specs.Records.{versionRecord, withRecord}
 use Rattle.model.specs.Sound.{sound}
 use Rattle.model.specs.Effects.{Effect, stored, outcomeOf, says, saysStoring, _when_, refusals, wrongLength, unsound}
 use Rattle.model.specs.Step.{oneMore, stepped, step}
-use Rattle.model.proofs.ListedLaws.{listed-set}
+use Rattle.model.proofs.ListedLaws.{lives-set, listed-set}
 use Rattle.model.proofs.RefusalLaws.{refusals-none, skipped, hit}
 use Rattle.model.proofs.Tests.{not-of-false, not-of-true}
 use Rattle.stations.specs.Changes.{changedBy, IsChange}
@@ -55,10 +54,11 @@ module _ (κ : Kind) (l : Live) (e : Entry) (d n : ℕ) (s z : List ℕ) where
   unfolding recordAnswer recordStored
   commit-stored h w = let o : writeCount l ≤ n = omega arith in (rw (le-ltb n (writeCount l) o), rw (le-ltb n (writeCount l) o) w)
 
-  pub version-stored : n < writeCount l → z ≡ withRecord κ s d (n + 1) (versionRecord (getD (l .writes) n noWrite .key) (e .id) (getD (l .writes) n noWrite .value))
-      → (A.Stored (getD (l .writes) n noWrite .key) ≡ recordAnswer l d n) × (z ≡ recordStored κ l e d n s)
+  pub version-stored : n < writeCount l → (k v : ℕ) → k ≡ getD (l .writes) n noWrite .key → v ≡ getD (l .writes) n noWrite .value → z ≡ withRecord κ s d (n + 1) (versionRecord k (e .id) v)
+      → (A.Stored k ≡ recordAnswer l d n) × (z ≡ recordStored κ l e d n s)
   unfolding recordAnswer recordStored
-  version-stored o w = (rw (lt-ltb n (writeCount l) o), rw (lt-ltb n (writeCount l) o) w)
+  version-stored o k v ek ev w =
+      (rw (lt-ltb n (writeCount l) o) (ap A.Stored ek), rw (lt-ltb n (writeCount l) o) (w ∙ ap₂ (λ (x y : ℕ). withRecord κ s d (n + 1) (versionRecord x (e .id) y)) ek ev))
 
 -- ── the tests of a step, in their order ──
 module _ (st : Station) (s : List ℕ) (t : ℕ) where
@@ -112,10 +112,10 @@ module _ (st : Station) (s : List ℕ) (t : ℕ) where
           step-on ∙ (rw (le-ltb n (writeCount (liveAt st i)) w, ne-eqb n (writeCount (liveAt st i)) (λ x. lt-irrefl n (omega arith)), r, q))
 
 -- that is another transaction at a place and another entry in a slot
-pub is-done : (st : machine.Station.Station) (a : Answer) (i : ℕ) (m : Live) (d : ℕ) (e : machine.Entry.Entry) → i < livePlaces → d < entryPlaces
-    → IsChange st (says a (setEntry (setLive (listed st) i m) d (listedEntry e))) (record { answer = a; place = i; live = m; slot = d; entry = e })
+pub is-done : (st : machine.Station.Station) (a : Answer) (i : ℕ) (m : machine.Live.Live) (d : ℕ) (e : machine.Entry.Entry) → i < livePlaces → d < entryPlaces
+    → IsChange st (says a (setEntry (setLive (listed st) i (listedLive m)) d (listedEntry e))) (record { answer = a; place = i; live = m; slot = d; entry = e })
 unfolding IsChange changedBy outcomeOf says setLive setEntry
-is-done st a i m d e v u = (v, u, λ j. record { answer = a; station = record { kind = narrowKind; live = set (st .live) i m; entries = listed-set (st .entries) d e j } })
+is-done st a i m d e v u = (v, u, λ j. record { answer = a; station = record { kind = narrowKind; live = lives-set (st .live) i m j; entries = listed-set (st .entries) d e j } })
 
 -- a phase that is none of the third kind
 pub not-closing : (p : Phase) → (denote.Enum.Declared.tagOf Rattle.model.proofs.Phase.the-type p ≡ 0) ⊎ (denote.Enum.Declared.tagOf Rattle.model.proofs.Phase.the-type p ≡ 1) → isClosing p ≡ false

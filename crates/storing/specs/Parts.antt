@@ -5,9 +5,7 @@ use mathlib.Core.List.{List}
 use lib.Dec.{ltb}
 use lib.ListN.{getD}
 use Rattle.model.specs.Kinds.{Kind}
-use Rattle.model.specs.declared.Write.{Write}
-use Rattle.model.specs.declared.Live.{Live}
-use Rattle.model.specs.Types.{Entry}
+use Rattle.model.specs.Types.{Entry, Write, Live}
 use Rattle.model.specs.declared.Answer.{Answer}
 use Rattle.model.specs.declared.Answer.the-variants as A
 use Rattle.model.specs.Lives.{noWrite, writeCount}

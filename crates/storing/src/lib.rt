@@ -7,13 +7,13 @@ ghost use Prim.Native.Nat.{_<_, _≤_};
 ghost use lib.Dec.{leb};
 ghost use lib.ListN.{length};
 ghost use Rattle.model.specs.Lists.{_and_};
-ghost use Rattle.model.specs.Limits.{entryPlaces, writePlaces, readLimit};
+ghost use Rattle.model.specs.Limits.{entryPlaces, readLimit};
 ghost use Rattle.model.specs.Kinds.{narrowKind, width, storeSize};
 ghost use Rattle.model.specs.Lives.{writeCount, hasRead};
 ghost use Rattle.model.specs.Entries.{wrote, commitRecord, recordOf};
 ghost use Rattle.model.specs.Records.{valueIn, versionRecord, zeroRecord, carriesVersion, recordAt, withRecord};
 ghost use Rattle.model.specs.KeySets.{keySet};
-ghost use Rattle.model.specs.Listed.{listedEntry, listed};
+ghost use Rattle.model.specs.Listed.{listedLive, listedEntry, listed};
 ghost use Rattle.model.specs.Sound.{sound};
 ghost use Rattle.model.specs.Effects.{stored};
 ghost use Rattle.model.specs.Get.{get};
@@ -21,6 +21,7 @@ ghost use Rattle.model.specs.Step.{step};
 ghost use Rattle.model.specs.Collect.{collect};
 ghost use Rattle.stations.specs.Changes.{IsChange};
 ghost use Rattle.storing.specs.Parts.{recordAnswer, recordStored};
+use keysets::nth_key;
 use model::Answer;
 use model::Entry;
 use model::Id;
@@ -69,7 +70,7 @@ fn store_version(store: &mut [u8], slot: usize, n: usize, key: u8, id: Id, value
 fn store_commit(store: &mut [u8], slot: usize, e: Entry)
     requires { ⌜ length (now store) ≡ storeSize narrowKind ⌝ }
     requires { ⌜ slot < entryPlaces ⌝ }
-    requires { ⌜ length (keySet (e .keys)) ≤ writePlaces ⌝ }
+    requires { ⌜ length (keySet (e .keys)) ≤ narrowKind .writeLimit ⌝ }
     ensures { λ _. ⌜ now (store .exit) ≡ withRecord narrowKind (now (store .entry)) slot 0 (commitRecord narrowKind (listedEntry e)) ⌝ }
 {
     let at = Station::SLOT * slot;
@@ -90,7 +91,7 @@ pub fn store_zero(store: &mut [u8], slot: usize)
 // No room for a key in a read set.
 fn no_read_room(l: Live, key: u8) -> bool
     requires { ⌜ l .«read_count» ≤ readLimit ⌝ }
-    ensures { λ r. ⌜ r ≡ (not (hasRead key l) and leb readLimit (l .«read_count»)) ⌝ }
+    ensures { λ r. ⌜ r ≡ (not (hasRead key (listedLive l)) and leb readLimit (l .«read_count»)) ⌝ }
 {
     if has_read(l, key) {
         return false;
@@ -108,7 +109,7 @@ struct VersionRead {
 fn read_version(store: &[u8], slot: usize, e: Entry, key: u8) -> VersionRead
     requires { ⌜ length (now store) ≡ storeSize narrowKind ⌝ }
     requires { ⌜ slot < entryPlaces ⌝ }
-    requires { ⌜ (length (keySet (e .keys)) ≤ writePlaces) × (wrote (listedEntry e) key ≡ true) ⌝ }
+    requires { ⌜ (length (keySet (e .keys)) ≤ narrowKind .writeLimit) × (wrote (listedEntry e) key ≡ true) ⌝ }
     ensures { λ r. ⌜ r .carried ≡ carriesVersion (recordAt narrowKind (now (store .entry)) slot (recordOf (listedEntry e) key)) key (e .id) ⌝ }
     ensures { λ r. ⌜ r .value ≡ valueIn (recordAt narrowKind (now (store .entry)) slot (recordOf (listedEntry e) key)) ⌝ }
 {
@@ -164,8 +165,8 @@ pub fn get(station: Station, tested: bool, store: &[u8], txn: u32, key: u8) -> C
 fn store_record(store: &mut [u8], l: Live, e: Entry, slot: u8, n: u8) -> Answer
     requires { ⌜ length (now store) ≡ storeSize narrowKind ⌝ }
     requires { ⌜ slot < entryPlaces ⌝ }
-    requires { ⌜ (n ≤ writeCount l) × (length (keySet (e .keys)) ≤ writePlaces) ⌝ }
-    ensures { λ r. ⌜ (r ≡ recordAnswer l slot n) × (now (store .exit) ≡ recordStored narrowKind l (listedEntry e) slot n (now (store .entry))) ⌝ }
+    requires { ⌜ (n ≤ writeCount (listedLive l)) × (writeCount (listedLive l) ≤ narrowKind .writeLimit) × (length (keySet (e .keys)) ≤ narrowKind .writeLimit) ⌝ }
+    ensures { λ r. ⌜ (r ≡ recordAnswer (listedLive l) slot n) × (now (store .exit) ≡ recordStored narrowKind (listedLive l) (listedEntry e) slot n (now (store .entry))) ⌝ }
 {
     let d = slot as usize;
     if n == write_count(l) {
@@ -174,9 +175,10 @@ fn store_record(store: &mut [u8], l: Live, e: Entry, slot: u8, n: u8) -> Answer
     }
     let id = e.id;
     let j = n as usize;
-    let w = l.writes[j];
-    store_version(store, d, j + 1, w.key, id, w.value);
-    Answer::Stored(w.key)
+    let key = nth_key(l.keys, j);
+    let value = l.values[j];
+    store_version(store, d, j + 1, key, id, value);
+    Answer::Stored(key)
 }
 
 // Stores the next record of a closing transaction; after the commit record, acknowledges.

@@ -17,7 +17,7 @@ use Rattle.model.specs.declared.Answer.the-variants as A
 use Rattle.model.specs.Limits.{entryPlaces, sweepLimit}
 use Rattle.model.specs.Kinds.{narrowKind, storeSize}
 use Rattle.model.specs.Ids.{older}
-use Rattle.model.specs.Listed.{listedEntry, listedEntries, listed}
+use Rattle.model.specs.Listed.{listedLives, listedEntry, listedEntries, listed}
 use Rattle.model.specs.Entries.{noEntry, carriesEntry}
 use Rattle.model.specs.Stations.{entryAt, setEntry}
 use Rattle.model.specs.Records.{zeroRecord, recordAt, withRecord}
@@ -233,8 +233,8 @@ module _ (limit : ℕ) (st₀ : Station) (s₀ : List ℕ) (st : Station) (s : L
 -- the same, with the slot, the unused entry and the store as the code has them
 pub sweeping-as : (limit : ℕ) (st₀ : Station) (s₀ : List ℕ) (st : machine.Station.Station) (s : List ℕ) (d count n : ℕ) (xs : List ℕ) → Sweeping limit st₀ s₀ (setEntry (listed st) d noEntry) (withRecord narrowKind s d 0 zeroRecord) count n xs
     → (w : ℕ) → w ≡ d → (x : machine.Entry.Entry) → listedEntry x ≡ noEntry → (y : List ℕ) → y ≡ withRecord narrowKind s w 0 zeroRecord
-    → Sweeping limit st₀ s₀ (stationOf (st .live) (listedEntries (set (st .entries) w x))) y count n xs
+    → Sweeping limit st₀ s₀ (stationOf (listedLives (st .live)) (listedEntries (set (st .entries) w x))) y count n xs
 unfolding setEntry
 sweeping-as limit st₀ s₀ st s d count n xs p w q x e y f =
-    subst (λ (z : List ℕ). Sweeping limit st₀ s₀ (stationOf (st .live) (listedEntries (set (st .entries) w x))) z count n xs) (sym (f ∙ ap (λ (c : ℕ). withRecord narrowKind s c 0 zeroRecord) q))
-    (subst (λ (es : List Entry). Sweeping limit st₀ s₀ (stationOf (st .live) es) (withRecord narrowKind s d 0 zeroRecord) count n xs) (sym (listed-set (st .entries) w x ∙ (λ i. set (listedEntries (st .entries)) (q i) (e i)))) p)
+    subst (λ (z : List ℕ). Sweeping limit st₀ s₀ (stationOf (listedLives (st .live)) (listedEntries (set (st .entries) w x))) z count n xs) (sym (f ∙ ap (λ (c : ℕ). withRecord narrowKind s c 0 zeroRecord) q))
+    (subst (λ (es : List Entry). Sweeping limit st₀ s₀ (stationOf (listedLives (st .live)) es) (withRecord narrowKind s d 0 zeroRecord) count n xs) (sym (listed-set (st .entries) w x ∙ (λ i. set (listedEntries (st .entries)) (q i) (e i)))) p)

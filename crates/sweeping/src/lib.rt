@@ -10,7 +10,7 @@ ghost use Rattle.model.specs.Lists.{_and_, _or_, any};
 ghost use Rattle.model.specs.Limits as Limits;
 ghost use Rattle.model.specs.Kinds as Kinds;
 ghost use Rattle.model.specs.Ids.{sameId};
-ghost use Rattle.model.specs.Listed.{listedEntries, listed, listedOutcome};
+ghost use Rattle.model.specs.Listed.{listedLive, listedLives, listedEntries, listed, listedOutcome};
 ghost use Rattle.model.specs.Lives.{readsOf};
 ghost use Rattle.model.specs.Sound.{sound};
 ghost use Rattle.model.specs.Effects.{_when_, outcomeOf, stored};
@@ -92,7 +92,7 @@ fn with_reads(
     txns: &[u32; Station::SLOTS],
     l: Live,
 ) -> [bool; Station::SLOTS]
-    ensures { λ r. ⌜ AlsoMarked (λ d. hasId (readsOf l) (idAt (now (clocks .entry)) (now (txns .entry)) d)) Limits.entryPlaces marks r ⌝ }
+    ensures { λ r. ⌜ AlsoMarked (λ d. hasId (readsOf (listedLive l)) (idAt (now (clocks .entry)) (now (txns .entry)) d)) Limits.entryPlaces marks r ⌝ }
 {
     let n = read_count(l);
     let mut out = marks;
@@ -113,7 +113,7 @@ fn read_of(
     clocks: &[u64; Station::SLOTS],
     txns: &[u32; Station::SLOTS],
 ) -> [bool; Station::SLOTS]
-    ensures { λ r. ⌜ Marked (λ d. any (λ l. hasId (readsOf l) (idAt (now (clocks .entry)) (now (txns .entry)) d)) live) Limits.entryPlaces r ⌝ }
+    ensures { λ r. ⌜ Marked (λ d. any (λ l. hasId (readsOf l) (idAt (now (clocks .entry)) (now (txns .entry)) d)) (listedLives live)) Limits.entryPlaces r ⌝ }
 {
     let mut out = [false; Station::SLOTS];
     let mut i = 0;
@@ -168,8 +168,8 @@ fn sifted(
 
 // The slots whose entries may be collected, newest first.
 fn to_collect(live: [Live; Station::LIVE], entries: [Entry; Station::SLOTS]) -> Candidates
-    requires { ⌜ sound (stationOf live (listedEntries entries)) ≡ true ⌝ }
-    ensures { λ r. ⌜ AreToCollect (stationOf live (listedEntries entries)) (r .n) (r .slots) ⌝ }
+    requires { ⌜ sound (stationOf (listedLives live) (listedEntries entries)) ≡ true ⌝ }
+    ensures { λ r. ⌜ AreToCollect (stationOf (listedLives live) (listedEntries entries)) (r .n) (r .slots) ⌝ }
 {
     let clocks = clocks_of(entries);
     let txns = txns_of(entries);

@@ -7,8 +7,7 @@ use mathlib.Core.List.{[], _∷_, map}
 use lib.Dec.{eqb, leb}
 use lib.ListN.{length}
 use borrow.Author.Tests.{le-leb, lt-leb, eq-eqb, ne-eqb}
-use Rattle.model.specs.declared.Live.{Live}
-use Rattle.model.specs.Kinds.{Kind}
+use Rattle.model.specs.Types.{Live}
 use Rattle.model.specs.Types.{Station}
 use Rattle.model.specs.declared.Answer.{Answer}
 use Rattle.model.specs.declared.Answer.the-variants as A
@@ -113,5 +112,5 @@ module _ (st : Station) (t k v : ℕ) (b : Bool) (tested : b ≡ sound st) (r : 
     put-done h = put-passed ∙ (skipped 11 _ _ st _ h ∙ refusals-none st _)
 
 -- row 11 does not apply: there is room, or the key is there
-pub room : (κ : Kind) (k : ℕ) (l : Live) → (l .«write_count» < κ .writeLimit) ⊎ (hasWritten k l ≡ true) → (not (hasWritten k l) and leb (κ .writeLimit) (l .«write_count»)) ≡ false
-room κ k l x = ⊎-elim (λ o. and-none-right _ _ (lt-leb (κ .writeLimit) _ o)) (λ e. and-none-left _ _ (not-of-true _ e)) x
+pub room : (n k : ℕ) (l : Live) → (l .«write_count» < n) ⊎ (hasWritten k l ≡ true) → (not (hasWritten k l) and leb n (l .«write_count»)) ≡ false
+room n k l x = ⊎-elim (λ o. and-none-right _ _ (lt-leb n _ o)) (λ e. and-none-left _ _ (not-of-true _ e)) x

@@ -3,7 +3,7 @@ use Prim.Native.Nat.{ℕ}
 use mathlib.Core.Bool.{Bool, not, cond}
 use mathlib.Core.List.{List, [], _∷_}
 use lib.Dec.{eqb, leb}
-use Rattle.model.specs.declared.Live.{Live}
+use Rattle.model.specs.Types.{Live}
 use Rattle.model.specs.Types.{Station}
 use Rattle.model.specs.declared.Phase.the-variants.{Closing}
 use Rattle.model.specs.declared.Answer.{Answer}

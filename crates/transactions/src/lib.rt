@@ -25,7 +25,7 @@ use stations::unchanged;
 use stations::with_phase;
 use stations::with_write;
 ghost use mathlib.Core.Path.{_≡_};
-ghost use Rattle.model.specs.Listed.{listedEntries, listed};
+ghost use Rattle.model.specs.Listed.{listedLive, listedLives, listedEntries, listed};
 ghost use Rattle.model.specs.Sound.{sound};
 ghost use Rattle.model.specs.Start.{start};
 ghost use Rattle.model.specs.Put.{put};
@@ -76,7 +76,7 @@ pub fn put(station: Station, tested: bool, txn: u32, key: u8, value: u64) -> Cha
     }
     let place = at.place;
     let l = live_at(live, place);
-    if l.write_count >= Station::WRITES_U8 {
+    if write_count(l) >= Station::WRITES_U8 {
         if !has_written(l, key) {
             return refused(station, 11);
         }
@@ -110,7 +110,7 @@ fn unknown_row(tested: bool, txn: u32, clock: u64, held: usize, place: usize) ->
 
 // The slot for this many writes: the highest free one, 64 where there is none. Nothing written needs no slot: 0.
 fn slot_for(live: [Live; Station::LIVE], entries: [Entry; Station::SLOTS], writes: u8) -> usize
-    ensures { λ r. ⌜ r ≡ slotFor writes (stationOf live (listedEntries entries)) ⌝ }
+    ensures { λ r. ⌜ r ≡ slotFor writes (stationOf (listedLives live) (listedEntries entries)) ⌝ }
 {
     if writes == 0 {
         return 0;
@@ -126,7 +126,7 @@ fn clock_for(
     writes: u8,
     given: u64,
 ) -> u64
-    ensures { λ r. ⌜ r ≡ clockFor writes given (stationOf live (listedEntries entries)) ⌝ }
+    ensures { λ r. ⌜ r ≡ clockFor writes given (stationOf (listedLives live) (listedEntries entries)) ⌝ }
 {
     if writes == 0 {
         return given;
@@ -140,7 +140,7 @@ fn clock_for(
 
 // What stands in the place afterwards.
 fn after_commit(l: Live, slot: u8, clock: u64) -> Live
-    ensures { λ r. ⌜ r ≡ afterCommit slot clock l ⌝ }
+    ensures { λ r. ⌜ listedLive r ≡ afterCommit slot clock (listedLive l) ⌝ }
 {
     if write_count(l) == 0 {
         return no_live();

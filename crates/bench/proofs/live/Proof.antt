@@ -4,10 +4,10 @@ use Rattle.bench.proofs.live.Statement.{statement}
 use Rattle.bench.proofs.live.Tie as tie
 
 abbrev Inv-loop : tie.InvT-loop
-Inv-loop txn reads base write list₀ i₀ list i = i ≤ 16
+Inv-loop txn reads base list₀ i₀ list i = i ≤ 16
 
 abbrev μ-loop : tie.MeasureT-loop
-μ-loop txn reads base write list₀ i₀ list i = 16 - i
+μ-loop txn reads base list₀ i₀ list i = 16 - i
 
 loop-holds : tie.Need-loop-holds Inv-loop μ-loop
 loop-holds c = search needs

@@ -1,5 +1,5 @@
 -- `image::is_head` meets its contract.
-use Rattle.image.proofs.Names.{ℕ, eqb, eq-eqb, ne-eqb, Id, closingSlot, closingClock, recordsStored, phaseNumber, isHead, _≡_, sym, ap, _∙_, arith, needs, and-none-left, and-none-right}
+use Rattle.image.proofs.Names.{eq-eqb, ne-eqb, Id, closingSlot, closingClock, recordsStored, phaseNumber, isHead, _≡_, sym, ap, _∙_, arith, needs, and-none-left, and-none-right}
 use Rattle.image.proofs.RowLaws.{and-true}
 use Rattle.image.proofs.PlaceLaws.{headTest, head-is}
 use Rattle.image.proofs.is_head.Statement.{statement}
@@ -28,15 +28,10 @@ returns-3 : tie.Need-returns-3
 returns-3 c = sym (tested (c .before .before .before .before .before .before .before .before .before) ∙ and-none-right _ _ (and-none-right _ _ (and-none-left _ _ (ne-eqb _ _ (c .if3 .taken)))))
 
 returns-4 : tie.Need-returns-4
-returns-4 c = sym (tested (c .before .before .before .before .before .before .before .before .before .before .before .before) ∙ and-none-right _ _ (and-none-right _ _ (and-none-right _ _ (and-none-left _ _ (ne-eqb _ _ (c .if4 .taken))))))
-
-returns-5 : tie.Need-returns-5
-returns-5 c =
+returns-4 c =
     let e = c .before .before in
-    ap (λ (n : ℕ). eqb n 0) (c .number-in .ensures .0)
-    ∙ sym (tested (e .before .before .before .before .before .before .before .before .before .before .before .before) ∙ and-true (eq-eqb _ _ (e .before .before .before .before .before .before .before .before .before .if1 .left)) ∙ and-true (eq-eqb _ _ (e .before .before .before .before .before .before .if2 .left)) ∙ and-true (eq-eqb _ _ (e .before .before .before .if3 .left)) ∙ and-true (eq-eqb _ _ (e .if4 .left)))
+    sym (tested (e .before .before .before .before .before .before .before .before .before) ∙ and-true (eq-eqb _ _ (e .before .before .before .before .before .before .if1 .left)) ∙ and-true (eq-eqb _ _ (e .before .before .before .if2 .left)) ∙ and-true (eq-eqb _ _ (e .if3 .left)))
 
 pub is-head-spec : {M : Type 1} → statement M
 is-head-spec =
-    tie.close (tie.spec (λ c κs. search needs) phase-in-requires (λ c κs. search needs) (λ c. search needs) returns (λ c. search needs) returns-2 (λ c. search needs) returns-3 returns-4
-    (λ c. search needs) (λ c. search needs) (λ c. search needs) (λ c κs. search needs) returns-5)
+    tie.close (tie.spec (λ c κs. search needs) phase-in-requires (λ c κs. search needs) (λ c. search needs) returns (λ c. search needs) returns-2 (λ c. search needs) returns-3 returns-4)

@@ -1,5 +1,5 @@
 -- `image::is_place` meets its contract.
-use Rattle.image.proofs.Names.{isPlace, _≡_, sym, _∙_, arith, needs, not-true, not-false, and-none-left, and-none-right}
+use Rattle.image.proofs.Names.{isPlace, _≡_, sym, _∙_, arith, needs, not-true, not-false, and-none-left}
 use Rattle.image.proofs.RowLaws.{and-true}
 use Rattle.image.proofs.PlaceLaws.{placeTest, place-is}
 use Rattle.image.proofs.is_place.Statement.{statement}
@@ -13,16 +13,8 @@ returns c = sym (tested (c .before .before) ∙ and-none-left _ _ (sym (c .befor
 
 returns-2 : tie.Need-returns-2
 returns-2 c =
-    sym (tested (c .before .before .before .before .before) ∙ and-none-right _ _ (and-none-left _ _ (sym (c .before .are-alone .ensures) ∙ not-true _ (c .if2 .taken))))
-
-returns-3 : tie.Need-returns-3
-returns-3 c =
-    let d = c .before .before in
-    let e = d .before .before .before in
-    c .are-alone2 .ensures
-    ∙ sym (tested (e .before .before) ∙ and-true (sym (e .before .is-head .ensures) ∙ not-false _ (e .if1 .left)) ∙ and-true (sym (d .before .are-alone .ensures) ∙ not-false _ (d .if2 .left)))
+    let e = c .before .before in
+    c .are-reads .ensures ∙ sym (tested (e .before .before) ∙ and-true (sym (e .before .is-head .ensures) ∙ not-false _ (e .if1 .left)))
 
 pub is-place-spec : {M : Type 1} → statement M
-is-place-spec =
-    tie.close (tie.spec (λ c κs. search needs) returns (λ c. search needs) (λ c. search needs) (λ c. search needs) (λ c κs. search needs) returns-2
-    (λ c. search needs) (λ c. search needs) (λ c. search needs) (λ c κs. search needs) returns-3)
+is-place-spec = tie.close (tie.spec (λ c κs. search needs) returns (λ c. search needs) (λ c. search needs) (λ c. search needs) (λ c κs. search needs) returns-2)

@@ -1,5 +1,5 @@
 -- `image::read_image` meets its contract.
-use Rattle.image.proofs.Names.{true, false, true≢false, map, livePlaces, entryPlaces, placeSize, placesSize, entrySize, imageSize, entryFrom, placeFrom, stationIn, isImage, _≡_, sym, ap, _∙_, length, drop, length-drop, arith, needs, not-true, not-false}
+use Rattle.image.proofs.Names.{true, false, true≢false, map, livePlaces, entryPlaces, _+_, kindSize, placeSize, placesSize, entrySize, imageSize, entryFrom, placeFrom, stationIn, isImage, _≡_, sym, ap, _∙_, length, drop, length-drop, arith, needs, not-true, not-false}
 use Rattle.image.proofs.PartLaws.{parts-take}
 use Rattle.image.proofs.Round.{image-length}
 use Rattle.image.proofs.read_image.Statement.{statement}
@@ -22,8 +22,8 @@ unfolding stationIn
 returns-2 c =
     let k = c .before .before .before .before in
     let b = k .before .before .before .args .bytes .now in
-    let p = parts-take placeSize livePlaces b (omega (arith, long k)) in
-    let q = parts-take entrySize entryPlaces (drop placesSize b) (omega (arith, long k, length-drop placesSize b)) in
+    let p = parts-take placeSize livePlaces (drop kindSize b) (omega (arith, long k, length-drop kindSize b)) in
+    let q = parts-take entrySize entryPlaces (drop (kindSize + placesSize) b) (omega (arith, long k, length-drop (kindSize + placesSize) b)) in
     let s : record { live = c .before .before .places-in .result; entries = c .entries-in .result } ≡ stationIn b = λ z. record {
       live = (c .before .before .places-in .ensures ∙ ap (map placeFrom) p) z;
       entries = (c .entries-in .ensures ∙ ap (map entryFrom) q) z;

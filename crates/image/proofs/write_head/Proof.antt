@@ -14,8 +14,8 @@ returns c =
     let w = c .before .before .before .before .before .before .write-start in
     let v = c .before .before .write-number in
     put-last (v .last .0) 8 (put-next (w .last .0) 16 (put-none (s .args .part .now) (s .pre)) (omega arith) (w .kept .0)) refl (v .kept .0)
-    ∙ head-written (a .p) (a .txn) (a .writes) (a .reads) (m .result .mark) (m .result .slot) (m .result .stored) (m .result .clock) (search needs) (m .ensures .0) (m .ensures .1) (m .ensures .2) (m .ensures .3) (w .last .0) (v .last .0) (w .ensures)
-    (number-written (putMid 0 16 b (w .last .0)) (v .last .0) 16 8 (a .reads) (omega (arith, same-len-mid 0 16 b (w .last .0) (w .kept .0))) (v .ensures))
+    ∙ head-written (a .p) (a .txn) (a .reads) (a .keys) (m .result .mark) (m .result .slot) (m .result .stored) (m .result .clock) (m .ensures .0) (m .ensures .1) (m .ensures .2) (m .ensures .3) (w .last .0) (v .last .0) (w .ensures)
+    (number-written (putMid 0 16 b (w .last .0)) (v .last .0) 16 8 (a .keys) (omega (arith, same-len-mid 0 16 b (w .last .0) (w .kept .0))) (v .ensures))
 
 pub write-head-spec : {M : Type 1} → statement M
 write-head-spec =

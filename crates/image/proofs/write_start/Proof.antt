@@ -1,18 +1,18 @@
 -- `image::write_start` meets its contract.
-use Rattle.image.proofs.Names.{length-set, putMid, same-len-mid, itemSize, _≡_, sym, _∙_, length, arith, needs}
+use Rattle.image.proofs.Names.{length-set, putMid, same-len-mid, readSize, _≡_, sym, _∙_, length, arith, needs}
 use Rattle.image.proofs.PartLaws.{number-written}
 use Rattle.image.proofs.PlaceLaws.{start-written}
 use Rattle.image.proofs.write_start.Statement.{statement}
 use Rattle.image.proofs.write_start.Tie as tie
 
 -- the first number written, and both
-long : (c : tie.After-slice-known2) → length (putMid 4 4 (c .before .before .before .before .before .before .args .part .now) (c .before .before .write-number .last .0)) ≡ itemSize
+long : (c : tie.After-slice-known2) → length (putMid 4 4 (c .before .before .before .before .before .before .args .part .now) (c .before .before .write-number .last .0)) ≡ readSize
 long c =
     let s = c .before .before .before .before .before .before in
     let w = c .before .before .write-number in
     same-len-mid 4 4 (s .args .part .now) (w .last .0) (w .kept .0) ∙ s .pre
 
-both-long : (c : tie.After-slice-known3) → length (putMid 8 8 (putMid 4 4 (c .before .before .before .before .before .before .before .before .before .before .args .part .now) (c .before .before .before .before .before .before .write-number .last .0)) (c .before .before .write-number2 .last .0)) ≡ itemSize
+both-long : (c : tie.After-slice-known3) → length (putMid 8 8 (putMid 4 4 (c .before .before .before .before .before .before .before .before .before .before .args .part .now) (c .before .before .before .before .before .before .write-number .last .0)) (c .before .before .write-number2 .last .0)) ≡ readSize
 both-long c =
     let k = c .before .before .before .before in
     let v = c .before .before .write-number2 in

@@ -10,18 +10,18 @@ use borrow.Author.Needs.{needs}
 use borrow.Author.Tests.{not-true, not-false}
 use Rattle.model.specs.Kinds.{narrowKind}
 use Rattle.model.specs.declared.Read.{Read}
-use Rattle.model.specs.declared.Live.{Live}
+use Rattle.model.specs.Types.{Live}
 use Rattle.model.specs.Types.{Entry}
 use Rattle.model.specs.Lists.{_and_, all, distinct}
-use Rattle.model.specs.Lives.{noRead, readKey, liveBeyond}
+use Rattle.model.specs.Lives.{noRead, readKey}
 use Rattle.model.specs.Entries.{isNoEntry, noEntry}
-use Rattle.model.specs.Listed.{listedEntries, listed}
+use Rattle.model.specs.Listed.{listedLive, listedLives, listedEntries, listed}
 use Rattle.model.specs.Ranges.{LiveFits}
 use Rattle.model.specs.Sound.{isNoRead, isNoLive, entryRight, sound}
 use Rattle.model.proofs.RestLaws.{all-split}
 use Rattle.model.proofs.ListLaws.{every-at}
 use Rattle.model.proofs.Handed.{station-handed}
-use Rattle.model.proofs.ListedLaws.{listed-length}
+use Rattle.model.proofs.ListedLaws.{zeroLive, lives-any, listed-length}
 use Rattle.soundness.specs.Parts as Parts
 use Rattle.soundness.specs.Parts.{setRight, shape, liveColumn, heldColumn, txnColumn, markColumn, namedBy, placeFits, slotFree, parts}
 use Rattle.soundness.proofs.AllLoop.{AllPassed, all-start, all-wrong, all-next, all-done}
@@ -45,8 +45,8 @@ abbrev μ-loop : tie.MeasureT-loop
 -- the columns of the live places
 abbrev Inv-loop2 : tie.InvT-loop2
 Inv-loop2 station txns₀ d marks₀ k₀ txns marks k =
-    (k ≤ 8) × (length txns ≡ 72) × (length marks ≡ 8) × (take k txns ≡ take k (liveColumn (station .live)))
-    × (drop 8 txns ≡ heldColumn (listedEntries (station .entries))) × (take k marks ≡ take k (markColumn (station .live)))
+    (k ≤ 8) × (length txns ≡ 72) × (length marks ≡ 8) × (take k txns ≡ take k (liveColumn (listedLives (station .live))))
+    × (drop 8 txns ≡ heldColumn (listedEntries (station .entries))) × (take k marks ≡ take k (markColumn (listedLives (station .live))))
 
 abbrev μ-loop2 : tie.MeasureT-loop2
 μ-loop2 station txns₀ d marks₀ k₀ txns marks k = 8 - k
@@ -54,28 +54,28 @@ abbrev μ-loop2 : tie.MeasureT-loop2
 -- a place's reads, and then the places after it
 abbrev Inv-loop4 : tie.InvT-loop4
 Inv-loop4 station txns d marks k i reader n low₀ j₀ low j =
-    SetPassed readKey (namedBy (listedEntries (station .entries)) txns) isNoRead n (reader .reads) 16 (all (placeFits narrowKind (listedEntries (station .entries)) txns) (station .live))
-    (all (placeFits narrowKind (listedEntries (station .entries)) txns) (drop (i + 1) (station .live))) low j
+    SetPassed readKey (namedBy (listedEntries (station .entries)) txns) isNoRead n (reader .reads) 16 (all (placeFits narrowKind (listedEntries (station .entries)) txns) (listedLives (station .live)))
+    (all (placeFits narrowKind (listedEntries (station .entries)) txns) (drop (i + 1) (listedLives (station .live)))) low j
 
 abbrev μ-loop4 : tie.MeasureT-loop4
 μ-loop4 station txns d marks k i reader n low₀ j₀ low j = 16 - j
 
 -- the places
 abbrev Inv-loop3 : tie.InvT-loop3
-Inv-loop3 station txns d marks k i₀ i = AllPassed (placeFits narrowKind (listedEntries (station .entries)) txns) (station .live) 8 i
+Inv-loop3 station txns d marks k i₀ i = AllPassed (placeFits narrowKind (listedEntries (station .entries)) txns) (listedLives (station .live)) 8 i
 
 abbrev μ-loop3 : tie.MeasureT-loop3
 μ-loop3 station txns d marks k i₀ i = 8 - i
 
 -- ── the station ──
 abbrev lives : tie.Start Inv-loop μ-loop Inv-loop2 μ-loop2 Inv-loop4 μ-loop4 Inv-loop3 μ-loop3 → List Live
-lives s = s .args .t1 .live
+lives s = listedLives (s .args .t1 .live)
 
 abbrev entries : tie.Start Inv-loop μ-loop Inv-loop2 μ-loop2 Inv-loop4 μ-loop4 Inv-loop3 μ-loop3 → List Entry
 entries s = listedEntries (s .args .t1 .entries)
 
 lives-long : (s : tie.Start Inv-loop μ-loop Inv-loop2 μ-loop2 Inv-loop4 μ-loop4 Inv-loop3 μ-loop3) → length (lives s) ≡ 8
-lives-long s = simp length-map at (s .good .0 .1 .1 .0 .1 .0 .1)
+lives-long s = length-map (s .args .t1 .live) listedLive ∙ simp length-map at (s .good .0 .1 .1 .0 .1 .0 .1)
 
 entries-long : (s : tie.Start Inv-loop μ-loop Inv-loop2 μ-loop2 Inv-loop4 μ-loop4 Inv-loop3 μ-loop3) → length (entries s) ≡ 64
 entries-long s = listed-length (s .args .t1 .entries) ∙ simp length-map at (s .good .0 .1 .1 .1 .0 .1 .0 .1)
@@ -122,7 +122,10 @@ abbrev fits : tie.At-loop3 Inv-loop μ-loop Inv-loop2 μ-loop2 Inv-loop4 μ-loop
 fits a = placeFits narrowKind (entries (start3 a)) (txns a)
 
 abbrev live : tie.At-loop3 Inv-loop μ-loop Inv-loop2 μ-loop2 Inv-loop4 μ-loop4 Inv-loop3 μ-loop3 → Live
-live a = getD (lives (start3 a)) (a .loop3 .i) liveBeyond
+live a = listedLive (getD (start3 a .args .t1 .live) (a .loop3 .i) zeroLive)
+
+here : (a : tie.At-loop3 Inv-loop μ-loop Inv-loop2 μ-loop2 Inv-loop4 μ-loop4 Inv-loop3 μ-loop3) → fits a (getD (lives (start3 a)) (a .loop3 .i) (listedLive zeroLive)) ≡ fits a (live a)
+here a = ap (fits a) (lives-any (start3 a .args .t1 .live) (a .loop3 .i))
 
 txns-differ : (a : tie.At-loop3 Inv-loop μ-loop Inv-loop2 μ-loop2 Inv-loop4 μ-loop4 Inv-loop3 μ-loop3) → distinct (txnColumn (lives (start3 a)) (entries (start3 a))) ≡ true
 txns-differ a = differ-as (a .before .before) true (not-false _ (a .before .if2 .left))
@@ -138,7 +141,7 @@ misfit a e = sym (whole (start3 a) ∙ rw (entries-hold (columns a .before), non
 wrong : (a : tie.In-loop3 Inv-loop μ-loop Inv-loop2 μ-loop2 Inv-loop4 μ-loop4 Inv-loop3 μ-loop3) → shape narrowKind (live (a .before)) ≡ false → false ≡ sound (listed (start3 (a .before) .args .t1))
 wrong c e =
     let a = c .before in
-    misfit a (all-wrong (fits a) (lives (start3 a)) 8 (lives-long (start3 a)) (a .loop3 .i) (a .loop3 .inv) liveBeyond (omega arith) (place-wrong narrowKind (entries (start3 a)) (txns a) (live a) e))
+    misfit a (all-wrong (fits a) (lives (start3 a)) 8 (lives-long (start3 a)) (a .loop3 .i) (a .loop3 .inv) (listedLive zeroLive) (omega arith) (here a ∙ place-wrong narrowKind (entries (start3 a)) (txns a) (live a) e))
 
 unused : (a : tie.After-unused-right Inv-loop μ-loop Inv-loop2 μ-loop2 Inv-loop4 μ-loop4 Inv-loop3 μ-loop3) (b : Bool) → a .unused-right .result ≡ b → isNoLive (live (a .before .before .before .before .before .before)) ≡ b
 unused a b e = sym (a .unused-right .ensures) ∙ e
@@ -166,7 +169,7 @@ reads-long : (w : tie.After-wide Inv-loop μ-loop Inv-loop2 μ-loop2 Inv-loop4 �
 reads-long w =
     let a = outer w in
     let s = start3 a in
-    every-at LiveFits (lives s) (station-handed (s .args .t1) _ (s .good .0) .live) (a .loop3 .i) liveBeyond (omega (arith, lives-long s)) .read-places
+    every-at LiveFits (s .args .t1 .live) (station-handed (s .args .t1) _ (s .good .0) .live) (a .loop3 .i) zeroLive (omega (arith, lives-long s, length-map (s .args .t1 .live) listedLive)) .read-places
 
 -- the read at hand
 abbrev at-hand : tie.At-loop4 Inv-loop μ-loop Inv-loop2 μ-loop2 Inv-loop4 μ-loop4 Inv-loop3 μ-loop3 → Read
@@ -214,7 +217,7 @@ loop2-holds c =
 loop2-again : tie.Need-loop2-again Inv-loop μ-loop Inv-loop2 μ-loop2 Inv-loop4 μ-loop4 Inv-loop3 μ-loop3
 loop2-again c =
     let l = c .before .before .before in
-    let ls = lives (start2 l) in
+    let ls = start2 l .args .t1 .live in
     let h = lives-long (start2 l) in (
       omega arith,
       simp length-set (l .loop2 .inv .1),
@@ -247,8 +250,8 @@ loop3-again c =
     let u = c .before in
     let a = u .before .before .before .before .before .before in
     let t = not-false _ (c .if4 .left) in
-    all-next (fits a) (lives (start3 a)) 8 (lives-long (start3 a)) (a .loop3 .i) (a .loop3 .inv) liveBeyond (omega arith)
-    (place-reads narrowKind (entries (start3 a)) (txns a) (live a) (unused-as u true t) ∙ unused-reads (isNamedBy a) (live a) (unused u true t))
+    all-next (fits a) (lives (start3 a)) 8 (lives-long (start3 a)) (a .loop3 .i) (a .loop3 .inv) (listedLive zeroLive) (omega arith)
+    (here a ∙ place-reads narrowKind (entries (start3 a)) (txns a) (live a) (unused-as u true t) ∙ unused-reads (isNamedBy a) (live a) (unused u true t))
 
 returns-4 : tie.Need-returns-4 Inv-loop μ-loop Inv-loop2 μ-loop2 Inv-loop4 μ-loop4 Inv-loop3 μ-loop3
 returns-4 c = wrong (c .before .before .before .before .before .before) (used-as (c .before) false (not-true _ (c .if5 .taken)))
@@ -259,9 +262,9 @@ loop4-holds c =
     let ls = lives (start3 a) in
     let h = lives-long (start3 a) in
     set-start readKey (isNamedBy a) isNoRead (c .wide .result) (live a .reads) 16 _ _
-    (a .loop3 .inv .1 ∙ all-split (fits a) ls (a .loop3 .i) liveBeyond (omega arith)
+    (a .loop3 .inv .1 ∙ all-split (fits a) ls (a .loop3 .i) (listedLive zeroLive) (omega arith)
     ∙ ap (λ (b : Bool). b and all (fits a) (drop (a .loop3 .i + 1) ls))
-    (place-reads narrowKind (entries (start3 a)) (txns a) (live a) (shaped (c .before .before)) ∙ ap (λ (n : ℕ). setRight readKey (isNamedBy a) isNoRead 0 n (live a .reads)) (sym (c .wide .ensures))))
+    (here a ∙ place-reads narrowKind (entries (start3 a)) (txns a) (live a) (shaped (c .before .before)) ∙ ap (λ (n : ℕ). setRight readKey (isNamedBy a) isNoRead 0 n (live a .reads)) (sym (c .wide .ensures))))
 
 returns-5 : tie.Need-returns-5 Inv-loop μ-loop Inv-loop2 μ-loop2 Inv-loop4 μ-loop4 Inv-loop3 μ-loop3
 returns-5 c =

@@ -14,7 +14,7 @@ use Rattle.soundness.proofs.no_reads.Statement.{statement}
 use Rattle.soundness.proofs.no_reads.Tie as tie
 
 abbrev Inv-loop : tie.InvT-loop
-Inv-loop l keys₀ clocks₀ txns₀ j₀ keys clocks txns j = OrPassed isNoRead (l .reads) 16 (eqb keys 0 and (eqb clocks 0 and eqb txns 0)) j
+Inv-loop l keys₀ clocks₀ txns₀ j₀ keys clocks txns j = OrPassed isNoRead (l .reads) 16 0 (eqb keys 0 and (eqb clocks 0 and eqb txns 0)) j
 
 abbrev μ-loop : tie.MeasureT-loop
 μ-loop l keys₀ clocks₀ txns₀ j₀ keys clocks txns j = 16 - j
@@ -23,11 +23,11 @@ long : (s : tie.Start Inv-loop μ-loop) → length (s .args .t1 .reads) ≡ 16
 long s = simp length-map at (s .good .0 .1 .1 .1 .1 .1 .1 .1 .0 .1 .0 .1)
 
 done : (a : tie.After-loop Inv-loop μ-loop) → all isNoRead (a .before .before .args .t1 .reads) ≡ (eqb (a .before .loop .keys) 0 and (eqb (a .before .loop .clocks) 0 and eqb (a .before .loop .txns) 0))
-done a = let l = a .before in or-done isNoRead (l .before .args .t1 .reads) 16 (long (l .before)) _ (l .loop .j) (l .loop .inv) (omega arith)
+done a = let l = a .before in or-done isNoRead (l .before .args .t1 .reads) 16 0 (long (l .before)) _ (l .loop .j) (l .loop .inv) (omega arith)
 
 loop-holds : tie.Need-loop-holds Inv-loop μ-loop
 unfolding _and_
-loop-holds c = or-start isNoRead (c .args .t1 .reads) 16
+loop-holds c = or-start isNoRead (c .args .t1 .reads) 16 0 (omega arith)
 
 mul-read : tie.Need-mul-read Inv-loop μ-loop
 mul-read c = search needs
@@ -45,7 +45,7 @@ loop-again : tie.Need-loop-again Inv-loop μ-loop
 loop-again c =
     let l = c .before .before .before .before .before .before in
     let rs = l .before .args .t1 .reads in
-    or-next isNoRead rs 16 (long (l .before)) _ (l .loop .j) (l .loop .inv) noRead _ (omega arith) (read-or (l .loop .keys) (l .loop .clocks) (l .loop .txns) (getD rs (l .loop .j) noRead))
+    or-next isNoRead rs 16 0 (long (l .before)) _ (l .loop .j) (l .loop .inv) noRead _ (omega arith) (read-or (l .loop .keys) (l .loop .clocks) (l .loop .txns) (getD rs (l .loop .j) noRead))
 
 returns : tie.Need-returns Inv-loop μ-loop
 unfolding _and_

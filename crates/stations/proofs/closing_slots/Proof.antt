@@ -1,7 +1,7 @@
 -- `stations::closing_slots` meets its contract. The loop's invariant: the first i marks are set. Assumes nothing.
-use Prim.Native.Nat.{_≤_, _-_}
-use mathlib.Core.Path.{_≡_, refl, _∙_}
-use mathlib.Core.List.{map, _++_}
+use Prim.Native.Nat.{ℕ, _≤_, _-_}
+use mathlib.Core.Path.{_≡_, refl, sym, _∙_}
+use mathlib.Core.List.{map, _++_, map-map}
 use lib.ListN.{length, replicate, take, drop, length-map}
 use native.Mathlib.Omega.{arith}
 use borrow.Author.Needs.{needs}
@@ -10,10 +10,16 @@ use Rattle.stations.specs.Found.{liveMark}
 use Rattle.stations.proofs.Fill.{fill-all, fill-map}
 use Rattle.stations.proofs.closing_slots.Statement.{statement}
 use Rattle.stations.proofs.closing_slots.Tie as tie
-use Rattle.model.specs.Lives.{liveBeyond}
+use Rattle.model.specs.declared.Live.{Live}
+use Rattle.model.specs.Lives.{slotMark}
+use Rattle.model.specs.Listed.{listedLive}
+use Rattle.model.proofs.ListedLaws.{zeroLive}
+
+abbrev machineMark : Live → ℕ
+machineMark l = slotMark (l .phase)
 
 abbrev Inv-loop : tie.InvT-loop
-Inv-loop live marks₀ i₀ marks i = (i ≤ 8) × (marks ≡ take i (map liveMark live) ++ drop i marks₀)
+Inv-loop live marks₀ i₀ marks i = (i ≤ 8) × (marks ≡ take i (map machineMark live) ++ drop i marks₀)
 
 abbrev μ-loop : tie.MeasureT-loop
 μ-loop live marks₀ i₀ marks i = 8 - i
@@ -46,13 +52,14 @@ loop-again : tie.Need-loop-again Inv-loop μ-loop
 loop-again c =
     let a = c .before .before .before .before .args in
     let z : length (a .t1) ≡ 8 = search needs in
-    (omega arith, fill-map liveMark (a .t1) _ _ _ liveBeyond _ (omega arith) (omega arith) (c .before .before .before .loop .inv .1) (c .slot-mark .ensures))
+    (omega arith, fill-map machineMark (a .t1) _ _ _ zeroLive _ (omega arith) (omega arith) (c .before .before .before .loop .inv .1) (c .slot-mark .ensures))
 
 returns : tie.Need-returns Inv-loop μ-loop
 returns c =
     let z : length (c .before .before .args .t1) ≡ 8 = search needs in
     let q : c .before .loop .i ≡ 8 = omega arith in
-    fill-all (map liveMark (c .before .before .args .t1)) (replicate 8 0) _ 8 (length-map (c .before .before .args .t1) liveMark ∙ z) refl (rw q at (c .before .loop .inv .1))
+    fill-all (map machineMark (c .before .before .args .t1)) (replicate 8 0) _ 8 (length-map (c .before .before .args .t1) machineMark ∙ z) refl (rw q at (c .before .loop .inv .1))
+    ∙ sym (map-map liveMark listedLive (c .before .before .args .t1))
 
 pub closing-slots-spec : {M : Type 1} → statement M
 closing-slots-spec =

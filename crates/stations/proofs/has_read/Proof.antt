@@ -3,6 +3,7 @@ use mathlib.Core.Path.{_≡_, sym}
 use lib.ListN.{length, length-map}
 use borrow.Author.Needs.{needs}
 use Rattle.model.specs.Lives.{readKey, readsOf}
+use Rattle.model.specs.Listed.{listedLive}
 use Rattle.stations.proofs.Search.{key-position}
 use Rattle.stations.proofs.Sets.{has-read}
 use Rattle.stations.proofs.has_read.Statement.{statement}
@@ -27,7 +28,7 @@ returns c =
     let n = c .before .before .before .before .wide in
     let z : length (s .args .l .reads) ≡ 16 = simp length-map at (s .good .0 .1 .1 .1 .1 .1 .1 .1 .0 .1 .0 .1) in
     rw (n .ensures)
-    (sym (has-read (s .args .l) (s .args .key) (c .position .result) z (s .pre)
+    (sym (has-read (listedLive (s .args .l)) (s .args .key) (c .position .result) z (s .pre)
     (key-position readKey _ _ _ _ _ _ (c .before .before .read-keys .ensures) (n .ensures) (c .position .ensures))))
 
 pub has-read-spec : {M : Type 1} → statement M

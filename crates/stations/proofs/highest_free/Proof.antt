@@ -9,7 +9,7 @@ use borrow.Author.Needs.{needs}
 use borrow.Author.Tests.{not-true, not-false}
 use Rattle.model.specs.declared.Entry.{Entry}
 use Rattle.model.specs.Types as L
-use Rattle.model.specs.Listed.{listedEntries}
+use Rattle.model.specs.Listed.{listedLives, listedEntries}
 use Rattle.model.specs.Entries.{noEntry}
 use Rattle.model.proofs.ListedLaws.{zeroEntry, listed-any}
 use Rattle.stations.specs.Found.{stationOf}
@@ -52,7 +52,7 @@ returns : tie.Need-returns Inv-loop μ-loop
 returns c =
     let l = c .before .before .before .before .before .before .before .loop in
     let a = c .before .before .before .before .before .before .before .before .before .args in
-    let st = stationOf (a .live) (listedEntries (a .t2)) in
+    let st = stationOf (listedLives (a .live)) (listedEntries (a .t2)) in
     let ms = c .before .before .before .before .before .before .before .before .closing-slots .result in
     let e : l .n ≡ suc (l .n - 1) = omega arith in
     sym (highest-hit _ (l .n) _ e (free-neither (st .entries) ms _ (held-as (a .t2) _ ∙ c .before .before .if1 .taken) (sym (c .before .is-marked .ensures) ∙ not-true _ (c .if2 .taken))))
@@ -68,7 +68,7 @@ loop-again : tie.Need-loop-again Inv-loop μ-loop
 loop-again c =
     let l = c .before .before .before .before .before .loop in
     let a = c .before .before .before .before .before .before .before .args in
-    let st = stationOf (a .live) (listedEntries (a .t2)) in
+    let st = stationOf (listedLives (a .live)) (listedEntries (a .t2)) in
     let ms = c .before .before .before .before .before .before .closing-slots .result in
     let e : l .n ≡ suc (l .n - 1) = omega arith in
     (omega arith, l .inv .1 ∙ highest-miss _ (l .n) _ e (⊎-elim (λ w. free-closing (st .entries) ms _ (sym (w .1 .ensures) ∙ not-false _ (w .2 .left))) (λ w. free-held (st .entries) ms _ (λ z. w .left (sym (held-as (a .t2) _) ∙ z))) (c .if1 .came)))
@@ -76,7 +76,7 @@ loop-again c =
 returns-2 : tie.Need-returns-2 Inv-loop μ-loop
 returns-2 c =
     let a = c .before .before .before .args in
-    let st = stationOf (a .live) (listedEntries (a .t2)) in
+    let st = stationOf (listedLives (a .live)) (listedEntries (a .t2)) in
     let ms = c .before .before .closing-slots .result in
     let q : c .before .loop .n ≡ 0 = omega arith in
     sym (highest-none (free (st .entries) ms)) ∙ (sym (rw q at (c .before .loop .inv .1)) ∙ highest-free st ms (c .before .before .closing-slots .ensures))

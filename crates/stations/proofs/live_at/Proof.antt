@@ -1,13 +1,15 @@
 -- `stations::live_at` meets its contract. The loop's invariant: the place is not before i. Assumes nothing.
 use Prim.Native.Nat.{_≤_, _-_}
-use mathlib.Core.Path.{_≡_, ap}
-use lib.ListN.{getD}
+use mathlib.Core.Path.{_≡_, sym, ap, _∙_}
+use lib.ListN.{length, getD}
 use native.Mathlib.Omega.{arith}
 use borrow.Author.Needs.{needs}
 use Rattle.model.specs.Stations.{liveAt}
 use Rattle.stations.proofs.live_at.Statement.{statement}
 use Rattle.stations.proofs.live_at.Tie as tie
 use Rattle.model.specs.Lives.{liveBeyond}
+use Rattle.model.specs.Listed.{listedLives}
+use Rattle.model.proofs.ListedLaws.{zeroLive, lives-at}
 
 abbrev Inv-loop : tie.InvT-loop
 Inv-loop place live i₀ i = (i ≤ 7) × (i ≤ place)
@@ -26,7 +28,9 @@ array-copy-out-result c = search needs
 
 returns : tie.Need-returns Inv-loop μ-loop
 unfolding liveAt
-returns c = ap (λ i. getD (c .before .before .before .before .args .t1) i liveBeyond) (c .before .if1 .taken)
+returns c =
+    let z : length (c .before .before .before .before .args .t1) ≡ 8 = search needs in
+    sym (lives-at (c .before .before .before .before .args .t1) _ (omega (arith, z)) liveBeyond zeroLive) ∙ ap (λ i. getD (listedLives (c .before .before .before .before .args .t1)) i liveBeyond) (c .before .if1 .taken)
 
 add-i : tie.Need-add-i Inv-loop μ-loop
 add-i c = search needs
@@ -44,7 +48,8 @@ returns-2 : tie.Need-returns-2 Inv-loop μ-loop
 unfolding liveAt
 returns-2 c =
     let q : 7 ≡ c .before .before .before .args .place = omega arith in
-    ap (λ i. getD (c .before .before .before .args .t1) i liveBeyond) q
+    let z : length (c .before .before .before .args .t1) ≡ 8 = search needs in
+    sym (lives-at (c .before .before .before .args .t1) 7 (omega (arith, z)) liveBeyond zeroLive) ∙ ap (λ i. getD (listedLives (c .before .before .before .args .t1)) i liveBeyond) q
 
 pub live-at-spec : {M : Type 1} → statement M
 live-at-spec =

@@ -1,10 +1,13 @@
 -- `stations::phase_at` meets its contract. The loop's invariant is that of `live_at`. Assumes nothing.
 use Prim.Native.Nat.{_≤_, _-_}
-use mathlib.Core.Path.{_≡_, ap}
-use lib.ListN.{getD}
+use mathlib.Core.Path.{_≡_, sym, ap, _∙_}
+use lib.ListN.{length, getD}
 use native.Mathlib.Omega.{arith}
 use borrow.Author.Needs.{needs}
+use Rattle.model.specs.Types.{Live}
 use Rattle.model.specs.Lives.{liveBeyond}
+use Rattle.model.specs.Listed.{listedLives}
+use Rattle.model.proofs.ListedLaws.{zeroLive, lives-at}
 use Rattle.model.specs.Stations.{liveAt}
 use Rattle.stations.proofs.phase_at.Statement.{statement}
 use Rattle.stations.proofs.phase_at.Tie as tie
@@ -26,7 +29,9 @@ array-copy-out-l c = search needs
 
 returns : tie.Need-returns Inv-loop μ-loop
 unfolding liveAt
-returns c = ap (λ i. getD (c .before .before .before .before .args .t1) i liveBeyond .phase) (c .if1 .taken)
+returns c =
+    let z : length (c .before .before .before .before .args .t1) ≡ 8 = search needs in
+    sym (ap (λ (l : Live). l .phase) (lives-at (c .before .before .before .before .args .t1) _ (omega (arith, z)) liveBeyond zeroLive)) ∙ ap (λ i. getD (listedLives (c .before .before .before .before .args .t1)) i liveBeyond .phase) (c .if1 .taken)
 
 add-i : tie.Need-add-i Inv-loop μ-loop
 add-i c = search needs
@@ -44,7 +49,8 @@ returns-2 : tie.Need-returns-2 Inv-loop μ-loop
 unfolding liveAt
 returns-2 c =
     let q : 7 ≡ c .before .before .before .args .place = omega arith in
-    ap (λ i. getD (c .before .before .before .args .t1) i liveBeyond .phase) q
+    let z : length (c .before .before .before .args .t1) ≡ 8 = search needs in
+    sym (ap (λ (l : Live). l .phase) (lives-at (c .before .before .before .args .t1) 7 (omega (arith, z)) liveBeyond zeroLive)) ∙ ap (λ i. getD (listedLives (c .before .before .before .args .t1)) i liveBeyond .phase) q
 
 pub phase-at-spec : {M : Type 1} → statement M
 phase-at-spec = tie.close (tie.spec Inv-loop μ-loop loop-holds mul-l array-copy-out-l returns add-i loop-less loop-again array-copy-out-last returns-2)

@@ -1,7 +1,7 @@
 -- `stations::place_of` meets its contract. The loop's invariant: the search from place i on finds what the search of all does. Assumes nothing.
-use Prim.Native.Nat.{_≤_, _-_}
-use mathlib.Core.Path.{_≡_, refl, sym, _∙_}
-use mathlib.Core.List.{map}
+use Prim.Native.Nat.{ℕ, _≤_, _-_}
+use mathlib.Core.Path.{_≡_, refl, sym, ap, _∙_}
+use mathlib.Core.List.{List, map, map-map}
 use lib.Dec.{eqb}
 use lib.ListN.{length, getD}
 use native.Mathlib.Omega.{arith}
@@ -12,10 +12,19 @@ use Rattle.stations.proofs.Search.{firstFrom, from-start, from-hit, fro
 use Rattle.stations.specs.Found.{liveTxn}
 use Rattle.stations.proofs.place_of.Statement.{statement}
 use Rattle.stations.proofs.place_of.Tie as tie
-use Rattle.model.specs.Lives.{liveBeyond}
+use Rattle.model.specs.declared.Live.{Live}
+use Rattle.model.specs.Listed.{listedLive, listedLives}
+use Rattle.model.proofs.ListedLaws.{zeroLive}
+
+abbrev machineTxn : Live → ℕ
+machineTxn l = l .txn
+
+-- the places' transactions are those of their lists
+in-lists : (t : ℕ) (ls : List Live) (r : ℕ) → r ≡ first (eqb t) (map machineTxn ls) → r ≡ first (eqb t) (map liveTxn (listedLives ls))
+in-lists t ls r q = q ∙ sym (ap (first (eqb t)) (map-map liveTxn listedLive ls))
 
 abbrev Inv-loop : tie.InvT-loop
-Inv-loop txn live i₀ i = (i ≤ 8) × (first (eqb txn) (map liveTxn live) ≡ firstFrom (λ k. eqb txn (liveTxn (getD live k liveBeyond))) i (8 - i))
+Inv-loop txn live i₀ i = (i ≤ 8) × (first (eqb txn) (map machineTxn live) ≡ firstFrom (λ k. eqb txn (machineTxn (getD live k zeroLive))) i (8 - i))
 
 abbrev μ-loop : tie.MeasureT-loop
 μ-loop txn live i₀ i = 8 - i
@@ -23,7 +32,7 @@ abbrev μ-loop : tie.MeasureT-loop
 loop-holds : tie.Need-loop-holds Inv-loop μ-loop
 loop-holds c =
     let z : length (c .args .t1) ≡ 8 = search needs in
-    (omega arith, first-whole liveTxn (c .args .txn) (c .args .t1) liveBeyond 8 z ∙ from-start _ 8 8 refl)
+    (omega arith, first-whole machineTxn (c .args .txn) (c .args .t1) zeroLive 8 z ∙ from-start _ 8 8 refl)
 
 mul-l : tie.Need-mul-l Inv-loop μ-loop
 mul-l c = search needs
@@ -32,7 +41,7 @@ array-copy-out-l : tie.Need-array-copy-out-l Inv-loop μ-loop
 array-copy-out-l c = search needs
 
 returns : tie.Need-returns Inv-loop μ-loop
-returns c = sym (c .before .before .before .before .loop .inv .1 ∙ from-hit _ _ _ (omega arith) (eq-eqb _ _ (c .if1 .taken)))
+returns c = in-lists _ (c .before .before .before .before .before .args .t1) _ (sym (c .before .before .before .before .loop .inv .1 ∙ from-hit _ _ _ (omega arith) (eq-eqb _ _ (c .if1 .taken))))
 
 add-i : tie.Need-add-i Inv-loop μ-loop
 add-i c = search needs
@@ -46,7 +55,7 @@ loop-again c = (omega arith, c .before .before .before .before .loop .inv .1 ∙
 returns-2 : tie.Need-returns-2 Inv-loop μ-loop
 returns-2 c =
     let q : c .before .loop .i ≡ 8 = omega arith in
-    sym (c .before .loop .inv .1 ∙ (from-end _ _ _ (omega arith) ∙ q))
+    in-lists _ (c .before .before .args .t1) _ (sym (c .before .loop .inv .1 ∙ (from-end _ _ _ (omega arith) ∙ q)))
 
 pub place-of-spec : {M : Type 1} → statement M
 place-of-spec =

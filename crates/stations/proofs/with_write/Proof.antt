@@ -1,87 +1,56 @@
--- `stations::with_write` meets its contract. Assumes nothing.
-use mathlib.Core.Path.{_≡_}
-use mathlib.Core.Logic.{⊎-elim}
-use lib.ListN.{length, length-map}
+-- `stations::with_write` meets its contract.
+use Prim.Native.Nat.{_<_}
+use mathlib.Core.Path.{_≡_, sym, _∙_}
+use lib.Dec.{leb}
+use lib.ListN.{length}
 use native.Mathlib.Omega.{arith}
 use borrow.Author.Needs.{needs}
-use Rattle.model.specs.Kinds.{narrowKind}
-use Rattle.model.specs.Lists.{first}
-use Rattle.model.specs.Lives.{writeKey, writesOf}
-use Rattle.model.proofs.SoundLaws.{write-limit}
-use Rattle.stations.specs.Found.{atLeast}
-use Rattle.stations.proofs.Search.{key-place}
-use Rattle.stations.proofs.Sets.{write-replaced, write-added, write-place-within}
+use Rattle.model.specs.KeySets.{keySet}
+use Rattle.stations.proofs.Search.{first-at-most}
+use Rattle.stations.proofs.Sets.{has-written, written-below, write-replaced, write-added}
 use Rattle.stations.proofs.with_write.Statement.{statement}
 use Rattle.stations.proofs.with_write.Tie as tie
 
-abbrev start : tie.After-place-for → tie.Start
-start c = c .before .before .before .before .before
+keys-below-requires : tie.Need-keys-below-requires
+keys-below-requires c κs = search needs
 
-long : (s : tie.Start) → length (s .args .l .writes) ≡ 8
-long s = simp length-map at (s .good .0 .1 .1 .1 .1 .1 .0 .1 .0 .1)
+has-key-requires : tie.Need-has-key-requires
+has-key-requires c κs = search needs
 
--- the place that was found
-place : (c : tie.After-place-for) → c .place-for .result ≡ first (atLeast writeKey (start c .args .key)) (writesOf (start c .args .l))
-unfolding writesOf
-place c = key-place writeKey _ _ _ _ _ _ (c .before .before .write-keys .ensures) (c .before .before .before .before .wide .ensures) (c .place-for .ensures)
+-- the key is there: its position is in the write set
+below : (c : tie.Then1) → c .before .before .keys-below .result < length (keySet (c .before .before .before .args .l .keys))
+below c =
+    let a = c .before .before .before .args in
+    written-below (a .l) (a .key) _ (c .before .before .keys-below .ensures) (sym (has-written (a .l) (a .key)) ∙ (sym (c .before .has-key .ensures) ∙ c .if1 .taken))
 
-wide-requires : tie.Need-wide-requires
-wide-requires c κs = search needs
+long : (s : tie.Start) → length (s .args .l .values) ≡ 16
+long s = search needs
 
-write-keys-requires : tie.Need-write-keys-requires
-write-keys-requires c κs = search needs
+mul-m : tie.Need-mul-m
+mul-m c = omega (arith, below c, c .before .before .before .pre .1 .0)
 
-slice-aggregate-place-for : tie.Need-slice-aggregate-place-for
-slice-aggregate-place-for c = search needs
-
-place-for-requires : tie.Need-place-for-requires
-place-for-requires c κs = omega (arith, c .before .before .before .wide .ensures, write-limit narrowKind _ (c .before .before .before .before .pre .0))
-
-mul-was : tie.Need-mul-was
-mul-was c = search needs
-
-array-copy-out-was : tie.Need-array-copy-out-was
-array-copy-out-was c = omega (arith, c .if1 .taken, c .before .before .before .before .before .wide .ensures, write-limit narrowKind _ (start (c .before) .pre .0))
-
-mul-w : tie.Need-mul-w
-mul-w c = search needs
-
-element-set-from-w : tie.Need-element-set-from-w
-element-set-from-w c = let d = c .before .before .before in omega (arith, d .if1 .taken, d .before .before .before .before .before .wide .ensures, write-limit narrowKind _ (start (d .before) .pre .0))
+element-write-m : tie.Need-element-write-m
+element-write-m c = omega (arith, below c, c .before .before .before .pre .1 .0)
 
 returns : tie.Need-returns
 returns c =
-    let d = c .before .before .before in
-    let s = start (d .before) in
-    write-replaced (s .args .l) (s .pre .0) (s .pre .1 .0) _ (record { key = s .args .key; value = s .args .value }) (long s) (place (d .before)) (omega (arith, d .if1 .taken, d .before .before .before .before .before .wide .ensures)) (c .if2 .taken)
+    let s = c .before .before .before in
+    write-replaced (s .args .l) (long s) (s .pre .1 .0) (s .pre .1 .1 .0) _ _ _ (s .pre .0) (c .before .before .keys-below .ensures) (sym (c .before .has-key .ensures) ∙ c .if1 .taken)
 
-write-joined-requires : tie.Need-write-joined-requires
-write-joined-requires c κs = write-place-within _ _ _ (start (c .before) .pre .0) (place (c .before))
+value-joined-requires : tie.Need-value-joined-requires
+value-joined-requires c κs =
+    let b = c .before .before .before in
+    omega (arith, b .keys-below .ensures, first-at-most (leb (b .before .args .key)) (keySet (b .before .args .l .keys)), b .before .pre .1 .0)
 
-add-m : tie.Need-add-m
-add-m c = omega (arith, write-limit narrowKind _ (start (c .before .before .before) .pre .0))
+with-key-requires : tie.Need-with-key-requires
+with-key-requires c κs = search needs
 
 returns-2 : tie.Need-returns-2
 returns-2 c =
-    let d = c .before .before .before in
-    let s = start d in
-    rw (c .before .write-joined .ensures)
-    (write-added (s .args .l) (s .pre .0) (s .pre .1 .0) _ (record { key = s .args .key; value = s .args .value }) (long s) (place d)
-    (⊎-elim (λ w o. w .3 .left) (λ w o e. omega (arith, w .left, d .before .before .before .before .wide .ensures)) (c .before .before .if1 .came)) (s .pre .1 .1))
+    let e = c .before .before .before in
+    let s = e .before .before .before in
+    rw (c .before .value-joined .ensures)
+    (write-added (s .args .l) (long s) (s .pre .1 .0) (s .pre .1 .1 .0) _ _ _ (s .pre .0) (e .before .before .keys-below .ensures) (sym (e .before .has-key .ensures) ∙ e .if1 .left) (s .pre .1 .1 .1) _ (c .with-key .ensures))
 
 pub with-write-spec : {M : Type 1} → statement M
-with-write-spec =
-    tie.close
-    (tie.spec
-    wide-requires
-    write-keys-requires
-    slice-aggregate-place-for
-    place-for-requires
-    mul-was
-    array-copy-out-was
-    mul-w
-    element-set-from-w
-    returns
-    write-joined-requires
-    add-m
-    returns-2)
+with-write-spec = tie.close (tie.spec keys-below-requires has-key-requires mul-m element-write-m returns value-joined-requires with-key-requires returns-2)

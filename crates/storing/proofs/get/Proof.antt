@@ -8,23 +8,22 @@ use lib.ListN.{length, getD, length-map}
 use native.Mathlib.Omega.{arith}
 use borrow.Author.Needs.{needs}
 use borrow.Author.Tests.{not-true, not-false}
-use Rattle.model.specs.declared.Live.{Live}
 use Rattle.model.specs.declared.Entry as machine
 use Rattle.model.specs.declared.Answer.the-variants as A
-use Rattle.model.specs.Types.{Entry, Station}
-use Rattle.model.specs.Listed.{listedEntry, listed}
+use Rattle.model.specs.Types.{Entry, Live, Station}
+use Rattle.model.specs.Listed.{listedLive, listedEntry, listed}
 use Rattle.model.specs.Limits.{entryPlaces}
 use Rattle.model.specs.Kinds.{narrowKind, storeSize}
-use Rattle.model.specs.Lives.{liveBeyond, readsOf}
+use Rattle.model.specs.Lives.{readsOf}
 use Rattle.model.specs.Entries.{keysOf, wrote, recordOf}
 use Rattle.model.specs.Stations.{liveAt, entryAt, setLive}
 use Rattle.model.specs.Records.{valueIn, carriesVersion, recordAt}
 use Rattle.model.specs.Reading.{Choice, version, choose}
 use Rattle.model.specs.Effects.{says}
 use Rattle.model.specs.Get.{get, choiceOf, withRead, versionAt, noRoom}
-use Rattle.model.proofs.ListedLaws.{zeroEntry, listed-any, listed-length}
+use Rattle.model.proofs.ListedLaws.{zeroLive, lives-found, zeroEntry, listed-any, listed-length}
 use Rattle.model.proofs.GetLaws.{version-entry}
-use Rattle.model.proofs.SoundLaws.{Used, write-limit, read-limit}
+use Rattle.model.proofs.SoundLaws.{Used, write-limit, read-limit, reads-ascending}
 use Rattle.reading.specs.Choosing.{chosenAs, IsReader}
 use Rattle.stations.proofs.Callers.{entry-count}
 use Rattle.storing.proofs.GetRows.{chosen-version, chosen-nofit, chosen-none, choice-own, choice-read, get-rest, get-1, get-refused, get-open, get-own, get-none, get-nofit, get-12, get-17, get-version}
@@ -62,11 +61,13 @@ found c =
 
 -- the transaction, as read from its place
 abbrev l : tie.After-l → Live
-l c = getD (start (c .before) .args .t1 .live) (i (c .before)) liveBeyond
+l c = listedLive (getD (start (c .before) .args .t1 .live) (i (c .before)) zeroLive)
 
 here : (c : tie.After-l) → l c ≡ liveAt (st (c .before)) (i (c .before))
 unfolding liveAt
-here c = refl
+here c =
+    let z : length (start (c .before) .args .t1 .live) ≡ 8 = simp length-map at (start (c .before) .good .0 .1 .1 .0 .1 .0 .1) in
+    sym (lives-found (start (c .before) .args .t1 .live) (i (c .before)) (omega (arith, z, found (c .before) .low)))
 
 comes : (c : tie.After-l) → get (st (c .before)) (s (c .before)) (t (c .before)) (k (c .before)) ≡ get-rest (st (c .before)) (s (c .before)) (t (c .before)) (k (c .before)) (i (c .before)) (l c)
 comes c =
@@ -172,10 +173,10 @@ element-copy-out-l : tie.Need-element-copy-out-l
 element-copy-out-l c = found c .low
 
 has-written-requires : tie.Need-has-written-requires
-has-written-requires c κs = writes c
+has-written-requires c κs = tt
 
 value-under-requires : tie.Need-value-under-requires
-value-under-requires c κs = (writes (c .before .before), sym (c .before .has-written .ensures) ∙ c .if3 .taken)
+value-under-requires c κs = (omega (arith, writes (c .before .before)), sym (c .before .has-written .ensures) ∙ c .if3 .taken)
 
 unchanged-requires : tie.Need-unchanged-requires
 unchanged-requires c κs = tt
@@ -268,7 +269,7 @@ unfolding noRoom
 with-read-requires c κs =
     let g = c .before .before .before .before .before in
     let u = used (hᵥ (v₄ g)) in
-    (u .sets, (u .zeros, room g))
+    ((read-limit narrowKind _ (u .sets), reads-ascending narrowKind _ (u .sets)), (u .zeros, room g))
 
 live-changed-requires : tie.Need-live-changed-requires
 live-changed-requires c κs = found (hᵥ (v₄ (c .before .before .before .before .before .before)) .before) .low
@@ -282,9 +283,9 @@ returns-8 c =
     let h = hᵥ f in
     let e = h .before in
     as-effect _ _ _ _
-    (get-version _ _ _ _ _ _ (comes h) (d f) (choice f) (room g) (here h) (r .read-version .result .value) (w .with-read .result) (carried r ∙ not-false _ (w .before .if5 .left)) (value-read r)
+    (get-version _ _ _ _ _ _ (comes h) (d f) (choice f) (room g) (here h) (r .read-version .result .value) (listedLive (w .with-read .result)) (carried r ∙ not-false _ (w .before .if5 .left)) (value-read r)
     (w .with-read .ensures ∙ sym (ap (λ (x : Entry). withRead (k e) (x .id) (l h)) (entry-is f)))
-    ∙ ap (λ (x : Entry). says (A.Version (r .read-version .result .value) (x .id)) (setLive (st e) (i e) (w .with-read .result))) (entry-is f))
+    ∙ ap (λ (x : Entry). says (A.Version (r .read-version .result .value) (x .id)) (setLive (st e) (i e) (listedLive (w .with-read .result)))) (entry-is f))
     (c .live-changed .ensures)
 
 pub get-spec : {M : Type 1} → statement M

@@ -3,6 +3,7 @@ use mathlib.Core.Path.{refl, sym, _∙_}
 use mathlib.Core.Bool.{not}
 use borrow.Author.Needs.{needs}
 use Rattle.model.specs.Lists.{_and_}
+use Rattle.model.specs.Listed.{listedLive}
 use Rattle.model.specs.Lives.{hasRead}
 use Rattle.model.proofs.Tests.{not-of-true, and-none-left}
 use Rattle.storing.proofs.no_read_room.Statement.{statement}
@@ -14,7 +15,7 @@ has-read-requires c κs = search needs
 returns : tie.Need-returns
 returns c =
     let a = c .before .before .args in
-    sym (and-none-left (not (hasRead (a .key) (a .l))) _ (not-of-true _ (sym (c .before .has-read .ensures) ∙ c .if1 .taken)))
+    sym (and-none-left (not (hasRead (a .key) (listedLive (a .l)))) _ (not-of-true _ (sym (c .before .has-read .ensures) ∙ c .if1 .taken)))
 
 returns-2 : tie.Need-returns-2
 unfolding _and_

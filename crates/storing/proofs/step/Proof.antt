@@ -1,23 +1,25 @@
 -- `storing::step` meets its contract.
 use Prim.Native.Nat.{ℕ, _≤_}
-use mathlib.Core.Path.{_≡_, ap}
+use mathlib.Core.Path.{_≡_, sym, ap, _∙_}
 use mathlib.Core.List.{List}
-use lib.ListN.{length, length-map}
+use lib.ListN.{length, getD, length-map}
 use native.Mathlib.Omega.{arith}
 use borrow.Author.Needs.{needs}
 use Rattle.model.specs.Kinds.{narrowKind, storeSize}
-use Rattle.model.specs.Types.{Entry, Station}
+use Rattle.model.specs.Types.{Entry, Live, Station}
 use Rattle.model.specs.KeySets.{keySet}
-use Rattle.model.specs.Listed.{listedEntry, listed}
-use Rattle.model.specs.Lives.{writesOf, writeCount, writeKey}
+use Rattle.model.specs.Listed.{listedLive, listedEntry, listed}
+use Rattle.model.specs.Lives.{writesOf, writeCount, writeKey, isClosing, withPhase}
 use Rattle.model.specs.Entries.{keysOf, entryFor}
 use Rattle.model.specs.declared.Phase.the-variants.{Closing}
 use Rattle.model.specs.Step.{step}
 use Rattle.model.specs.Stations.{liveAt}
+use Rattle.model.proofs.ListedLaws.{zeroLive, lives-found}
 use Rattle.model.proofs.SoundFacts.{IsClosing, closing-facts}
 use Rattle.model.proofs.SoundLaws.{write-limit, writes-length}
 use Rattle.stations.proofs.Changes.{as-outcome}
 use Rattle.stations.proofs.RowLaws.{Placed, named-found}
+use Rattle.storing.specs.Parts.{recordAnswer, recordStored}
 use Rattle.storing.proofs.Parts.{handed}
 use Rattle.storing.proofs.StepRows.{not-closing, step-rest, step-1, step-refused, step-open, step-10, step-record, step-done, is-done}
 use Rattle.storing.proofs.step.Statement.{statement}
@@ -65,9 +67,18 @@ clock c = c .phase .given .0 .1 .0
 abbrev n : tie.After-phase → ℕ
 n c = c .phase .given .0 .1 .1 .0
 
-closing : (c : tie.After-phase) → liveAt (st (e₂ c)) (i (e₂ c)) .phase ≡ Closing (d c) (clock c) (n c)
+-- the transaction, as read from its place
+abbrev l : tie.Else2 → Live
+l c = listedLive (getD (start c .args .t1 .live) (i c) zeroLive)
+
+here : (c : tie.Else2) → liveAt (st c) (i c) ≡ l c
 unfolding liveAt
-closing c = c .phase .given .1
+here c =
+    let z : length (start c .args .t1 .live) ≡ 8 = simp length-map at (start c .good .0 .1 .1 .0 .1 .0 .1) in
+    lives-found (start c .args .t1 .live) (i c) (omega (arith, z, found c .low))
+
+closing : (c : tie.After-phase) → liveAt (st (e₂ c)) (i (e₂ c)) .phase ≡ Closing (d c) (clock c) (n c)
+closing c = ap (λ (x : Live). x .phase) (here (e₂ c)) ∙ c .phase .given .1
 
 facts : (c : tie.After-phase) → IsClosing (st (e₂ c)) (liveAt (st (e₂ c)) (i (e₂ c))) (d c) (clock c) (n c)
 facts c = closing-facts (st (e₂ c)) (found (e₂ c) .right) (i (e₂ c)) (d c) (clock c) (n c) (closing c)
@@ -78,18 +89,17 @@ p c = c .before .before .before
 
 -- how many keys it writes, as counted
 counted : (c : tie.After-write-count) → c .write-count .result ≡ writeCount (liveAt (st (e₂ (p c))) (i (e₂ (p c))))
-unfolding liveAt
-counted c = c .write-count .ensures .1
+counted c = c .write-count .ensures ∙ sym (ap writeCount (here (e₂ (p c))))
 
 limit : (c : tie.After-phase) → writeCount (liveAt (st (e₂ c)) (i (e₂ c))) ≤ 8
 limit c = let l = liveAt (st (e₂ c)) (i (e₂ c)) in omega (arith, write-limit narrowKind l (facts c .used .sets), writes-length l)
 
 -- its entry has as many
 few : (c : tie.After-write-count) → length (keySet (c .before .entry-for .result .keys)) ≤ 8
-unfolding liveAt entryFor
+unfolding entryFor
 few c =
-    let l = liveAt (st (e₂ (p c))) (i (e₂ (p c))) in
-    omega (arith, ap (λ (e : Entry). length (keysOf e)) (c .before .entry-for .ensures), length-map (writesOf l) writeKey, limit (p c))
+    let x = l (e₂ (p c)) in
+    omega (arith, ap (λ (e : Entry). length (keysOf e)) (c .before .entry-for .ensures), length-map (writesOf x) writeKey, ap writeCount (here (e₂ (p c))), limit (p c))
 
 refused-requires : tie.Need-refused-requires
 refused-requires c κs = tt
@@ -122,17 +132,15 @@ refused-requires-3 : tie.Need-refused-requires-3
 refused-requires-3 c κs = tt
 
 returns-3 : tie.Need-returns-3
-unfolding liveAt
 returns-3 c =
     let e = c .before .before .before in
-    handed _ _ _ _ _ (s e) (step-10 (st e) (s e) (t e) (i e) (comes e) (not-closing _ (c .before .match .keys2))) (c .refused3 .ensures)
+    handed _ _ _ _ _ (s e) (step-10 (st e) (s e) (t e) (i e) (comes e) (ap (λ (x : Live). isClosing (x .phase)) (here e) ∙ not-closing _ (c .before .match .keys2))) (c .refused3 .ensures)
 
 cast-d : tie.Need-cast-d
 cast-d c = search needs
 
 entry-for-requires : tie.Need-entry-for-requires
-unfolding liveAt
-entry-for-requires c κs = facts (c .before) .used .sets
+entry-for-requires c κs = tt
 
 write-count-requires : tie.Need-write-count-requires
 write-count-requires c κs = tt
@@ -141,29 +149,26 @@ no-live-requires : tie.Need-no-live-requires
 no-live-requires c κs = tt
 
 returns-4 : tie.Need-returns-4
-unfolding liveAt
 returns-4 c =
     let k = c .before .before .before in
     let f = p k in
     let e = e₂ f in
     let m = k .before .entry-for in
     handed _ _ _ _ _ (s e)
-    (step-done (st e) (s e) (t e) (i e) (comes e) (d f) (clock f) (n f) (closing f) (c .no-live .result) (listedEntry (m .result)) (omega (arith, c .before .before .if3 .taken, counted k)) (m .ensures) (c .no-live .ensures))
+    (step-done (st e) (s e) (t e) (i e) (comes e) (d f) (clock f) (n f) (closing f) (listedLive (c .no-live .result)) (listedEntry (m .result)) (omega (arith, c .before .before .if3 .taken, counted k)) (m .ensures ∙ sym (ap entryFor (here e))) (c .no-live .ensures))
     (is-done (start e .args .t1) _ _ _ _ (m .result) (found e .low) (facts f .low))
 
 add-t28 : tie.Need-add-t28
-unfolding liveAt
 add-t28 c = omega (arith, c .if3 .left, counted (c .before), limit (p (c .before)))
 
 with-phase-requires : tie.Need-with-phase-requires
 with-phase-requires c κs = tt
 
 store-record-requires : tie.Need-store-record-requires
-unfolding liveAt
 store-record-requires c κs =
     let k = c .before .before .before in
     let f = p k in
-    (size (e₂ f), (facts f .low, (omega (arith, c .before .before .if3 .left, counted k), few k)))
+    (size (e₂ f), (facts f .low, (omega (arith, c .before .before .if3 .left, counted k, ap writeCount (here (e₂ f))), omega (arith, limit f, ap writeCount (here (e₂ f))), few k)))
 
 live-changed-requires : tie.Need-live-changed-requires
 live-changed-requires c κs = found (e₂ (p (c .before .before .before .before .before .before))) .low
@@ -172,7 +177,6 @@ same-length : tie.Need-same-length
 same-length c = search needs
 
 returns-5 : tie.Need-returns-5
-unfolding liveAt
 returns-5 c =
     let o = c .before .before .before .before .before in
     let h = o .before in
@@ -181,7 +185,8 @@ returns-5 c =
     let e = e₂ f in
     let m = k .before .entry-for in
     let w = c .before .before .before .store-record in
-    let q = step-record (st e) (s e) (t e) (i e) (comes e) (d f) (clock f) (n f) (closing f) (w .result) (o .with-phase .result) (listedEntry (m .result)) (w .last .0) (omega (arith, h .if3 .left, counted k)) (m .ensures) (o .with-phase .ensures) (w .ensures .0) (w .ensures .1) in
+    let q = step-record (st e) (s e) (t e) (i e) (comes e) (d f) (clock f) (n f) (closing f) (w .result) (listedLive (o .with-phase .result)) (listedEntry (m .result)) (w .last .0) (omega (arith, h .if3 .left, counted k)) (m .ensures ∙ sym (ap entryFor (here e))) (o .with-phase .ensures ∙ sym (ap (withPhase _) (here e)))
+    (w .ensures .0 ∙ sym (ap (λ (x : Live). recordAnswer x (d f) (n f)) (here e))) (w .ensures .1 ∙ sym (ap (λ (x : Live). recordStored narrowKind x (listedEntry (m .result)) (d f) (n f) (s e)) (here e))) in
     (as-outcome _ _ _ _ (q .0) (c .live-changed .ensures), q .1)
 
 pub step-spec : {M : Type 1} → statement M

@@ -1,9 +1,14 @@
 -- `storing::store_record` meets its contract.
-use mathlib.Core.Path.{_∙_}
+use Prim.Native.Nat.{_<_}
+use mathlib.Core.Path.{sym, _∙_}
+use lib.ListN.{length}
 use native.Mathlib.Omega.{arith}
 use borrow.Author.Needs.{needs}
 use Rattle.model.specs.Kinds.{narrowKind}
-use Rattle.model.specs.Listed.{listedEntry}
+use Rattle.model.specs.KeySets.{keySet}
+use Rattle.model.specs.Listed.{listedLive, listedEntry}
+use Rattle.model.proofs.ListedLaws.{written-count}
+use Rattle.model.proofs.ValuedLaws.{valued-key, valued-value}
 use Rattle.storing.proofs.StepRows.{commit-stored, version-stored}
 use Rattle.storing.proofs.store_record.Statement.{statement}
 use Rattle.storing.proofs.store_record.Tie as tie
@@ -22,13 +27,23 @@ returns c =
     let k = c .before .before .before .before .before in
     let a = k .before .before .args in
     let w = c .before .before .store-commit in
-    commit-stored narrowKind (a .t2) (listedEntry (a .e)) (a .slot) (a .n) (a .store .now) (w .last .0) (c .before .before .before .before .if1 .taken ∙ k .write-count .ensures .1) (w .ensures)
+    commit-stored narrowKind (listedLive (a .t2)) (listedEntry (a .e)) (a .slot) (a .n) (a .store .now) (w .last .0) (c .before .before .before .before .if1 .taken ∙ k .write-count .ensures) (w .ensures)
 
-mul-w : tie.Need-mul-w
-mul-w c = search needs
+-- a key is left to store
+left : (c : tie.Else1) → c .before .before .before .args .n < length (keySet (c .before .before .before .args .t2 .keys))
+left c =
+    let k = c .before in
+    let s = k .before .before in
+    omega (arith, c .if1 .left, k .write-count .ensures, written-count (s .args .t2), s .pre .1 .1 .0)
 
-element-copy-out-w : tie.Need-element-copy-out-w
-element-copy-out-w c = search needs
+nth-key-requires : tie.Need-nth-key-requires
+nth-key-requires c κs = left (c .before)
+
+mul-value : tie.Need-mul-value
+mul-value c = search needs
+
+element-copy-out-value : tie.Need-element-copy-out-value
+element-copy-out-value c = search needs
 
 add-store-version : tie.Need-add-store-version
 add-store-version c = search needs
@@ -41,9 +56,13 @@ same-length-2 c = search needs
 
 returns-2 : tie.Need-returns-2
 returns-2 c =
-    let a = c .before .before .before .before .before .before .before .before .before .args in
     let w = c .before .before .store-version in
-    version-stored narrowKind (a .t2) (listedEntry (a .e)) (a .slot) (a .n) (a .store .now) (w .last .0) (omega arith) (w .ensures)
+    let k = c .before .before .before .before .before in
+    let e = k .before .before in
+    let a = e .before .before .before .args in
+    let ks = keySet (a .t2 .keys) in
+    version-stored narrowKind (listedLive (a .t2)) (listedEntry (a .e)) (a .slot) (a .n) (a .store .now) (w .last .0) (omega (arith, left e, written-count (a .t2)))
+    _ _ (k .nth-key .ensures ∙ sym (valued-key ks (a .t2 .values) (a .n))) (sym (valued-value ks (a .t2 .values) (a .n))) (w .ensures)
 
 pub store-record-spec : {M : Type 1} → statement M
 store-record-spec =
@@ -53,8 +72,9 @@ store-record-spec =
     store-commit-requires
     same-length
     returns
-    mul-w
-    element-copy-out-w
+    nth-key-requires
+    mul-value
+    element-copy-out-value
     add-store-version
     store-version-requires
     same-length-2

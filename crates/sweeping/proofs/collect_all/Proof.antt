@@ -12,7 +12,6 @@ use borrow.Author.Tests.{not-true, not-false, ltb-true, ltb-false, lt-ltb}
 use Rattle.model.specs.declared as machine
 use Rattle.model.specs.Types.{Entry, Station}
 use Rattle.model.specs.Lists.{_and_}
-use Rattle.model.specs.Limits.{writePlaces}
 use Rattle.model.specs.Kinds.{narrowKind, slotSize}
 use Rattle.model.specs.KeySets.{keySet}
 use Rattle.model.specs.Listed.{listedEntry, listed}
@@ -76,8 +75,8 @@ is-entry : (c : tie.After-wide Inv-loop μ-loop) → entryAt (listed (turn c .lo
 unfolding entryAt
 is-entry c = listed-any (turn c .loop .next .entries) (c .wide .result)
 
-few : (c : tie.After-wide Inv-loop μ-loop) → length (keySet (element c .keys)) ≤ writePlaces
-few c = subst (λ (e : Entry). length (keysOf e) ≤ writePlaces) (is-entry c) (entry-count (listed (turn c .loop .next)) (turn c .loop .inv .right) (c .wide .result))
+few : (c : tie.After-wide Inv-loop μ-loop) → length (keySet (element c .keys)) ≤ narrowKind .writeLimit
+few c = subst (λ (e : Entry). length (keysOf e) ≤ narrowKind .writeLimit) (is-entry c) (entry-count (listed (turn c .loop .next)) (turn c .loop .inv .right) (c .wide .result))
 
 mul-e : tie.Need-mul-e Inv-loop μ-loop
 mul-e c = omega (arith, low c)

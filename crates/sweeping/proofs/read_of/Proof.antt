@@ -1,21 +1,23 @@
 -- `sweeping::read_of` meets its contract.
 use Prim.Native.Nat.{ℕ, _≤_, _-_}
-use mathlib.Core.Path.{_≡_, refl, ap, _∙_}
+use mathlib.Core.Path.{_≡_, ap, _∙_}
 use mathlib.Core.Bool.{Bool, false}
-use lib.ListN.{length, getD, replicate}
+use lib.ListN.{length, getD, replicate, length-map}
 use native.Mathlib.Omega.{arith}
 use borrow.Author.Needs.{needs}
-use Rattle.model.specs.declared.Live.{Live}
+use Rattle.model.specs.Types.{Live}
+use Rattle.model.specs.Listed.{listedLive, listedLives}
 use Rattle.model.specs.Lists.{_or_}
-use Rattle.model.specs.Lives.{readsOf, liveBeyond}
+use Rattle.model.specs.Lives.{readsOf}
 use Rattle.model.proofs.ListLaws.{getD-all}
+use Rattle.model.proofs.ListedLaws.{zeroLive, lives-any}
 use Rattle.reading.specs.Columns.{idAt, hasId}
 use Rattle.sweeping.proofs.MarkLoop.{AlsoAny, also-none, also-more, also-all}
 use Rattle.sweeping.proofs.read_of.Statement.{statement}
 use Rattle.sweeping.proofs.read_of.Tie as tie
 
 abbrev Inv-loop : tie.InvT-loop
-Inv-loop clocks txns live out₀ i₀ out i = (i ≤ 8) × AlsoAny (λ (l : Live) (d : ℕ). hasId (readsOf l) (idAt clocks txns d)) live 64 (replicate 64 false) i out
+Inv-loop clocks txns live out₀ i₀ out i = (i ≤ 8) × AlsoAny (λ (l : Live) (d : ℕ). hasId (readsOf l) (idAt clocks txns d)) (listedLives live) 64 (replicate 64 false) i out
 
 abbrev μ-loop : tie.MeasureT-loop
 μ-loop clocks txns live out₀ i₀ out i = 8 - i
@@ -42,7 +44,7 @@ loop-again : tie.Need-loop-again Inv-loop μ-loop
 loop-again c =
     let t = c .before .before .before in
     let h : length (t .before .args .t1) ≡ 8 = t .before .good .0 .1 .0 .1 in
-    (omega arith, also-more _ _ _ _ _ _ (t .loop .inv .1) liveBeyond _ refl (omega (arith, h)) _ (c .with-reads .ensures))
+    (omega arith, also-more _ _ _ _ _ _ (t .loop .inv .1) (listedLive zeroLive) _ (lives-any (t .before .args .t1) (t .loop .i)) (omega (arith, h, length-map (t .before .args .t1) listedLive)) _ (c .with-reads .ensures))
 
 -- none was marked at first
 none : (d : ℕ) (b : Bool) → (getD (replicate 64 false) d false or b) ≡ b
@@ -53,7 +55,7 @@ returns : tie.Need-returns Inv-loop μ-loop
 returns c =
     let t = c .before in
     let h : length (t .before .args .t1) ≡ 8 = t .before .good .0 .1 .0 .1 in
-    λ d o. also-all _ _ _ _ _ _ (t .loop .inv .1) (omega (arith, h)) d o ∙ none d _
+    λ d o. also-all _ _ _ _ _ _ (t .loop .inv .1) (omega (arith, h, length-map (t .before .args .t1) listedLive)) d o ∙ none d _
 
 pub read-of-spec : {M : Type 1} → statement M
 read-of-spec =

@@ -4,6 +4,7 @@ use native.Mathlib.Omega.{arith}
 use borrow.Author.Needs.{needs}
 use Rattle.model.specs.declared.Read.{Read}
 use Rattle.model.specs.Ids.{sameId}
+use Rattle.model.specs.Listed.{listedLive}
 use Rattle.model.specs.Lives.{noRead, readsOf}
 use Rattle.model.proofs.InsideLaws.{read-nth}
 use Rattle.reading.specs.Columns.{idAt, hasId}
@@ -12,7 +13,7 @@ use Rattle.sweeping.proofs.with_reads.Statement.{statement}
 use Rattle.sweeping.proofs.with_reads.Tie as tie
 
 abbrev Inv-loop : tie.InvT-loop
-Inv-loop clocks txns l n out₀ i₀ out i = (i ≤ n) × AlsoAny (λ (r : Read) (d : ℕ). sameId (idAt clocks txns d) (r .id)) (readsOf l) 64 out₀ i out
+Inv-loop clocks txns l n out₀ i₀ out i = (i ≤ n) × AlsoAny (λ (r : Read) (d : ℕ). sameId (idAt clocks txns d) (r .id)) (readsOf (listedLive l)) 64 out₀ i out
 
 abbrev μ-loop : tie.MeasureT-loop
 μ-loop clocks txns l n out₀ i₀ out i = n - i
@@ -41,7 +42,7 @@ loop-less c = search needs
 loop-again : tie.Need-loop-again Inv-loop μ-loop
 loop-again c =
     let t = c .before .before .before .before in
-    let l = t .before .before .args .t4 in
+    let l = listedLive (t .before .before .args .t4) in
     (omega arith, also-more _ _ _ _ _ _ (t .loop .inv .1) noRead _ (read-nth l (t .loop .i) noRead (omega arith)) (omega arith) _ (c .with-id .ensures))
 
 returns : tie.Need-returns Inv-loop μ-loop

@@ -14,14 +14,14 @@ no-live-requires c κs = search needs
 
 returns : tie.Need-returns
 unfolding afterCommit
-returns c = rw (eq-eqb _ 0 (sym (c .before .before .write-count .ensures .1) ∙ c .before .if1 .taken)) (c .no-live .ensures)
+returns c = rw (eq-eqb _ 0 (sym (c .before .before .write-count .ensures) ∙ c .before .if1 .taken)) (c .no-live .ensures)
 
 with-phase-requires : tie.Need-with-phase-requires
 with-phase-requires c κs = search needs
 
 returns-2 : tie.Need-returns-2
 unfolding afterCommit
-returns-2 c = rw (ne-eqb _ 0 (λ z. c .before .if1 .left (c .before .before .write-count .ensures .1 ∙ z))) (c .with-phase .ensures)
+returns-2 c = rw (ne-eqb _ 0 (λ z. c .before .if1 .left (c .before .before .write-count .ensures ∙ z))) (c .with-phase .ensures)
 
 pub after-commit-spec : {M : Type 1} → statement M
 after-commit-spec = tie.close (tie.spec write-count-requires no-live-requires returns with-phase-requires returns-2)

@@ -6,7 +6,7 @@ use borrow.Author.Needs.{needs}
 use native.Mathlib.Omega.{arith}
 use Rattle.model.specs.declared.Answer.the-variants as A
 use Rattle.model.specs.Types.{Entry}
-use Rattle.model.specs.Listed.{listed}
+use Rattle.model.specs.Listed.{listedLive, listed}
 use Rattle.model.specs.Entries.{noEntry}
 use Rattle.model.specs.Effects.{says}
 use Rattle.model.proofs.ListedLaws.{listed-any, listed-length}
@@ -18,8 +18,8 @@ use Rattle.transactions.proofs.CommitRows.{Known, IsOpen, commit-unknow
 use Rattle.transactions.proofs.commit.Statement.{statement}
 use Rattle.transactions.proofs.commit.Tie as tie
 
-live8 : (c : tie.Start) → length (c .args .t1 .live) ≡ 8
-live8 c = simp length-map at (c .good .0 .1 .1 .0 .1 .0 .1)
+live8 : (c : tie.Start) → length (listed (c .args .t1) .live) ≡ 8
+live8 c = length-map (c .args .t1 .live) listedLive ∙ (simp length-map at (c .good .0 .1 .1 .0 .1 .0 .1))
 
 entries64 : (c : tie.Start) → length (listed (c .args .t1) .entries) ≡ 64
 entries64 c = listed-length (c .args .t1 .entries) ∙ (simp length-map at (c .good .0 .1 .1 .1 .0 .1 .0 .1))
@@ -33,7 +33,7 @@ known-at : (c : tie.Else1) → Known (listed (c .before .before .before .before 
 known-at c = known _ _ _ _ (sought (c .before)) _ _ (c .before .before .before .before .before .before .pre) _ (c .before .unknown-row .ensures) (c .if1 .left)
 
 -- after row 9
-is-open-at : (c : tie.Else3) → IsOpen (listed (c .before .before .before .before .before .before .before .before .before .before .args .t1)) (c .before .before .before .before .before .before .before .before .before .before .args .txn) (c .before .before .before .before .before .before .before .before .before .before .args .clock) (c .before .before .before .before .before .before .place-of .result) (c .before .before .live-at .result)
+is-open-at : (c : tie.Else3) → IsOpen (listed (c .before .before .before .before .before .before .before .before .before .before .args .t1)) (c .before .before .before .before .before .before .before .before .before .before .args .txn) (c .before .before .before .before .before .before .before .before .before .before .args .clock) (c .before .before .before .before .before .before .place-of .result) (listedLive (c .before .before .live-at .result))
 is-open-at c = is-open (known-at (c .before .before .before .before)) (c .before .before .before .if2 .left) _ (c .before .before .live-at .ensures) (sym (c .before .is-closing .ensures) ∙ c .if3 .left)
 
 slot-of-requires : tie.Need-slot-of-requires
@@ -92,11 +92,11 @@ slot-for-requires : tie.Need-slot-for-requires
 slot-for-requires c κs = search needs
 
 -- the slot and the clock for what the transaction writes
-slot-at : (c : tie.After-slot-for) → c .slot-for .result ≡ slotFor (writeCount (c .before .before .before .before .live-at .result)) (listed (c .before .before .before .before .before .before .before .before .before .before .before .before .args .t1))
-slot-at c = c .slot-for .ensures ∙ ap (λ (n : ℕ). slotFor n (listed (c .before .before .before .before .before .before .before .before .before .before .before .before .args .t1))) (c .before .write-count .ensures .1)
+slot-at : (c : tie.After-slot-for) → c .slot-for .result ≡ slotFor (writeCount (listedLive (c .before .before .before .before .live-at .result))) (listed (c .before .before .before .before .before .before .before .before .before .before .before .before .args .t1))
+slot-at c = c .slot-for .ensures ∙ ap (λ (n : ℕ). slotFor n (listed (c .before .before .before .before .before .before .before .before .before .before .before .before .args .t1))) (c .before .write-count .ensures)
 
-clock-at : (c : tie.After-clock-for) → c .clock-for .result ≡ clockFor (writeCount (c .before .before .before .before .before .before .live-at .result)) (c .before .before .before .before .before .before .before .before .before .before .before .before .before .before .args .clock) (listed (c .before .before .before .before .before .before .before .before .before .before .before .before .before .before .args .t1))
-clock-at c = c .clock-for .ensures ∙ ap (λ (n : ℕ). clockFor n (c .before .before .before .before .before .before .before .before .before .before .before .before .before .before .args .clock) (listed (c .before .before .before .before .before .before .before .before .before .before .before .before .before .before .args .t1))) (c .before .before .before .write-count .ensures .1)
+clock-at : (c : tie.After-clock-for) → c .clock-for .result ≡ clockFor (writeCount (listedLive (c .before .before .before .before .before .before .live-at .result))) (c .before .before .before .before .before .before .before .before .before .before .before .before .before .before .args .clock) (listed (c .before .before .before .before .before .before .before .before .before .before .before .before .before .before .args .t1))
+clock-at c = c .clock-for .ensures ∙ ap (λ (n : ℕ). clockFor n (c .before .before .before .before .before .before .before .before .before .before .before .before .before .before .args .clock) (listed (c .before .before .before .before .before .before .before .before .before .before .before .before .before .before .args .t1))) (c .before .before .before .write-count .ensures)
 
 refused-requires-3 : tie.Need-refused-requires-3
 refused-requires-3 c κs = search needs
@@ -133,7 +133,7 @@ live-changed-requires c κs =
 returns-6 : tie.Need-returns-6
 returns-6 c =
     as-effect _ _ _ _
-    (placed _ _ _ _ _ _ _ (c .before .commit-answer .ensures ∙ ap (λ (n : ℕ). commitAnswer n (c .before .before .before .before .before .before .slot-for .result)) (c .before .before .before .before .before .before .before .write-count .ensures .1)) (c .before .before .after-commit .ensures)
+    (placed _ _ _ _ _ _ _ (c .before .commit-answer .ensures ∙ ap (λ (n : ℕ). commitAnswer n (c .before .before .before .before .before .before .slot-for .result)) (c .before .before .before .before .before .before .before .write-count .ensures)) (c .before .before .after-commit .ensures)
     (commit-done (is-open-at (c .before .before .before .before .before .before .before .before)) (omega arith) _ (slot-at (c .before .before .before .before .before .before)) (c .before .before .before .before .before .if4 .left) _ (clock-at (c .before .before .before .before)) (c .before .before .before .if5 .left)))
     (c .live-changed .ensures)
 

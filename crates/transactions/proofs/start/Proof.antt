@@ -7,7 +7,7 @@ use native.Mathlib.Omega.{arith}
 use borrow.Author.Needs.{needs}
 use borrow.Author.Tests.{not-true, not-false}
 use Rattle.model.specs.declared.Answer.the-variants as A
-use Rattle.model.specs.Listed.{listed}
+use Rattle.model.specs.Listed.{listedLive, listed}
 use Rattle.model.specs.Sound.{sound}
 use Rattle.model.proofs.ListedLaws.{listed-length}
 use Rattle.stations.proofs.Callers.{place-eq, place-live, place-none, slot-held}
@@ -16,8 +16,8 @@ use Rattle.transactions.proofs.Rows.{Sought, placed, start-2, start-3, 
 use Rattle.transactions.proofs.start.Statement.{statement}
 use Rattle.transactions.proofs.start.Tie as tie
 
-live8 : (c : tie.Start) → length (c .args .station .live) ≡ 8
-live8 c = simp length-map at (c .good .0 .1 .1 .0 .1 .0 .1)
+live8 : (c : tie.Start) → length (listed (c .args .station) .live) ≡ 8
+live8 c = length-map (c .args .station .live) listedLive ∙ (simp length-map at (c .good .0 .1 .1 .0 .1 .0 .1))
 
 entries64 : (c : tie.Start) → length (listed (c .args .station) .entries) ≡ 64
 entries64 c = listed-length (c .args .station .entries) ∙ (simp length-map at (c .good .0 .1 .1 .1 .0 .1 .0 .1))
