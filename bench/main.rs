@@ -21,6 +21,9 @@ extern "C" {
     fn bench_sweep(stores: *mut u8, len: usize, entries: u8, lives: u8, reads: u8, base: u8, limit: u64) -> u64;
     fn bench_collects(stores: *mut u8, len: usize, entries: u8, lives: u8, reads: u8, base: u8, first: u8, limit: u8) -> u64;
     fn bench_scan(store: *const u8, len: usize, rounds: u64) -> u64;
+    fn bench_scan_wide(store: *const u8, len: usize, rounds: u64) -> u64;
+    fn bench_move_out(narrow: *const u8, narrow_len: usize, wide: *mut u8, wide_len: usize, rounds: u64) -> u64;
+    fn bench_move_back(wide: *const u8, wide_len: usize, narrow: *mut u8, narrow_len: usize, rounds: u64) -> u64;
     fn bench_print(out: *mut u8, len: usize, rounds: u64, value: u64, clock: u64, txn: u32) -> u64;
 }
 
@@ -62,7 +65,7 @@ fn store(z: Size) -> Vec<u8> {
     for d in 0..z.entries {
         let e = entry(d);
         let at = usize::from(d) * SLOT;
-        s[at..at + RECORD].copy_from_slice(&commit_record(&e));
+        s[at..at + RECORD].copy_from_slice(&commit_record(Kind::Narrow, &e));
         for (n, k) in e.keys().enumerate() {
             let at = at + RECORD * (n + 1);
             s[at..at + RECORD].copy_from_slice(&version_record(k, e.id, u64::from(k) + 7));
@@ -89,6 +92,7 @@ fn code(a: Answer) -> u64 {
         Answer::Found(n) => u64::from(n) + 21,
         Answer::Refused(n, _) => u64::from(n) + 100000,
         Answer::Swept(n) => u64::from(n) + 23,
+        Answer::Moved(n) => u64::from(n) + 29,
     }
 }
 
@@ -158,6 +162,59 @@ fn rust_scan(bytes: &[u8], n: u64) -> u64 {
     last
 }
 
+fn rust_move(from: Kind, to: Kind, source: &[u8], target: &mut [u8], n: u64) -> u64 {
+    let mut last = 0;
+    for _ in 0..n {
+        last = code(move_between(from, to, black_box(source), black_box(&mut *target)));
+    }
+    last
+}
+
+/// A wide store with all slots held, each of so many keys.
+fn wide_store(keys: u32) -> Vec<u8> {
+    let mut s = vec![0; Kind::Wide.store()];
+    for d in 0..Kind::Wide.slots() {
+        let e = Entry { id: Id { clock: 100 + d as u64, txn: 1 + d as u32 }, keys: (1 << keys) - 1 };
+        write(Kind::Wide, &mut s, d, 0, &commit_record(Kind::Wide, &e));
+        for (n, k) in e.keys().enumerate() {
+            write(Kind::Wide, &mut s, d, n + 1, &version_record(k, e.id, u64::from(k)));
+        }
+    }
+    s
+}
+
+/// Wide stores: a scan of one with all slots and keys in use, and the moves of 32 slots of 8 keys.
+fn wide() {
+    println!("\n| wide stores | proved, µs | Rust, µs | ratio |\n|---|---|---|---|");
+    let full = wide_store(16);
+    unsafe {
+        compare("scan, 32 slots of 16 keys", 2000, |n| bench_scan_wide(full.as_ptr(), full.len(), n), |n| {
+            let mut last = 0;
+            for _ in 0..n {
+                last = code(Station::scan_of(Kind::Wide, black_box(&full)).1);
+            }
+            last
+        });
+        let source = wide_store(8);
+        let (mut x, mut y) = (vec![7; STORE], vec![9; STORE]);
+        compare(
+            "move back, 32 slots of 8 keys",
+            1000,
+            |n| bench_move_back(source.as_ptr(), source.len(), x.as_mut_ptr(), x.len(), n),
+            |n| rust_move(Kind::Wide, Kind::Narrow, &source, &mut y, n),
+        );
+        assert_eq!(x, y, "the two stores moved to differ");
+        let (mut z, mut w) = (vec![7; source.len()], vec![9; source.len()]);
+        compare(
+            "move out, 32 slots of 8 keys",
+            1000,
+            |n| bench_move_out(x.as_ptr(), x.len(), z.as_mut_ptr(), z.len(), n),
+            |n| rust_move(Kind::Narrow, Kind::Wide, &x, &mut w, n),
+        );
+        assert!(z == source && w == source, "out again, the stores differ");
+    }
+}
+
 /// A sweep as one would write it by hand, with the tests of the model's: the entries sorted once, newest first, and what may go found in that order,
 /// with the keys of all newer ones; then cleared from the oldest on.
 fn sweep_once(s: &mut Station, bytes: &mut [u8], limit: u64) -> Answer {
@@ -183,7 +240,7 @@ fn sweep_once(s: &mut Station, bytes: &mut [u8], limit: u64) -> Answer {
     let mut count = 0;
     for d in slots.into_iter().rev().take(limit as usize) {
         let commit = &mut bytes[d * SLOT..d * SLOT + RECORD];
-        if *commit != commit_record(&s.entries[d]) {
+        if *commit != commit_record(Kind::Narrow, &s.entries[d]) {
             break;
         }
         commit.fill(0);
@@ -379,6 +436,7 @@ fn main() {
             compare(&format!("scan, {size}"), 2000, |n| bench_scan(bytes.as_ptr(), bytes.len(), n), |n| rust_scan(&bytes, n));
         }
     }
+    wide();
     clearing();
     printing();
     growth();

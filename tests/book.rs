@@ -19,6 +19,8 @@ struct Job {
 
 #[derive(Clone, Default)]
 pub struct Book {
+    /// Of the store.
+    kind: Kind,
     pages: BTreeMap<u32, Page>,
     standing: Vec<Job>,
     past: Vec<Job>,
@@ -37,15 +39,25 @@ pub struct Call {
 
 /// The committed transactions that a scanned station holds, with the values in the store.
 fn jobs(station: &Station, store: &[u8]) -> Vec<Job> {
-    let value = |d: usize, n: usize| u64::from_le_bytes(store[d * SLOT + (n + 1) * RECORD + 16..][..8].try_into().unwrap());
+    let value = |d: usize, n: usize| u64::from_le_bytes(record(station.kind, store, d, n + 1)[16..].try_into().unwrap());
     station.held().map(|(d, e)| Job { id: e.id, values: e.keys().enumerate().map(|(n, k)| (k, value(d, n))).collect() }).collect()
 }
 
 impl Book {
+    /// Of a zero store.
+    pub fn of(kind: Kind) -> Book {
+        Book { kind, ..Book::default() }
+    }
+
     /// A book that begins with what a store holds.
-    pub fn begun(store: &[u8]) -> Book {
-        let standing = jobs(&Station::scan(store).0, store);
-        Book { past: standing.clone(), standing, ..Book::default() }
+    pub fn begun(kind: Kind, store: &[u8]) -> Book {
+        let standing = jobs(&Station::scan_of(kind, store).0, store);
+        Book { past: standing.clone(), standing, ..Book::of(kind) }
+    }
+
+    /// A finished move "carries the source's cut rule history up to the move over": what stands and what is past goes on, every page is torn out.
+    pub fn moved(&self, to: Kind) -> Book {
+        Book { kind: to, pages: BTreeMap::new(), ..self.clone() }
     }
 
     pub fn feed(&mut self, call: Call, answer: Answer) {
@@ -91,7 +103,7 @@ impl Book {
 
     /// The cut rule, of a store and this book; what is wrong, where something is.
     pub fn check(&self, store: &[u8]) -> Result<(), String> {
-        let (station, answer) = Station::scan(store);
+        let (station, answer) = Station::scan_of(self.kind, store);
         if answer != Answer::Found(self.standing.len() as u8) {
             return Err(format!("the scan answers {answer:?}, {} jobs stand", self.standing.len()));
         }

@@ -5,7 +5,7 @@
 #[path = "model.rs"]
 mod model;
 
-use model::{Answer, Id, Live, Phase, Station, SLOT, STORE};
+use model::{move_between, Answer, Id, Kind, Live, Phase, Station, STORE};
 use std::collections::BTreeSet;
 
 /// A call as the run sheet writes it.
@@ -59,8 +59,20 @@ struct World {
 }
 
 impl World {
-    fn new() -> World {
-        World { station: Station::empty(), bytes: vec![0; STORE + 1] }
+    fn new(kind: Kind) -> World {
+        World { station: Station::empty_of(kind), bytes: vec![0; STORE + 1] }
+    }
+
+    /// Where it is not refused, the store is the target from then on, and the station what a scan of it gives.
+    fn moved(&mut self, source: usize, target: usize) -> Answer {
+        let from = self.station.kind;
+        let to = if from == Kind::Narrow { Kind::Wide } else { Kind::Narrow };
+        let copy = self.bytes.clone();
+        let answer = move_between(from, to, &copy[..source], &mut self.bytes[..target]);
+        if let Answer::Moved(_) = answer {
+            self.station = Station::scan_of(to, &self.bytes[..target]).0;
+        }
+        answer
     }
 
     fn act(&mut self, line: &str, size: usize) -> Answer {
@@ -75,7 +87,7 @@ impl World {
             Some(Call::Abort(t)) => self.station.abort(t),
             Some(Call::Collect(d)) => self.station.collect(store, d),
             Some(Call::Cut) => {
-                let (station, answer) = Station::scan(store);
+                let (station, answer) = Station::scan_of(self.station.kind, store);
                 self.station = station;
                 answer
             }
@@ -86,7 +98,7 @@ impl World {
         self.station.start(txn);
         self.station.put(txn, key, number);
         self.station.commit(txn, number);
-        let store = &mut self.bytes[..STORE];
+        let store = &mut self.bytes[..self.station.kind.store()];
         self.station.step(store, txn);
         self.station.step(store, txn);
         self.station.step(store, txn)
@@ -96,10 +108,15 @@ impl World {
     fn line(&mut self, line: &str) -> Option<Answer> {
         let (kind, rest) = line.split_at(1);
         match kind {
-            "#" => *self = World::new(),
+            "#" => *self = World::new(Kind::Narrow),
+            "$" => *self = World::new(Kind::Wide),
+            ">" => {
+                let [source, target] = numbers(rest)[..] else { panic!("{line}") };
+                return Some(self.moved(source as usize, target as usize));
+            }
             "!" => {
                 let [slot, at, byte] = numbers(rest)[..] else { panic!("{line}") };
-                self.bytes[slot as usize * SLOT + at as usize] = byte as u8;
+                self.bytes[slot as usize * self.station.kind.slot() + at as usize] = byte as u8;
             }
             "~" => {
                 let [field, place, i, x] = numbers(rest)[..] else { panic!("{line}") };
@@ -117,7 +134,7 @@ impl World {
                 let [limit, size] = numbers(rest)[..] else { panic!("{line}") };
                 return Some(self.station.sweep(&mut self.bytes[..size as usize], limit));
             }
-            _ => return Some(self.act(line, STORE)),
+            _ => return Some(self.act(line, self.station.kind.store())),
         }
         None
     }
@@ -170,14 +187,14 @@ fn change(before: &World, after: &World) -> &'static str {
         (true, true) => "as given",
         (true, false) => "new store",
         (false, false) => "new station and store",
-        (false, true) if after.station == Station::empty() => "empty station",
+        (false, true) if after.station == Station::empty_of(after.station.kind) => "empty station",
         (false, true) => "new station",
     }
 }
 
 /// A line that asks for no call: a title, or a change that is one.
 fn changed(line: &str, before: &World, after: &World) -> String {
-    if line.starts_with('#') {
+    if line.starts_with(['#', '$']) {
         return String::new();
     }
     let change = change(before, after);
@@ -194,7 +211,7 @@ fn outcome(answer: Answer, change: &str) -> String {
 fn keeps(line: &str, answer: Answer, before: &World, after: &World) {
     let Answer::Refused(..) = answer else { return };
     let scans = line.ends_with("cut,0,0,0");
-    let station = if scans { Station::empty() } else { before.station.clone() };
+    let station = if scans { Station::empty_of(before.station.kind) } else { before.station.clone() };
     assert!(after.station == station && after.bytes == before.bytes, "{line}: altered");
 }
 
@@ -214,16 +231,16 @@ fn main() {
     let path = std::env::args().nth(1).expect("an input");
     let text = std::fs::read_to_string(path).unwrap();
     let head = &text[..text.find('%').unwrap()];
-    let mut busy = World::new();
+    let mut busy = World::new(Kind::Narrow);
     for line in head.lines() {
         busy.line(line);
     }
     assert!(busy.station.sound());
-    let mut world = World::new();
+    let mut world = World::new(Kind::Narrow);
     let (mut title, mut outcomes) = ("", Vec::new());
     let (mut words, mut refusals) = (BTreeSet::new(), BTreeSet::new());
     for line in text.lines() {
-        if line.starts_with(['#', '%']) {
+        if line.starts_with(['#', '$', '%']) {
             if !title.is_empty() {
                 held(title, &outcomes);
             }
@@ -249,6 +266,6 @@ fn main() {
         outcomes.push(outcome);
     }
     held(title, &outcomes);
-    assert!(refusals.into_iter().eq(1..=21), "a refusal is missing");
-    assert!(words.len() == 16, "an answer is missing");
+    assert!(refusals.into_iter().eq(1..=23), "a refusal is missing");
+    assert!(words.len() == 17, "an answer is missing");
 }

@@ -1,10 +1,11 @@
-//! The proved library through its C interface, against the model in plain Rust: random call lists with cuts, retries, collections, sweeps, full slots
-//! and places, equal and backward clocks and the greatest numbers; images and stores with bytes changed, entries of no key and of too many; wrong
-//! lengths and an older version's, null pointers; batches.
+//! The proved library through its C interface, against the model in plain Rust, over narrow and wide stores: random call lists with cuts, retries,
+//! collections, sweeps, full slots and places, equal and backward clocks and the greatest numbers; moves out and back; images and stores with bytes
+//! changed, entries of no key and of too many; wrong lengths and an older version's, null pointers; batches.
 //! Answers, images and stores are compared byte for byte, and every undisturbed history is held to the cut rule after each call, and after each record
 //! of a sweep. Arguments: the first seed, how many histories.
 
 mod book;
+#[allow(dead_code)]
 mod model;
 
 use book::{Book, Call};
@@ -17,7 +18,11 @@ const ANSWER: usize = 32;
 
 extern "C" {
     fn gorehimu_empty(image: *mut u8, image_len: usize) -> u32;
+    fn gorehimu_empty_wide(image: *mut u8, image_len: usize) -> u32;
     fn gorehimu_recover(image: *mut u8, image_len: usize, store: *const u8, store_len: usize, answer: *mut u8, answer_len: usize) -> u32;
+    fn gorehimu_recover_wide(image: *mut u8, image_len: usize, store: *const u8, store_len: usize, answer: *mut u8, answer_len: usize) -> u32;
+    fn gorehimu_move_out(source: *const u8, source_len: usize, target: *mut u8, target_len: usize, answer: *mut u8, answer_len: usize) -> u32;
+    fn gorehimu_move_back(source: *const u8, source_len: usize, target: *mut u8, target_len: usize, answer: *mut u8, answer_len: usize) -> u32;
     fn gorehimu_call(
         image: *mut u8,
         image_len: usize,
@@ -52,15 +57,43 @@ fn one(image: &mut [u8], store: &mut [u8], request: &[u8], answer: &mut [u8]) ->
     }
 }
 
-fn recover(image: &mut [u8], store: &[u8], answer: &mut [u8]) -> u32 {
-    unsafe { gorehimu_recover(image.as_mut_ptr(), image.len(), store.as_ptr(), store.len(), answer.as_mut_ptr(), answer.len()) }
+fn empty(kind: Kind, image: &mut [u8]) -> u32 {
+    let f = match kind {
+        Kind::Narrow => gorehimu_empty,
+        Kind::Wide => gorehimu_empty_wide,
+    };
+    unsafe { f(image.as_mut_ptr(), image.len()) }
+}
+
+fn recover(kind: Kind, image: &mut [u8], store: &[u8], answer: &mut [u8]) -> u32 {
+    let f = match kind {
+        Kind::Narrow => gorehimu_recover,
+        Kind::Wide => gorehimu_recover_wide,
+    };
+    unsafe { f(image.as_mut_ptr(), image.len(), store.as_ptr(), store.len(), answer.as_mut_ptr(), answer.len()) }
+}
+
+fn other(kind: Kind) -> Kind {
+    match kind {
+        Kind::Narrow => Kind::Wide,
+        Kind::Wide => Kind::Narrow,
+    }
+}
+
+/// A move from a store of this kind.
+fn moved(from: Kind, source: &[u8], target: &mut [u8], answer: &mut [u8]) -> u32 {
+    let f = match from {
+        Kind::Narrow => gorehimu_move_out,
+        Kind::Wide => gorehimu_move_back,
+    };
+    unsafe { f(source.as_ptr(), source.len(), target.as_mut_ptr(), target.len(), answer.as_mut_ptr(), answer.len()) }
 }
 
 // ── the image, from the header's page ──
 
 fn encode(s: &Station) -> Vec<u8> {
     let mut b = Vec::with_capacity(IMAGE);
-    b.extend([1, 0, 0, 0, 0, 0, 0, 0]);
+    b.extend([s.kind.mark(), 0, 0, 0, 0, 0, 0, 0]);
     for l in &s.live {
         let (mark, slot, clock, stored) = match l.phase {
             Phase::Unused => (0, 0, 0, 0),
@@ -93,7 +126,11 @@ fn encode(s: &Station) -> Vec<u8> {
 fn decode(b: &[u8]) -> Option<Station> {
     let four = |at: usize| u32::from_le_bytes(b[at..at + 4].try_into().unwrap());
     let eight = |at: usize| u64::from_le_bytes(b[at..at + 8].try_into().unwrap());
-    let mut s = Station::empty();
+    let mut s = Station::empty_of(match b[0] {
+        1 => Kind::Narrow,
+        2 => Kind::Wide,
+        _ => return None,
+    });
     for (i, l) in s.live.iter_mut().enumerate() {
         let at = 8 + 408 * i;
         l.phase = match b[at] {
@@ -140,7 +177,7 @@ fn request(c: Call) -> [u8; REQUEST] {
 }
 
 fn kind(a: Answer) -> u64 {
-    let words = ["started", "kept", "own", "version", "none", "nofit", "closing", "empty", "done", "stored", "slipped", "dropped", "collected", "found", "refused", "swept"];
+    let words = ["started", "kept", "own", "version", "none", "nofit", "closing", "empty", "done", "stored", "slipped", "dropped", "collected", "found", "refused", "swept", "moved"];
     words.iter().position(|w| *w == a.word()).unwrap() as u64 + 1
 }
 
@@ -163,13 +200,14 @@ fn well_formed(c: Call) -> bool {
     }
 }
 
-/// What the model makes of a call. No station is as a station that is not sound.
+/// What the model makes of a call. No station is as a narrow station that is not sound.
 fn by_model(station: &mut Option<Station>, store: &mut [u8], c: Call) -> Answer {
     if !well_formed(c) {
         return Answer::Refused(19, 0);
     }
     if c.verb == 8 {
-        let (s, a) = Station::scan(store);
+        let kind = station.as_ref().map_or(Kind::Narrow, |s| s.kind);
+        let (s, a) = Station::scan_of(kind, store);
         *station = Some(s);
         return a;
     }
@@ -319,18 +357,26 @@ impl Seen {
     }
 }
 
-/// Some whole transactions of eight keys each, so that histories also begin with many versions or with all slots held.
-fn whole(r: &mut Chance) -> Vec<Call> {
+/// So many whole transactions of so many keys each.
+fn transactions(r: &mut Chance, count: usize, keys: u8) -> Vec<Call> {
     let mut calls = Vec::new();
-    for n in 0..[0, 0, 8, 30, 63, 64][r.below(6) as usize] {
-        let (txn, low) = (10_000 + n, r.below(57) as u8);
+    for n in 0..count as u32 {
+        let (txn, low) = (10_000 + n, r.below(65 - u64::from(keys)) as u8);
         let c = |verb, key, number| Call { verb, txn, key, number };
         calls.push(c(1, 0, 0));
-        calls.extend((0..8).map(|k| c(2, low + k, u64::from(n))));
+        calls.extend((0..keys).map(|k| c(2, low + k, u64::from(n))));
         calls.push(c(4, 0, u64::from(n) + 1));
-        calls.extend((0..10).map(|_| c(5, 0, 0)));
+        calls.extend((0..keys + 2).map(|_| c(5, 0, 0)));
     }
     calls
+}
+
+/// Some whole transactions, most with the kind's greatest write sets, so that histories also begin with many versions or with all slots held.
+fn whole(r: &mut Chance, kind: Kind) -> Vec<Call> {
+    let all = kind.slots();
+    let count = [0, 0, 8, all / 2 - 2, all - 1, all][r.below(6) as usize];
+    let keys = if r.one_in(4) { 1 + r.below(8) } else { kind.writes() as u64 };
+    transactions(r, count, keys as u8)
 }
 
 /// The same calls, in one batch, by both: answers, image and store must agree.
@@ -349,7 +395,8 @@ fn compare(image: &mut Vec<u8>, store: &mut Vec<u8>, calls: &[Call], seen: &mut 
     if calls.len() == 1 && calls[0].verb == 8 && well_formed(calls[0]) {
         // a scan is a recovery too
         let mut recovered = image.clone();
-        assert_eq!(recover(&mut recovered, store, &mut out), 0, "{what}");
+        let kind = station.as_ref().unwrap().kind;
+        assert_eq!(recover(kind, &mut recovered, store, &mut out), 0, "{what}");
         assert!(recovered == model_image && out == answer(answers[0]), "{what}: the recovery differs");
     }
     let code = if calls.len() == 1 { one(image, store, &requests, &mut out) } else { run(image, store, &requests, &mut out) };
@@ -362,19 +409,25 @@ fn compare(image: &mut Vec<u8>, store: &mut Vec<u8>, calls: &[Call], seen: &mut 
 }
 
 /// Which record a call wrote, as the header tells a host: the slot of each closing transaction, and how many version records it has stored.
-#[derive(Default)]
-struct Closings(BTreeMap<u32, (u8, usize)>);
+struct Closings {
+    kind: Kind,
+    slots: BTreeMap<u32, (u8, usize)>,
+}
 
 impl Closings {
+    fn of(kind: Kind) -> Closings {
+        Closings { kind, slots: BTreeMap::new() }
+    }
+
     /// Where the record that a call wrote begins in the store; none where it wrote none.
     fn written(&mut self, c: Call, a: Answer) -> Option<usize> {
         let (slot, n) = match a {
             Answer::Closing(slot) => {
-                self.0.insert(c.txn, (slot, 0));
+                self.slots.insert(c.txn, (slot, 0));
                 return None;
             }
             Answer::Stored(_) => {
-                let (slot, n) = self.0.get_mut(&c.txn).unwrap();
+                let (slot, n) = self.slots.get_mut(&c.txn).unwrap();
                 *n += 1;
                 (*slot, *n)
             }
@@ -382,19 +435,20 @@ impl Closings {
             Answer::Collected(_) => (c.key, 0),
             _ => return None,
         };
-        Some(24 * (9 * usize::from(slot) + n))
+        Some(place(self.kind, usize::from(slot), n))
     }
 }
 
-fn id_in(store: &[u8], slot: usize) -> Id {
-    let r = &store[slot * SLOT..][..RECORD];
+fn id_in(kind: Kind, store: &[u8], slot: usize) -> Id {
+    let r = record(kind, store, slot, 0);
     Id { clock: u64::from_le_bytes(r[8..16].try_into().unwrap()), txn: u32::from_le_bytes(r[4..8].try_into().unwrap()) }
 }
 
 /// The slots that were cleared since a store was as it lasts, in the order in which the header has a host bring their commit records there.
-fn cleared(store: &[u8], lasting: &[u8]) -> Vec<usize> {
-    let mut slots: Vec<usize> = (0..SLOTS).filter(|d| lasting[d * SLOT] == 1 && store[d * SLOT] == 0).collect();
-    slots.sort_by_key(|d| id_in(lasting, *d));
+fn cleared(kind: Kind, store: &[u8], lasting: &[u8]) -> Vec<usize> {
+    let at = |d: usize| place(kind, d, 0);
+    let mut slots: Vec<usize> = (0..kind.slots()).filter(|d| lasting[at(*d)] == kind.mark() && store[at(*d)] == 0).collect();
+    slots.sort_by_key(|d| id_in(kind, lasting, *d));
     slots
 }
 
@@ -411,7 +465,7 @@ fn checked(image: &mut Vec<u8>, store: &mut Vec<u8>, c: Call, book: &mut Book, c
     let before = (image.clone(), store.clone());
     let a = compare(image, store, &[c], seen, what)[0];
     if let Answer::Swept(count) = a {
-        let after = collects(before, store, count, book, seen, what);
+        let after = collects(closings.kind, before, store, count, book, seen, what);
         assert!(after == (image.clone(), store.clone()), "{what}: {c:?} is not its collects");
         return;
     }
@@ -444,25 +498,30 @@ fn booking(image: &[u8], store: &[u8], id: Id, book: &Book, seen: &mut Seen, wha
     }
 }
 
+/// The image of a station that is lost: all that is known is the store's kind.
+fn lost(kind: Kind) -> Vec<u8> {
+    encode(&Station::empty_of(kind))
+}
+
 /// A sweep's single collects, oldest id first, and what they leave. Power may go after each of its records: what lasts then is what so many collects
 /// leave, the cut rule holds of it, and the library recovers it.
-fn collects(before: (Vec<u8>, Vec<u8>), swept: &[u8], count: u8, book: &mut Book, seen: &mut Seen, what: &str) -> (Vec<u8>, Vec<u8>) {
+fn collects(kind: Kind, before: (Vec<u8>, Vec<u8>), swept: &[u8], count: u8, book: &mut Book, seen: &mut Seen, what: &str) -> (Vec<u8>, Vec<u8>) {
     let (mut image, mut store) = before;
-    let slots = cleared(swept, &store);
+    let slots = cleared(kind, swept, &store);
     assert_eq!(slots.len(), usize::from(count), "{what}: the sweep's count is not that of the records it cleared");
     for d in slots {
         let mut lasting = store.clone();
-        lasting[d * SLOT..][..RECORD].copy_from_slice(&swept[d * SLOT..][..RECORD]);
+        write(kind, &mut lasting, d, 0, record(kind, swept, d, 0));
         let a = compare(&mut image, &mut store, &[collect(d)], seen, what)[0];
         assert!(lasting == store, "{what}: a record of the sweep is not that of the collect of {d}");
         fed(book, collect(d), a, &lasting, what);
-        compare(&mut vec![0xff; IMAGE], &mut lasting, &[SCAN], seen, what);
+        compare(&mut lost(kind), &mut lasting, &[SCAN], seen, what);
     }
     (image, store)
 }
 
 /// Sweeps of a copy: limits m and n leave what m + n leaves, and their counts add; a commit record that is changed ends a sweep when its turn comes.
-fn sweeps(r: &mut Chance, image: &[u8], store: &[u8], seen: &mut Seen, what: &str) {
+fn sweeps(r: &mut Chance, kind: Kind, image: &[u8], store: &[u8], seen: &mut Seen, what: &str) {
     let mut after = |store: &[u8], limits: &[u64]| {
         let (mut image, mut store) = (image.to_vec(), store.to_vec());
         let calls: Vec<Call> = limits.iter().map(|n| sweep(*n)).collect();
@@ -474,26 +533,27 @@ fn sweeps(r: &mut Chance, image: &[u8], store: &[u8], seen: &mut Seen, what: &st
     let n = limit(r, 64 - m);
     assert!(after(store, &[m, n]) == after(store, &[m + n]), "{what}: sweeps of {m} and {n} are not one of {}", m + n);
     let (_, _, swept) = after(store, &[64]);
-    for (turn, d) in cleared(&swept, store).into_iter().enumerate().take(2) {
+    for (turn, d) in cleared(kind, &swept, store).into_iter().enumerate().take(2) {
         let mut damaged = store.to_vec();
-        damaged[d * SLOT + r.below(RECORD as u64) as usize] ^= 1 + r.below(255) as u8;
+        damaged[place(kind, d, 0) + r.below(RECORD as u64) as usize] ^= 1 + r.below(255) as u8;
         assert_eq!(after(&damaged, &[64]).0, turn as u64, "{what}: the damaged record of {d} did not end the sweep");
     }
 }
 
-/// A history from the empty station: calls one by one, the cut rule checked after each, and the same in batches; cuts between record writes, each
-/// followed by a scan.
-fn history(seed: u64, seen: &mut Seen) {
+/// A history from the empty station of a kind: calls one by one, the cut rule checked after each, and the same in batches; cuts between record writes,
+/// each followed by a scan; and moves, after which it goes on over the other kind's store.
+fn history(seed: u64, first: Kind, seen: &mut Seen) {
     let mut r = Chance(seed);
     let z = style(&mut r);
+    let mut kind = first;
     let mut image = vec![0xaa; IMAGE];
-    assert_eq!(unsafe { gorehimu_empty(image.as_mut_ptr(), image.len()) }, 0);
-    assert!(image == encode(&Station::empty()), "the empty image");
-    let mut store = vec![0; STORE];
-    let (mut book, mut closings) = (Book::default(), Closings::default());
+    assert_eq!(empty(kind, &mut image), 0);
+    assert!(image == encode(&Station::empty_of(kind)), "the empty image");
+    let mut store = vec![0; kind.store()];
+    let (mut book, mut closings) = (Book::of(kind), Closings::of(kind));
     for time in 100..300 {
-        let calls: Vec<Call> = if time == 100 { whole(&mut r) } else { (0..1 + r.below(8)).map(|_| call(&mut r, &z, &image, time)).collect() };
-        let what = format!("seed {seed}, time {time}");
+        let calls: Vec<Call> = if time == 100 { whole(&mut r, kind) } else { (0..1 + r.below(8)).map(|_| call(&mut r, &z, &image, time)).collect() };
+        let what = format!("{first:?} seed {seed}, time {time}");
         let before = (image.clone(), store.clone());
         for c in &calls {
             checked(&mut image, &mut store, *c, &mut book, &mut closings, seen, &what);
@@ -502,32 +562,129 @@ fn history(seed: u64, seen: &mut Seen) {
         compare(&mut batch_image, &mut batch_store, &calls, seen, &what);
         assert!(batch_image == image && batch_store == store, "{what}: a batch is not its calls one by one");
         if r.one_in(25) {
-            // power goes, at times in the middle of a sweep: the image is lost, whatever it is after that
-            if r.one_in(2) {
-                let (mut swept_image, mut swept) = (image.clone(), store.clone());
-                compare(&mut swept_image, &mut swept, &[sweep(64)], seen, &what);
-                let slots = cleared(&swept, &store);
-                for d in slots.iter().take(r.below(slots.len() as u64 + 1) as usize) {
-                    let id = id_in(&store, *d);
-                    store[d * SLOT..][..RECORD].fill(0);
-                    fed(&mut book, collect(*d), Answer::Collected(id), &store, &what);
+            cut(&mut r, &mut image, &mut store, &mut book, &mut closings, seen, &what);
+        }
+        if r.one_in(20) {
+            if let Some(target) = moves(&mut r, kind, &store, &book, seen, &what) {
+                // at times the history goes on over the target
+                if r.one_in(2) {
+                    (store, kind) = (target, other(kind));
+                    (book, closings) = (book.moved(kind), Closings::of(kind));
+                    image = lost(kind);
+                    checked(&mut image, &mut store, SCAN, &mut book, &mut closings, seen, &what);
                 }
             }
-            for b in image.iter_mut() {
-                *b = r.next() as u8;
-            }
-            checked(&mut image, &mut store, SCAN, &mut book, &mut closings, seen, &what);
         }
         if r.one_in(8) {
-            disturb(&mut r, &z, &image, &store, seen, &what);
-            write_sets(&mut r, &image, &store, seen, &what);
-            sweeps(&mut r, &image, &store, seen, &what);
+            disturb(&mut r, &z, kind, &image, &store, seen, &what);
+            write_sets(&mut r, kind, &image, &store, seen, &what);
+            sweeps(&mut r, kind, &image, &store, seen, &what);
+        }
+    }
+}
+
+/// Power goes, at times in the middle of a sweep: the station is lost, and a scan starts the desk again.
+fn cut(r: &mut Chance, image: &mut Vec<u8>, store: &mut Vec<u8>, book: &mut Book, closings: &mut Closings, seen: &mut Seen, what: &str) {
+    let kind = closings.kind;
+    if r.one_in(2) {
+        let (mut swept_image, mut swept) = (image.clone(), store.clone());
+        compare(&mut swept_image, &mut swept, &[sweep(64)], seen, what);
+        let slots = cleared(kind, &swept, store);
+        for d in slots.iter().take(r.below(slots.len() as u64 + 1) as usize) {
+            let id = id_in(kind, store, *d);
+            write(kind, store, *d, 0, &[0; RECORD]);
+            fed(book, collect(*d), Answer::Collected(id), store, what);
+        }
+    }
+    *image = lost(kind);
+    if kind == Kind::Narrow {
+        // an image that is no station's is scanned as a narrow one's
+        for b in image.iter_mut() {
+            *b = r.next() as u8;
+        }
+    }
+    checked(image, store, SCAN, book, closings, seen, what);
+}
+
+/// A move by both, into a store of whatever bytes: answer and target agree, the source stays. The target, where the move was not refused.
+fn move_compared(r: &mut Chance, from: Kind, source: &[u8], target_len: usize, seen: &mut Seen, what: &str) -> (Answer, Vec<u8>) {
+    let before: Vec<u8> = (0..target_len).map(|_| r.next() as u8).collect();
+    let (mut target, mut by_model) = (before.clone(), before.clone());
+    let a = move_between(from, other(from), source, &mut by_model);
+    seen.count(a);
+    let (source_before, mut out) = (source.to_vec(), vec![0xaa; ANSWER]);
+    assert_eq!(moved(from, source, &mut target, &mut out), 0, "{what}");
+    assert!(out == answer(a), "{what}: the answers of a move differ; the model's is {a:?}");
+    assert!(target == by_model, "{what}: the targets of a move differ, {a:?}");
+    assert!(source == source_before, "{what}: a move wrote its source");
+    if let Answer::Refused(..) = a {
+        assert!(target == before, "{what}: a refused move wrote its target, {a:?}");
+    }
+    (a, target)
+}
+
+/// A move of a history's store: the cut rule holds of the target with the same book, its pages torn out. Back again, the same set is committed, and
+/// out again come the same bytes.
+fn moves(r: &mut Chance, from: Kind, store: &[u8], book: &Book, seen: &mut Seen, what: &str) -> Option<Vec<u8>> {
+    let to = other(from);
+    let (a, target) = move_compared(r, from, store, to.store(), seen, what);
+    let Answer::Moved(count) = a else { return None };
+    if let Err(e) = book.moved(to).check(&target) {
+        panic!("{what}: the cut rule does not hold after a move: {e}");
+    }
+    let (again, back) = move_compared(r, to, &target, from.store(), seen, what);
+    assert_eq!(again, Answer::Moved(count), "{what}: the move back");
+    if let Err(e) = book.moved(from).check(&back) {
+        panic!("{what}: the cut rule does not hold after a move back: {e}");
+    }
+    assert!(move_compared(r, from, &back, to.store(), seen, what) == (a, target.clone()), "{what}: out again, other bytes");
+    Some(target)
+}
+
+/// Stores filled to so many slots with write sets of so many keys: 22 and 23 come exactly where they should. Damaged sources, of which a move is refused
+/// or moves the same as the model; wrong lengths.
+fn fills(seed: u64, seen: &mut Seen) {
+    let mut r = Chance(seed);
+    for from in [Kind::Narrow, Kind::Wide] {
+        let to = other(from);
+        for count in [0, 1, 2, 31, 32, 33, 64] {
+            for keys in [1, 8, 9, 16] {
+                if count > from.slots() || keys > from.writes() {
+                    continue;
+                }
+                let what = format!("{from:?}, {count} slots of {keys} keys, seed {seed}");
+                let (mut image, mut store) = (lost(from), vec![0; from.store()]);
+                compare(&mut image, &mut store, &transactions(&mut r, count, keys as u8), seen, &what);
+                let expected = match () {
+                    _ if count > to.slots() => Answer::Refused(22, 0),
+                    _ if count > 0 && keys > to.writes() => Answer::Refused(23, 0),
+                    _ => Answer::Moved(count as u8),
+                };
+                assert_eq!(move_compared(&mut r, from, &store, to.store(), seen, &what).0, expected, "{what}");
+                for _ in 0..20 {
+                    let mut damaged = store.clone();
+                    for _ in 0..1 + r.below(2) {
+                        // mostly in a commit record
+                        let slot = r.below(from.slots() as u64) as usize;
+                        let at = if r.one_in(3) { r.below(store.len() as u64) as usize } else { place(from, slot, 0) + r.below(24) as usize };
+                        damaged[at] = [0, 1, 2, r.next() as u8][r.below(4) as usize];
+                    }
+                    move_compared(&mut r, from, &damaged, to.store(), seen, &what);
+                }
+                for (source, target) in [(0, 0), (1, 0), (0, 1), (store.len(), 0), (0, to.store())] {
+                    let a = move_compared(&mut r, from, &store[..store.len() - source], to.store() - target, seen, &what).0;
+                    assert!(source + target == 0 || a == Answer::Refused(1, 0), "{what}: {source} and {target} bytes less, {a:?}");
+                }
+                // each store as the other kind's
+                let a = move_compared(&mut r, to, &store, from.store(), seen, &what).0;
+                assert_eq!(a, Answer::Refused(1, 0), "{what}: moved as the other kind's");
+            }
         }
     }
 }
 
 /// Copies of the image and the store with bytes changed: every call must still agree.
-fn disturb(r: &mut Chance, z: &Style, image: &[u8], store: &[u8], seen: &mut Seen, what: &str) {
+fn disturb(r: &mut Chance, z: &Style, kind: Kind, image: &[u8], store: &[u8], seen: &mut Seen, what: &str) {
     let (mut image, mut store) = (image.to_vec(), store.to_vec());
     for _ in 0..1 + r.below(3) {
         let value = if r.one_in(2) { r.below(4) as u8 } else { r.next() as u8 };
@@ -535,31 +692,33 @@ fn disturb(r: &mut Chance, z: &Style, image: &[u8], store: &[u8], seen: &mut See
             let at = r.below(IMAGE as u64) as usize;
             image[at] = value;
         } else {
-            let at = r.below(STORE as u64) as usize;
+            let at = r.below(kind.store() as u64) as usize;
             store[at] = value;
         }
     }
     if r.one_in(10) {
-        store.truncate(r.below(STORE as u64) as usize);
+        store.truncate(r.below(kind.store() as u64) as usize);
     }
     for _ in 0..12 {
         let calls: Vec<Call> = (0..1 + r.below(3)).map(|_| call(r, z, &image, 7)).collect();
         compare(&mut image, &mut store, &calls, seen, what);
     }
     compare(&mut image, &mut store, &[sweep(64)], seen, what);
+    move_compared(r, kind, &store, other(kind).store(), seen, what);
     compare(&mut image, &mut store, &[SCAN], seen, what);
 }
 
-/// The same with another write set in an entry: of no key, of more than eight or of all, it makes the station one that is not sound, and every call is
-/// refused with 2. Of one to eight keys it is another entry, which may be sound.
-fn write_sets(r: &mut Chance, image: &[u8], store: &[u8], seen: &mut Seen, what: &str) {
+/// The same with another write set in an entry: of no key, of more than its kind's limit or of all, it makes the station one that is not sound, and
+/// every call is refused with 2. Of one to eight keys, or sixteen, it is another entry, which may be sound.
+fn write_sets(r: &mut Chance, kind: Kind, image: &[u8], store: &[u8], seen: &mut Seen, what: &str) {
     let mut station = decode(image).expect("a station");
     let held: Vec<usize> = station.held().map(|(d, _)| d).collect();
     if held.is_empty() {
         return;
     }
     let d = held[r.below(held.len() as u64) as usize];
-    let count = [0, 1, 8, 9, 9, 64, r.below(65) as u32][r.below(7) as usize];
+    let most = kind.writes() as u32;
+    let count = [0, 1, most, most + 1, most + 1, 64, r.below(65) as u32][r.below(7) as usize];
     let e = &mut station.entries[d];
     e.keys = 0;
     while e.keys.count_ones() < count {
@@ -569,7 +728,7 @@ fn write_sets(r: &mut Chance, image: &[u8], store: &[u8], seen: &mut Seen, what:
     let c = |verb, txn, key, number| Call { verb, txn, key, number };
     let calls = [c(1, 77, 0, 0), c(2, 77, key, 7), c(3, 77, key, 0), c(4, txn, 0, 7), c(5, 77, 0, 0), c(6, 77, 0, 0), collect(d), sweep(64)];
     let answers = compare(&mut encode(&station), &mut store.to_vec(), &calls, seen, what);
-    if !(1..=8).contains(&count) {
+    if !(1..=most).contains(&count) {
         assert!(answers.iter().all(|a| *a == Answer::Refused(2, 0)), "{what}: slot {d} with {count} keys: {answers:?}");
         *seen.wrong_sets.entry(count).or_default() += 1;
     }
@@ -577,22 +736,22 @@ fn write_sets(r: &mut Chance, image: &[u8], store: &[u8], seen: &mut Seen, what:
 
 /// A sound station that no history makes: any entries, and read sets that need not be atomic, so that the lower bound decides too. Neither clocks nor
 /// numbers go by the slots.
-fn made_up(seed: u64, seen: &mut Seen) {
+fn made_up(seed: u64, kind: Kind, seen: &mut Seen) {
     let mut r = Chance(seed);
-    let mut station = Station::empty();
-    let mut store = vec![0; STORE];
+    let mut station = Station::empty_of(kind);
+    let mut store = vec![0; kind.store()];
     let (keys, clocks) = ([3, 6, 20, 64][r.below(4) as usize], [1, 3, 1000, u64::MAX][r.below(4) as usize]);
     let last = if r.one_in(4) { r.below(64) as usize } else { SLOTS };
-    for d in 0..SLOTS {
+    for d in 0..kind.slots() {
         if r.one_in(3) {
             continue;
         }
-        let wrote = key_set((0..1 + r.below(8)).map(|_| r.below(keys) as u8));
+        let wrote = key_set((0..1 + r.below(kind.writes() as u64)).map(|_| r.below(keys) as u8));
         let clock = if d == last { u64::MAX - r.below(2) } else { 1 + r.below(clocks) };
         let e = Entry { id: Id { clock, txn: 1 + d as u32 * 37 % 64 * 3 + r.below(3) as u32 }, keys: wrote };
-        store[d * SLOT..][..RECORD].copy_from_slice(&commit_record(&e));
+        write(kind, &mut store, d, 0, &commit_record(kind, &e));
         for (n, k) in e.keys().enumerate() {
-            store[d * SLOT + (n + 1) * RECORD..][..RECORD].copy_from_slice(&version_record(k, e.id, r.next()));
+            write(kind, &mut store, d, n + 1, &version_record(k, e.id, r.next()));
         }
         station.entries[d] = e;
     }
@@ -610,7 +769,7 @@ fn made_up(seed: u64, seen: &mut Seen) {
     }
     assert!(station.sound(), "seed {seed}: the made-up station is not sound");
     let image = encode(&station);
-    let what = format!("made up, seed {seed}");
+    let what = format!("made up, {kind:?}, seed {seed}");
     for txn in 1000..1008 {
         for key in 0..keys as u8 {
             compare(&mut image.clone(), &mut store.clone(), &[Call { verb: 3, txn, key, number: 0 }], seen, &what);
@@ -624,17 +783,17 @@ fn made_up(seed: u64, seen: &mut Seen) {
         compare(&mut image.clone(), &mut store.clone(), &[collect(d)], seen, &what);
     }
     for limit in [0, 1, 2 + r.below(62), 64, 65, u64::MAX] {
-        let (mut book, mut closings) = (Book::begun(&store), Closings::default());
+        let (mut book, mut closings) = (Book::begun(kind, &store), Closings::of(kind));
         checked(&mut image.clone(), &mut store.clone(), sweep(limit), &mut book, &mut closings, seen, &what);
     }
-    sweeps(&mut r, &image, &store, seen, &what);
+    sweeps(&mut r, kind, &image, &store, seen, &what);
+    moves(&mut r, kind, &store, &Book::begun(kind, &store), seen, &what);
 }
 
 /// Every field of every part of a busy station changed, and every byte of one slot.
-fn every_byte(seen: &mut Seen) {
-    let mut image = vec![0; IMAGE];
-    unsafe { gorehimu_empty(image.as_mut_ptr(), image.len()) };
-    let mut store = vec![0; STORE];
+fn every_byte(kind: Kind, seen: &mut Seen) {
+    let (mut image, mut store) = (lost(kind), vec![0; kind.store()]);
+    let last = kind.slots() - 1;
     let mut calls = Vec::new();
     let c = |verb, txn, key, number| Call { verb, txn, key, number };
     for t in 1..=6 {
@@ -662,7 +821,7 @@ fn every_byte(seen: &mut Seen) {
     calls.push(c(4, 30, 0, 30));
     calls.extend((0..6).map(|_| c(5, 30, 0, 0)));
     compare(&mut image, &mut store, &calls, seen, "a busy station");
-    let tries = [c(1, 77, 0, 0), c(2, 20, 1, 9), c(3, 20, 5, 0), c(5, 22, 0, 0), collect(63), collect(60), sweep(1), sweep(64)];
+    let tries = [c(1, 77, 0, 0), c(2, 20, 1, 9), c(3, 20, 5, 0), c(5, 22, 0, 0), collect(last), collect(last - 3), sweep(1), sweep(64)];
     for at in 0..IMAGE {
         for value in (0..10).chain([63, 64, 255]) {
             let (mut i, mut s) = (image.clone(), store.clone());
@@ -670,13 +829,13 @@ fn every_byte(seen: &mut Seen) {
             compare(&mut i, &mut s, &tries, seen, &format!("image byte {at} is {value}"));
         }
     }
-    for at in 63 * SLOT..64 * SLOT {
+    for at in place(kind, last, 0)..kind.store() {
         for value in 0..=255 {
             let (mut i, mut s) = (image.clone(), store.clone());
             s[at] = value;
             let what = format!("store byte {at} is {value}");
-            compare(&mut i.clone(), &mut s.clone(), &[sweep(2), collect(63), SCAN], seen, &what);
-            compare(&mut i, &mut s, &[c(3, 20, 1, 0), collect(63), SCAN], seen, &what);
+            compare(&mut i.clone(), &mut s.clone(), &[sweep(2), collect(last), SCAN], seen, &what);
+            compare(&mut i, &mut s, &[c(3, 20, 1, 0), collect(last), SCAN], seen, &what);
         }
     }
 }
@@ -694,14 +853,21 @@ fn wrong_lengths() {
         assert_eq!(one(&mut image[..i], &mut store, &requests[..q], &mut answers[..a]), 1, "one call, lengths {i}, {q}, {a}");
         assert!((image, store, requests, answers) == before, "one call, lengths {i}, {q}, {a}: something was written");
     }
-    for (i, a) in [(IMAGE - 1, 32), (IMAGE, 31), (IMAGE, 0)] {
-        let (mut image, store, requests, mut answers) = before.clone();
-        assert_eq!(recover(&mut image[..i], &store, &mut answers[..a]), 1, "recovery, lengths {i}, {a}");
-        assert!((image, store, requests, answers) == before, "recovery, lengths {i}, {a}: something was written");
+    for kind in [Kind::Narrow, Kind::Wide] {
+        for (i, a) in [(IMAGE - 1, 32), (IMAGE, 31), (IMAGE, 0)] {
+            let (mut image, store, requests, mut answers) = before.clone();
+            assert_eq!(recover(kind, &mut image[..i], &store, &mut answers[..a]), 1, "{kind:?} recovery, lengths {i}, {a}");
+            assert!((image, store, requests, answers) == before, "{kind:?} recovery, lengths {i}, {a}: something was written");
+        }
+        let mut image = vec![0x55; IMAGE - 1];
+        assert_eq!(empty(kind, &mut image), 1);
+        assert!(image.iter().all(|b| *b == 0x55));
+        for a in [0, 31, 33] {
+            let (source, mut target, mut answers) = (vec![0; kind.store()], vec![0x66; other(kind).store()], vec![0x77; a]);
+            assert_eq!(moved(kind, &source, &mut target, &mut answers), 1, "a move, an answer of {a} bytes");
+            assert!(target.iter().all(|b| *b == 0x66) && answers.iter().all(|b| *b == 0x77), "a move, an answer of {a} bytes: something was written");
+        }
     }
-    let mut image = vec![0x55; IMAGE - 1];
-    assert_eq!(unsafe { gorehimu_empty(image.as_mut_ptr(), image.len()) }, 1);
-    assert!(image.iter().all(|b| *b == 0x55));
     let (mut image, mut store) = (encode(&Station::empty()), vec![0; STORE]);
     assert_eq!(run(&mut image, &mut store, &[], &mut []), 0, "no request");
 }
@@ -720,8 +886,10 @@ fn older_versions() {
         refused("a run", &|image, store, answers| run(image, store, &start, answers));
         refused("a run of nothing", &|image, store, _| run(image, store, &[], &mut []));
         refused("one call", &|image, store, answers| one(image, store, &start, answers));
-        refused("a recovery", &|image, store, answers| recover(image, store, answers));
-        refused("made empty", &|image, _, _| unsafe { gorehimu_empty(image.as_mut_ptr(), image.len()) });
+        for kind in [Kind::Narrow, Kind::Wide] {
+            refused("a recovery", &|image, store, answers| recover(kind, image, store, answers));
+            refused("made empty", &|image, _, _| empty(kind, image));
+        }
     }
 }
 
@@ -739,6 +907,7 @@ fn nulls() {
         assert_eq!(gorehimu_call(null_mut(), 0, null_mut(), 0, null(), 0, null_mut(), 0), 1, "nothing at all");
         assert_eq!(gorehimu_run(null_mut(), 0, null_mut(), 0, null(), 0, null_mut(), 0), 1, "nothing to run over");
         assert_eq!(gorehimu_recover(image.as_mut_ptr(), IMAGE, store.as_ptr(), STORE, null_mut(), 0), 1, "no answer to recover to");
+        assert_eq!(gorehimu_move_out(null(), 0, null_mut(), 0, null_mut(), 0), 1, "no answer to move to");
         assert!(image == station && store.iter().all(|b| *b == 0), "something was written");
 
         let requests = [request(c(1, 7)), request(c(5, 7)), request(sweep(0))].concat();
@@ -748,6 +917,11 @@ fn nulls() {
         assert!(out[..ANSWER] == answer(Answer::Dropped) && image == station, "a call with no store: abort");
         assert_eq!(gorehimu_recover(image.as_mut_ptr(), IMAGE, null(), 0, out.as_mut_ptr(), ANSWER), 0, "a recovery, no store");
         assert!(out[..ANSWER] == answer(Answer::Refused(1, 0)) && image == station, "a recovery with no store");
+        for f in [gorehimu_move_out, gorehimu_move_back] {
+            out.fill(0xaa);
+            assert_eq!(f(null(), 0, null_mut(), 0, out.as_mut_ptr(), ANSWER), 0, "a move of no store");
+            assert!(out[..ANSWER] == answer(Answer::Refused(1, 0)), "a move of no store");
+        }
     }
 }
 
@@ -758,17 +932,24 @@ fn main() {
     wrong_lengths();
     older_versions();
     nulls();
-    every_byte(&mut seen);
+    for kind in [Kind::Narrow, Kind::Wide] {
+        every_byte(kind, &mut seen);
+    }
     for seed in first..first + count {
-        history(seed, &mut seen);
-        made_up(seed, &mut seen);
+        // every third begins wide
+        let kind = if seed % 3 == 0 { Kind::Wide } else { Kind::Narrow };
+        history(seed, kind, &mut seen);
+        made_up(seed, kind, &mut seen);
+        if seed % 20 == 0 {
+            fills(seed, &mut seen);
+        }
     }
     if count >= 300 {
-        assert_eq!(seen.words.len(), 16, "an answer never came up: {:?}", seen.words);
-        for n in 1..=21 {
+        assert_eq!(seen.words.len(), 17, "an answer never came up: {:?}", seen.words);
+        for n in 1..=23 {
             assert!(seen.refusals.contains_key(&n), "refusal {n} never came up: {:?}", seen.refusals);
         }
-        for n in [0, 9, 64] {
+        for n in [0, 9, 17, 64] {
             assert!(seen.wrong_sets.contains_key(&n), "an entry of {n} keys never came up: {:?}", seen.wrong_sets);
         }
     }

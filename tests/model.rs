@@ -8,8 +8,49 @@ pub const READS: usize = 16;
 /// The room for a write set's values.
 pub const VALUES: usize = 16;
 pub const RECORD: usize = 24;
+/// Of a narrow store, as SLOTS and WRITES.
 pub const SLOT: usize = RECORD * (WRITES + 1);
 pub const STORE: usize = SLOT * SLOTS;
+
+/// "a wide store: 32 drawers of 17 slips, 13,056 bytes, write lists up to 16 keys. Its commit slip has mark 2"
+#[derive(Clone, Copy, PartialEq, Eq, Debug, Default)]
+pub enum Kind {
+    #[default]
+    Narrow,
+    Wide,
+}
+
+impl Kind {
+    pub fn slots(self) -> usize {
+        match self {
+            Kind::Narrow => SLOTS,
+            Kind::Wide => 32,
+        }
+    }
+
+    pub fn writes(self) -> usize {
+        match self {
+            Kind::Narrow => WRITES,
+            Kind::Wide => 16,
+        }
+    }
+
+    pub fn mark(self) -> u8 {
+        match self {
+            Kind::Narrow => 1,
+            Kind::Wide => 2,
+        }
+    }
+
+    /// The bytes of a slot and of a store.
+    pub fn slot(self) -> usize {
+        RECORD * (self.writes() + 1)
+    }
+
+    pub fn store(self) -> usize {
+        self.slot() * self.slots()
+    }
+}
 
 /// Compared by clock, then number: the fields stand in that order.
 #[derive(Clone, Copy, PartialEq, Eq, PartialOrd, Ord, Debug, Default)]
@@ -50,8 +91,10 @@ pub struct Entry {
     pub keys: u64,
 }
 
+/// Of a wide store's only the first 32 entries are used.
 #[derive(Clone, PartialEq, Eq, Debug)]
 pub struct Station {
+    pub kind: Kind,
     pub live: [Live; LIVE],
     pub entries: [Entry; SLOTS],
 }
@@ -74,6 +117,7 @@ pub enum Answer {
     Found(u8),
     Refused(u8, u8),
     Swept(u8),
+    Moved(u8),
 }
 
 fn refused(number: u8) -> Answer {
@@ -171,7 +215,7 @@ impl Live {
             return *self == Live::default();
         }
         let (w, r) = (self.written(), usize::from(self.read_count));
-        if self.txn == 0 || w > WRITES || r > READS {
+        if self.txn == 0 || w > station.kind.writes() || r > READS {
             return false;
         }
         if !ascends(self.reads().iter().map(|x| x.key)) {
@@ -185,7 +229,7 @@ impl Live {
         }
         match self.phase {
             Phase::Closing { slot, clock, stored } => {
-                w >= 1 && clock >= 1 && usize::from(stored) <= w + 1 && usize::from(slot) < SLOTS && station.entries[usize::from(slot)] == Entry::default()
+                w >= 1 && clock >= 1 && usize::from(stored) <= w + 1 && usize::from(slot) < station.kind.slots() && station.entries[usize::from(slot)] == Entry::default()
             }
             _ => true,
         }
@@ -209,8 +253,8 @@ impl Entry {
     }
 
     /// The commit record's rules, as far as they are about an entry.
-    fn right(&self) -> bool {
-        (1..=WRITES as u32).contains(&self.keys.count_ones()) && self.id.txn >= 1 && self.id.clock >= 1
+    fn right(&self, kind: Kind) -> bool {
+        (1..=kind.writes()).contains(&(self.keys.count_ones() as usize)) && self.id.txn >= 1 && self.id.clock >= 1
     }
 }
 
@@ -225,10 +269,16 @@ fn head(a: u8, b: u8, id: Id) -> [u8; RECORD] {
     r
 }
 
-pub fn commit_record(e: &Entry) -> [u8; RECORD] {
-    let mut r = head(1, e.keys.count_ones() as u8, e.id);
-    for (byte, key) in r[16..].iter_mut().zip(e.keys()) {
-        *byte = key;
+/// Its eight key bytes are a narrow store's keys, or "the number of §5, least byte first".
+pub fn commit_record(kind: Kind, e: &Entry) -> [u8; RECORD] {
+    let mut r = head(kind.mark(), e.keys.count_ones() as u8, e.id);
+    match kind {
+        Kind::Narrow => {
+            for (byte, key) in r[16..].iter_mut().zip(e.keys()) {
+                *byte = key;
+            }
+        }
+        Kind::Wide => r[16..].copy_from_slice(&e.keys.to_le_bytes()),
     }
     r
 }
@@ -239,16 +289,16 @@ pub fn version_record(key: u8, id: Id, value: u64) -> [u8; RECORD] {
     r
 }
 
-fn place(slot: usize, n: usize) -> usize {
-    slot * SLOT + n * RECORD
+pub fn place(kind: Kind, slot: usize, n: usize) -> usize {
+    slot * kind.slot() + n * RECORD
 }
 
-fn record(store: &[u8], slot: usize, n: usize) -> &[u8] {
-    &store[place(slot, n)..][..RECORD]
+pub fn record(kind: Kind, store: &[u8], slot: usize, n: usize) -> &[u8] {
+    &store[place(kind, slot, n)..][..RECORD]
 }
 
-fn write(store: &mut [u8], slot: usize, n: usize, r: &[u8; RECORD]) {
-    store[place(slot, n)..][..RECORD].copy_from_slice(r);
+pub fn write(kind: Kind, store: &mut [u8], slot: usize, n: usize, r: &[u8]) {
+    store[place(kind, slot, n)..][..RECORD].copy_from_slice(r);
 }
 
 fn value(r: &[u8]) -> u64 {
@@ -262,20 +312,38 @@ pub enum Seen {
     Damaged,
 }
 
-pub fn seen(store: &[u8], slot: usize) -> Seen {
-    let r = record(store, slot, 0);
+/// The keys that a commit record names, where count and key bytes are those of a write set.
+fn keys_in(kind: Kind, r: &[u8]) -> Option<u64> {
+    let count = usize::from(r[1]);
+    if !(1..=kind.writes()).contains(&count) {
+        return None;
+    }
+    match kind {
+        Kind::Narrow => {
+            let (keys, rest) = r[16..].split_at(count);
+            (ascends(keys.iter().copied()) && rest.iter().all(|k| *k == 0)).then(|| key_set(keys.iter().copied()))
+        }
+        // "with count equal to its ones"
+        Kind::Wide => {
+            let keys = u64::from_le_bytes(r[16..24].try_into().unwrap());
+            (keys.count_ones() as usize == count).then_some(keys)
+        }
+    }
+}
+
+pub fn seen(kind: Kind, store: &[u8], slot: usize) -> Seen {
+    let r = record(kind, store, slot, 0);
     if r[0] == 0 {
         return Seen::Free;
     }
     let id = Id { clock: u64::from_le_bytes(r[8..16].try_into().unwrap()), txn: u32::from_le_bytes(r[4..8].try_into().unwrap()) };
-    let count = usize::from(r[1]);
-    if r[0] != 1 || !(1..=WRITES).contains(&count) || r[2..4] != [0, 0] || id.txn == 0 || id.clock == 0 {
+    if r[0] != kind.mark() || r[2..4] != [0, 0] || id.txn == 0 || id.clock == 0 {
         return Seen::Damaged;
     }
-    let (keys, rest) = r[16..].split_at(count);
-    let version = |(n, key): (usize, &u8)| record(store, slot, n + 1)[..16] == head(*key, 0, id)[..16];
-    if ascends(keys.iter().copied()) && rest.iter().all(|k| *k == 0) && keys.iter().enumerate().all(version) {
-        Seen::Committed(Entry { id, keys: key_set(keys.iter().copied()) })
+    let Some(keys) = keys_in(kind, r) else { return Seen::Damaged };
+    let version = |(n, key): (usize, u8)| record(kind, store, slot, n + 1)[..16] == head(key, 0, id)[..16];
+    if keys_of(keys).enumerate().all(version) {
+        Seen::Committed(Entry { id, keys })
     } else {
         Seen::Damaged
     }
@@ -285,7 +353,11 @@ pub fn seen(store: &[u8], slot: usize) -> Seen {
 
 impl Station {
     pub fn empty() -> Station {
-        Station { live: [Live::default(); LIVE], entries: [Entry::default(); SLOTS] }
+        Station::empty_of(Kind::Narrow)
+    }
+
+    pub fn empty_of(kind: Kind) -> Station {
+        Station { kind, live: [Live::default(); LIVE], entries: [Entry::default(); SLOTS] }
     }
 
     pub fn held(&self) -> impl Iterator<Item = (usize, &Entry)> {
@@ -293,7 +365,10 @@ impl Station {
     }
 
     pub fn sound(&self) -> bool {
-        if !self.entries.iter().all(|e| *e == Entry::default() || e.right()) {
+        if !self.entries.iter().all(|e| *e == Entry::default() || e.right(self.kind)) {
+            return false;
+        }
+        if self.held().any(|(d, _)| d >= self.kind.slots()) {
             return false;
         }
         if !self.live.iter().all(|l| l.sound(self)) {
@@ -326,7 +401,7 @@ impl Station {
 
     fn highest_free(&self) -> Option<usize> {
         let closing = |d: usize| self.live.iter().any(|l| matches!(l.phase, Phase::Closing { slot, .. } if usize::from(slot) == d));
-        (0..SLOTS).rev().find(|d| self.entries[*d].id.txn == 0 && !closing(*d))
+        (0..self.kind.slots()).rev().find(|d| self.entries[*d].id.txn == 0 && !closing(*d))
     }
 
     pub fn start(&mut self, txn: u32) -> Answer {
@@ -364,8 +439,9 @@ impl Station {
             Ok(i) => i,
             Err(r) => return r,
         };
+        let most = self.kind.writes();
         let l = &mut self.live[i];
-        if l.written() == WRITES && !has(l.keys, key) {
+        if l.written() == most && !has(l.keys, key) {
             return refused(11);
         }
         l.put(key, value);
@@ -395,7 +471,7 @@ impl Station {
     }
 
     pub fn get(&mut self, store: &[u8], txn: u32, key: u8) -> Answer {
-        if store.len() != STORE {
+        if store.len() != self.kind.store() {
             return refused(1);
         }
         if !self.sound() {
@@ -423,7 +499,7 @@ impl Station {
             return refused(12);
         }
         let e = self.entries[d];
-        let r = record(store, d, e.record_of(key));
+        let r = record(self.kind, store, d, e.record_of(key));
         if r[..16] != head(key, 0, e.id)[..16] {
             return refused(17);
         }
@@ -459,7 +535,7 @@ impl Station {
     }
 
     pub fn step(&mut self, store: &mut [u8], txn: u32) -> Answer {
-        if store.len() != STORE {
+        if store.len() != self.kind.store() {
             return refused(1);
         }
         if !self.sound() {
@@ -480,11 +556,11 @@ impl Station {
         }
         self.live[i].phase = Phase::Closing { slot, clock, stored: stored + 1 };
         if n == l.written() {
-            write(store, d, 0, &commit_record(&e));
+            write(self.kind, store, d, 0, &commit_record(self.kind, &e));
             return Answer::Slipped(slot);
         }
         let key = e.keys().nth(n).expect("a key is left to store");
-        write(store, d, n + 1, &version_record(key, e.id, l.values[n]));
+        write(self.kind, store, d, n + 1, &version_record(key, e.id, l.values[n]));
         Answer::Stored(key)
     }
 
@@ -505,14 +581,14 @@ impl Station {
     }
 
     pub fn collect(&mut self, store: &mut [u8], slot: u8) -> Answer {
-        if store.len() != STORE {
+        if store.len() != self.kind.store() {
             return refused(1);
         }
         if !self.sound() {
             return refused(2);
         }
         let d = usize::from(slot);
-        if d >= SLOTS || self.entries[d].id.txn == 0 {
+        if d >= self.kind.slots() || self.entries[d].id.txn == 0 {
             return refused(14);
         }
         if let Some(r) = self.must_stay(&self.entries[d]) {
@@ -536,17 +612,17 @@ impl Station {
     /// Collects an entry that may be collected, where its commit record is the entry's.
     fn clear(&mut self, store: &mut [u8], d: usize) -> Answer {
         let e = self.entries[d];
-        if *record(store, d, 0) != commit_record(&e) {
+        if *record(self.kind, store, d, 0) != commit_record(self.kind, &e) {
             return refused(17);
         }
-        write(store, d, 0, &[0; RECORD]);
+        write(self.kind, store, d, 0, &[0; RECORD]);
         self.entries[d] = Entry::default();
         Answer::Collected(e.id)
     }
 
     /// "It collects the oldest id it may, looks again, and stops at the limit or when it may collect none." What 17 names "ends the sweep".
     pub fn sweep(&mut self, store: &mut [u8], limit: u64) -> Answer {
-        if store.len() != STORE {
+        if store.len() != self.kind.store() {
             return refused(1);
         }
         if !self.sound() {
@@ -565,22 +641,49 @@ impl Station {
         Answer::Swept(count)
     }
 
-    /// A refused scan hands back the empty station.
     pub fn scan(store: &[u8]) -> (Station, Answer) {
-        let mut station = Station::empty();
-        if store.len() != STORE {
+        Station::scan_of(Kind::Narrow, store)
+    }
+
+    /// A refused scan hands back the empty station.
+    pub fn scan_of(kind: Kind, store: &[u8]) -> (Station, Answer) {
+        let mut station = Station::empty_of(kind);
+        if store.len() != kind.store() {
             return (station, refused(1));
         }
-        for d in 0..SLOTS {
-            match seen(store, d) {
+        for d in 0..kind.slots() {
+            match seen(kind, store, d) {
                 Seen::Free => {}
                 Seen::Committed(e) if station.held_at(e.id.txn).is_none() => station.entries[d] = e,
-                _ => return (Station::empty(), Answer::Refused(18, d as u8)),
+                _ => return (Station::empty_of(kind), Answer::Refused(18, d as u8)),
             }
         }
         let found = station.held().count() as u8;
         (station, Answer::Found(found))
     }
+}
+
+/// "committed drawers in order fill wide drawers from 0, all else zero. A move back does the reverse."
+pub fn move_between(from: Kind, to: Kind, source: &[u8], target: &mut [u8]) -> Answer {
+    if source.len() != from.store() || target.len() != to.store() {
+        return refused(1);
+    }
+    let (station, answer) = Station::scan_of(from, source);
+    let Answer::Found(found) = answer else { return answer };
+    if usize::from(found) > to.slots() {
+        return refused(22);
+    }
+    if station.held().any(|(_, e)| e.keys.count_ones() as usize > to.writes()) {
+        return refused(23);
+    }
+    target.fill(0);
+    for (filled, (d, e)) in station.held().enumerate() {
+        write(to, target, filled, 0, &commit_record(to, e));
+        for n in 1..=e.keys.count_ones() as usize {
+            write(to, target, filled, n, record(from, source, d, n));
+        }
+    }
+    Answer::Moved(found)
 }
 
 impl Answer {
@@ -602,6 +705,7 @@ impl Answer {
             Answer::Found(_) => "found",
             Answer::Refused(..) => "refused",
             Answer::Swept(_) => "swept",
+            Answer::Moved(_) => "moved",
         }
     }
 
@@ -613,7 +717,7 @@ impl Answer {
             Answer::Closing(d) | Answer::Slipped(d) => (d.into(), 0, 0),
             Answer::Done(id) | Answer::Collected(id) => (0, id.clock, id.txn.into()),
             Answer::Nofit(k) | Answer::Stored(k) => (k.into(), 0, 0),
-            Answer::Found(n) | Answer::Swept(n) => (n.into(), 0, 0),
+            Answer::Found(n) | Answer::Swept(n) | Answer::Moved(n) => (n.into(), 0, 0),
             Answer::Refused(n, d) => (n.into(), d.into(), 0),
             _ => (0, 0, 0),
         }

@@ -15,11 +15,14 @@ use calls::commit;
 use calls::get;
 use calls::put;
 use calls::scan;
+use calls::scan_wide;
 use calls::start;
 use calls::step;
 use calls::sweep;
 use desk::Request;
 use desk::act;
+use moving::move_back;
+use moving::move_out;
 use sheet::Command;
 use sheet::print_line;
 use soundness::is_sound;
@@ -122,6 +125,7 @@ fn code(a: Answer) -> u64
         Answer::Found(n) => n as u64 + 21,
         Answer::Refused(n, _) => n as u64 + 100000,
         Answer::Swept(n) => n as u64 + 23,
+        Answer::Moved(n) => n as u64 + 29,
     }
 }
 
@@ -342,6 +346,20 @@ pub extern "C" fn bench_scan(store: &[u8], rounds: u64) -> u64 {
     last
 }
 
+// A wide store.
+#[no_mangle]
+pub extern "C" fn bench_scan_wide(store: &[u8], rounds: u64) -> u64 {
+    let mut last = 0;
+    let mut i: u64 = 0;
+    while i < rounds {
+        let o = scan_wide(store);
+        let a = o.answer;
+        last = code(a);
+        i += 1;
+    }
+    last
+}
+
 // ---- clearing: over a store of its own each round, one after the other in what is lent
 // A sweep of the station.
 #[no_mangle]
@@ -423,6 +441,31 @@ pub extern "C" fn bench_print(
         i += 1;
         let n = print_line(out, i, Answer::Version(value, id));
         last = n as u64;
+    }
+    last
+}
+
+// ---- the moves
+#[no_mangle]
+pub extern "C" fn bench_move_out(narrow: &[u8], wide: &mut [u8], rounds: u64) -> u64 {
+    let mut last = 0;
+    let mut i: u64 = 0;
+    while i < rounds {
+        let a = move_out(narrow, wide);
+        last = code(a);
+        i += 1;
+    }
+    last
+}
+
+#[no_mangle]
+pub extern "C" fn bench_move_back(wide: &[u8], narrow: &mut [u8], rounds: u64) -> u64 {
+    let mut last = 0;
+    let mut i: u64 = 0;
+    while i < rounds {
+        let a = move_back(wide, narrow);
+        last = code(a);
+        i += 1;
     }
     last
 }

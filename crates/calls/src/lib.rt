@@ -1,5 +1,5 @@
 // The store's nine public calls and their types, under one name. Each takes whatever comes: any numbers, any station, any store bytes. All
-// but scan (crate recovery) test the station's soundness; what they then come to is decided in the crates transactions and storing,
+// but scan (crate recovery; of a wide store scan_wide) test the station's soundness; what they then come to is decided in the crates transactions and storing,
 // a sweep in crate sweeping.
 ghost use mathlib.Core.Path.{_≡_};
 ghost use Rattle.model.specs.Listed.{listed, listedOutcome};
@@ -15,12 +15,15 @@ ghost use Rattle.model.specs.Sweep.{sweep};
 pub use model::Answer;
 pub use model::Entry;
 pub use model::Id;
+pub use model::Kind;
 pub use model::Live;
 pub use model::Outcome;
 pub use model::Phase;
 pub use model::Read;
 pub use model::Station;
 pub use recovery::scan;
+pub use recovery::scan_of;
+pub use recovery::scan_wide;
 use soundness::is_sound;
 use stations::changed;
 

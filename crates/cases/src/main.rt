@@ -1,15 +1,19 @@
 // Runs the cases of its input and writes what came of each line: the answer, and whether station and store are as given.
 // Lines of the input:
 //   # TITLE                              a case, from an empty station and a store of zeros
+//   $ TITLE                              the same, wide
 //   % TITLE                              a case, from the busy station that the lines before the first such title make
 //   verb,txn,key,number                  a line of a run sheet
 //   <LENGTH,verb,txn,key,number          the same with LENGTH bytes of store
 //   ^LIMIT,LENGTH                        a sweep, which a sheet has no verb for, with LENGTH bytes of store
 //   *TXN,KEY,NUMBER                      a whole transaction: NUMBER put under KEY and committed at the clock NUMBER
+//   >SOURCE,TARGET                       a move of SOURCE bytes of the store into TARGET bytes, which are the store's own at first; where it is not
+//                                        refused, the store is the target from then on, and the station what a scan of it gives
 //   !slot SLOT,byte AT,BYTE              a byte of a slot is changed
 //   ~FIELD name,place PLACE,POSITION,VALUE   a field of the station is changed; crate edits numbers the fields
-// Of the last two only the digits are read. A title ends in the answers that 01 gives to its last lines; tests/cases.rs tests that.
+// A store is as long as the station's kind has it, where no length is given. Of the last two only the digits are read. A title ends in the answers that 01 gives to its last lines; tests/cases.rs tests that.
 use calls::Answer;
+use calls::Kind;
 use calls::Outcome;
 use calls::Station;
 use calls::abort;
@@ -17,7 +21,7 @@ use calls::collect;
 use calls::commit;
 use calls::get;
 use calls::put;
-use calls::scan;
+use calls::scan_of;
 use calls::start;
 use calls::step;
 use calls::sweep;
@@ -26,6 +30,10 @@ use edits::low8;
 use edits::low32;
 use edits::same_station;
 use libc::STDOUT_FILENO;
+use model::empty_of;
+use model::store_size;
+use moving::move_back;
+use moving::move_out;
 use sheet::Command;
 use sheet::same_bytes;
 ghost use mathlib.Core.Path.{_≡_};
@@ -128,11 +136,21 @@ fn edit(station: Station, line: &[u8]) -> Station {
 }
 
 // ---- a store's byte changed
-fn damage(bytes: &mut [u8], line: &[u8]) {
-    let slot = low8(number_in(line, 0)) as usize;
+// Where a slot begins.
+fn slot_place(kind: Kind, slot: u8) -> usize
+    ensures { λ r. ⌜ r ≤ 200000 ⌝ }
+{
+    match kind {
+        Kind::Narrow => slot as usize * Station::SLOT,
+        Kind::Wide => slot as usize * Station::WIDE_SLOT,
+    }
+}
+
+fn damage(kind: Kind, bytes: &mut [u8], line: &[u8]) {
+    let slot = low8(number_in(line, 0));
     let at = low8(number_in(line, 1)) as usize;
     let x = low8(number_in(line, 2));
-    let i = slot * Station::SLOT + at;
+    let i = slot_place(kind, slot) + at;
     if i < bytes.len() {
         bytes[i] = x;
     }
@@ -179,7 +197,8 @@ fn say_change(before: Station, after: Station, is_kept: bool) {
     if !is_kept {
         return say(b"; new station and store\n");
     }
-    if same_station(after, Station::empty()) {
+    let kind = after.kind;
+    if same_station(after, empty_of(kind)) {
         return say(b"; empty station\n");
     }
     say(b"; new station\n")
@@ -215,7 +234,10 @@ fn acted(station: Station, store: &mut [u8], command: Command) -> Outcome {
         Command::Step(txn) => step(station, store, txn),
         Command::Abort(txn) => abort(station, txn),
         Command::Collect(slot) => collect(station, store, slot),
-        Command::Cut => scan(store),
+        Command::Cut => {
+            let kind = station.kind;
+            scan_of(kind, store)
+        }
         Command::Malformed => malformed(station),
         Command::Sweep(limit) => sweep(station, store, limit),
     }
@@ -229,7 +251,8 @@ fn act_damage(
     is_quiet: bool,
 ) -> Station {
     copy_over(copy, bytes);
-    damage(bytes, line);
+    let kind = station.kind;
+    damage(kind, bytes, line);
     let is_kept = same_bytes(bytes, copy);
     if is_quiet {
         return station;
@@ -306,6 +329,58 @@ fn act_sweep(
     )
 }
 
+// What a move comes to: not refused, the station is what a scan of the target gives.
+fn after_move(station: Station, to: Kind, target: &[u8], said: Answer) -> Outcome {
+    if let Answer::Moved(_) = said {
+        let scanned = scan_of(to, target);
+        let next = scanned.station;
+        return Outcome {
+            station: next,
+            answer: said,
+        };
+    }
+    Outcome {
+        station,
+        answer: said,
+    }
+}
+
+fn moved(station: Station, source: &[u8], target: &mut [u8]) -> Outcome {
+    let kind = station.kind;
+    match kind {
+        Kind::Narrow => {
+            let out = move_out(source, target);
+            after_move(station, Kind::Wide, target, out)
+        }
+        Kind::Wide => {
+            let back = move_back(source, target);
+            after_move(station, Kind::Narrow, target, back)
+        }
+    }
+}
+
+// A move of so many bytes into so many.
+fn act_move(
+    station: Station,
+    bytes: &mut [u8],
+    copy: &mut [u8],
+    line: &[u8],
+    is_quiet: bool,
+) -> Station {
+    let from = index(number_in(line, 0));
+    let to = index(number_in(line, 1));
+    if from > copy.len() {
+        return station;
+    }
+    if to > bytes.len() {
+        return station;
+    }
+    copy_over(copy, bytes);
+    let o = moved(station, &copy[0..from], &mut bytes[0..to]);
+    let is_kept = same_bytes(bytes, copy);
+    report(line, station, o, is_kept, is_quiet)
+}
+
 // Three steps: one key's version record, the commit record, the entry.
 fn stepped(station: Station, store: &mut [u8], txn: u32) -> Outcome {
     let a = step(station, store, txn);
@@ -335,11 +410,13 @@ fn act_whole(
     let txn = low32(number_in(line, 0));
     let key = low8(number_in(line, 1));
     let number = number_in(line, 2);
-    if Station::STORE > bytes.len() {
+    let kind = station.kind;
+    let size = store_size(kind);
+    if size > bytes.len() {
         return station;
     }
     copy_over(copy, bytes);
-    let o = whole(station, &mut bytes[..Station::STORE], txn, key, number);
+    let o = whole(station, &mut bytes[0..size], txn, key, number);
     let is_kept = same_bytes(bytes, copy);
     report(line, station, o, is_kept, is_quiet)
 }
@@ -351,9 +428,9 @@ fn first_byte(line: &[u8]) -> u8 {
     line[0]
 }
 
-fn begun(bytes: &mut [u8]) -> Station {
+fn begun(kind: Kind, bytes: &mut [u8]) -> Station {
     clear(bytes);
-    Station::empty()
+    empty_of(kind)
 }
 
 // Any line but a busy case's title.
@@ -364,41 +441,42 @@ fn carried_out(
     line: &[u8],
     is_quiet: bool,
 ) -> Station {
-    let kind = first_byte(line);
-    if kind == b'#' {
+    let first = first_byte(line);
+    if first == b'#' {
         say_line(line, is_quiet);
-        return begun(bytes);
+        return begun(Kind::Narrow, bytes);
     }
-    if kind == b'!' {
+    if first == b'$' {
+        say_line(line, is_quiet);
+        return begun(Kind::Wide, bytes);
+    }
+    if first == b'>' {
+        return act_move(station, bytes, copy, line, is_quiet);
+    }
+    if first == b'!' {
         return act_damage(station, bytes, copy, line, is_quiet);
     }
-    if kind == b'~' {
+    if first == b'~' {
         return act_edit(station, line, is_quiet);
     }
-    if kind == b'*' {
+    if first == b'*' {
         return act_whole(station, bytes, copy, line, is_quiet);
     }
-    if kind == b'<' {
+    if first == b'<' {
         return act_short(station, bytes, copy, line, is_quiet);
     }
-    if kind == b'^' {
+    if first == b'^' {
         return act_sweep(station, bytes, copy, line, is_quiet);
     }
     let command = sheet::parse_line(line);
-    act(
-        station,
-        bytes,
-        copy,
-        line,
-        command,
-        Station::STORE,
-        is_quiet,
-    )
+    let kind = station.kind;
+    let size = store_size(kind);
+    act(station, bytes, copy, line, command, size, is_quiet)
 }
 
 // The busy station and its store.
 fn busy(head: &[u8], bytes: &mut [u8], copy: &mut [u8]) -> Station {
-    let mut s = begun(bytes);
+    let mut s = begun(Kind::Narrow, bytes);
     let mut at = 0;
     while at < head.len() {
         let end = find(head, at, b'\n');
@@ -417,7 +495,7 @@ fn turn(station: Station, bytes: &mut [u8], copy: &mut [u8], line: &[u8], head: 
 }
 
 fn run(text: &[u8], head: &[u8], bytes: &mut [u8], copy: &mut [u8]) {
-    let mut s = begun(bytes);
+    let mut s = begun(Kind::Narrow, bytes);
     let mut at = 0;
     while at < text.len() {
         let end = find(text, at, b'\n');

@@ -2,7 +2,7 @@
 // says of the station; the public calls (crate calls) are for who does not.
 use calls::Outcome;
 use calls::Station;
-use calls::scan;
+use calls::scan_of;
 use sheet::Command;
 use stations::Change;
 use stations::changed;
@@ -80,7 +80,8 @@ pub fn act(station: Station, store: &mut [u8], request: Request) -> Outcome
 {
     let command = request.command;
     if asks_scan(command) {
-        return scan(store);
+        let kind = station.kind;
+        return scan_of(kind, store);
     }
     if let Command::Sweep(limit) = command {
         return sweep(station, request.tested, store, limit);

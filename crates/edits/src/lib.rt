@@ -6,6 +6,7 @@ use model::Live;
 use model::Phase;
 use model::Read;
 use model::Station;
+use model::mark;
 use model::same_id;
 
 fn wide(x: u8) -> u64 {
@@ -154,6 +155,11 @@ fn same_entries(a: [Entry; Station::SLOTS], b: [Entry; Station::SLOTS]) -> bool 
 }
 
 pub fn same_station(a: Station, b: Station) -> bool {
+    let j = a.kind;
+    let k = b.kind;
+    if mark(j) != mark(k) {
+        return false;
+    }
     let v = a.live;
     let w = b.live;
     if !same_lives(v, w) {

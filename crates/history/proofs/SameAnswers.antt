@@ -6,8 +6,7 @@ use mathlib.Core.Bool.{true}
 use mathlib.Core.List.{List}
 use Rattle.model.specs.declared as machine
 use Rattle.model.specs.Types.{Station, Outcome}
-use Rattle.model.specs.Kinds.{narrowKind}
-use Rattle.model.specs.Listed.{listed, numbered}
+use Rattle.model.specs.Listed.{kindOf, listed, numbered}
 use Rattle.model.specs.Ranges.{Every, IsByte, StationFits, ListsFit}
 use Rattle.model.specs.Sound.{sound}
 use Rattle.model.specs.Effects.{Effect, outcomeOf, stored}
@@ -19,8 +18,8 @@ use Rattle.history.proofs.Carried.{returned-is}
 
 -- ── a station translated there and back is itself ──
 -- a station of the definitions that has a machine's places and ranges, the sound ones among them
-pub sound-there : (st : Station) → st .kind ≡ narrowKind → ListsFit st → listed (numbered st) ≡ st
-sound-there st k f = station-there st k f
+pub sound-there : (k : machine.Kind.Kind) (st : Station) → st .kind ≡ kindOf k → ListsFit st → listed (numbered st) ≡ st
+sound-there k st e f = station-there k st e f
 
 -- every station of the machine, the sound ones among them
 pub sound-back : (st : machine.Station.Station) → StationFits st → numbered (listed st) ≡ st
@@ -47,13 +46,13 @@ module _ (f : Functions) (m : Meets f) (c : Call) (s : List ℕ) (typed : IsType
         station-listed = there;
       }
 
-  pub same-answers-from-lists : (st : Station) → st .kind ≡ narrowKind → ListsFit st → Same (returned f c (numbered st) s) (does c st s) s
-  same-answers-from-lists st k o = subst (λ (x : Station). Same (returned f c (numbered st) s) (does c x s) s) (station-there st k o) (same-answers-from-numbers (numbered st) (numbered-fits st o))
+  pub same-answers-from-lists : (k : machine.Kind.Kind) (st : Station) → st .kind ≡ kindOf k → ListsFit st → Same (returned f c (numbered st) s) (does c st s) s
+  same-answers-from-lists k st e o = subst (λ (x : Station). Same (returned f c (numbered st) s) (does c x s) s) (station-there k st e o) (same-answers-from-numbers (numbered st) (numbered-fits st o))
 
   -- ── soundness is kept both ways ──
-  pub sound-both-ways : ((st : Station) → st .kind ≡ narrowKind → ListsFit st → sound st ≡ true → sound (listed (returned f c (numbered st) s .outcome .station)) ≡ true)
+  pub sound-both-ways : ((k : machine.Kind.Kind) (st : Station) → st .kind ≡ kindOf k → ListsFit st → sound st ≡ true → sound (listed (returned f c (numbered st) s .outcome .station)) ≡ true)
       × ((st : machine.Station.Station) → StationFits st → sound (listed st) ≡ true → sound (listed (returned f c st s .outcome .station)) ≡ true)
   sound-both-ways = (
-    λ st k o h. ap sound (same-answers-from-lists st k o .station-listed) ∙ sound-kept c st s h,
+    λ k st e o h. ap sound (same-answers-from-lists k st e o .station-listed) ∙ sound-kept c st s h,
     λ st o h. ap sound (same-answers-from-numbers st o .station-listed) ∙ sound-kept c (listed st) s h,
   )

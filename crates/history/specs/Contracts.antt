@@ -6,12 +6,14 @@ use mathlib.Core.Bool.{cond}
 use mathlib.Core.List.{List, [], _∷_}
 use mathlib.Core.Option.{Option, some, none}
 use lib.ListN.{replicate}
+use Rattle.model.specs.declared.Kind as machine
+use Rattle.model.specs.declared.Kind.the-variants.{Narrow, Wide}
 use Rattle.model.specs.declared.Station.{Station}
 use Rattle.model.specs.declared.Outcome.{Outcome}
 use Rattle.model.specs.Limits.{txnRange, numberRange}
-use Rattle.model.specs.Kinds.{narrowKind, storeSize}
+use Rattle.model.specs.Kinds.{narrowKind, wideKind, storeSize}
 use Rattle.model.specs.Types as L
-use Rattle.model.specs.Listed.{listed, listedOutcome, numbered}
+use Rattle.model.specs.Listed.{kindOf, listed, listedOutcome, numbered}
 use Rattle.model.specs.Stations.{emptyStation}
 use Rattle.model.specs.Ranges.{Every, IsByte, StationFits}
 use Rattle.model.specs.Effects.{outcomeOf, stored}
@@ -34,7 +36,7 @@ pub record Returned : Type 0 where
   pub outcome : Outcome
   pub store : List ℕ
 
--- nine functions, as crates calls and recovery have them
+-- the nine calls' functions, as crates calls and recovery have them; a scan makes a station of the kind that it is asked for
 pub record Functions : Type 0 where
   pub start : Station → ℕ → Outcome
   pub put : Station → ℕ → ℕ → ℕ → Outcome
@@ -44,7 +46,13 @@ pub record Functions : Type 0 where
   pub abort : Station → ℕ → Outcome
   pub collect : Station → List ℕ → ℕ → Returned
   pub scan : List ℕ → Outcome
+  pub scanWide : List ℕ → Outcome
   pub sweep : Station → List ℕ → ℕ → Returned
+
+-- the scan of a kind
+unfoldable pub scanBy : Functions → machine.Kind → List ℕ → Outcome
+scanBy f Narrow s = f .scan s
+scanBy f Wide s = f .scanWide s
 
 -- a call of one of them: a call that is lent no store, or lent it to read, leaves it
 unfoldable pub returned : Functions → Call → Station → List ℕ → Returned
@@ -55,7 +63,7 @@ returned f (C.Commit t c) st s = record { outcome = f .commit st t c; store = s 
 returned f (C.Step t) st s = f .step st s t
 returned f (C.Abort t) st s = record { outcome = f .abort st t; store = s }
 returned f (C.Collect d) st s = f .collect st s d
-returned f C.Scan st s = record { outcome = f .scan s; store = s }
+returned f C.Scan st s = record { outcome = scanBy f (st .kind) s; store = s }
 returned f (C.Sweep n) st s = f .sweep st s n
 
 -- the contracts, word for word: what they say of values within their types
@@ -70,6 +78,7 @@ pub record Meets (f : Functions) : Type 0 where
   pub collect : (st : Station) (s : List ℕ) (d : ℕ) → StationFits st → Every IsByte s → IsByte d
       → (listedOutcome (f .collect st s d .outcome) ≡ outcomeOf (Collect.collect (listed st) s d)) × (f .collect st s d .store ≡ stored (Collect.collect (listed st) s d .stores) s)
   pub scan : (s : List ℕ) → Every IsByte s → listedOutcome (f .scan s) ≡ outcomeOf (Scan.scan narrowKind s)
+  pub scan-wide : (s : List ℕ) → Every IsByte s → listedOutcome (f .scanWide s) ≡ outcomeOf (Scan.scan wideKind s)
   pub sweep : (st : Station) (s : List ℕ) (n : ℕ) → StationFits st → Every IsByte s → n < numberRange
       → (listedOutcome (f .sweep st s n .outcome) ≡ outcomeOf (Sweep.sweep (listed st) s n)) × (f .sweep st s n .store ≡ stored (Sweep.sweep (listed st) s n .stores) s)
   -- what a function hands back is within its types, as every value of the machine is
@@ -78,12 +87,13 @@ pub record Meets (f : Functions) : Type 0 where
 -- ── histories run by them ──
 -- a node that runs them, its store, and the ledger that is fed their answers
 pub record Host : Type 0 where
+  pub kind : machine.Kind
   pub node : Node Station
   pub store : List ℕ
   pub ledger : Ledger
 
-unfoldable pub hostBegin : Host
-hostBegin = record { node = running (numbered (emptyStation narrowKind)); store = replicate (storeSize narrowKind) 0; ledger = emptyLedger }
+unfoldable pub hostBegin : machine.Kind → Host
+hostBegin k = record { kind = k; node = running (numbered (emptyStation (kindOf k))); store = replicate (storeSize (kindOf k)) 0; ledger = emptyLedger }
 
 -- with the definitions' station: the world that it is
 abbrev pub listedNode : Node Station → Node L.Station
@@ -91,24 +101,24 @@ listedNode (running st) = running (listed st)
 listedNode down = down
 
 abbrev pub listedHost : Host → World
-listedHost h = record { kind = narrowKind; node = listedNode (h .node); store = h .store; ledger = h .ledger }
+listedHost h = record { kind = kindOf (h .kind); node = listedNode (h .node); store = h .store; ledger = h .ledger }
 
 -- the station that a function is handed: the one last handed back. After a cut a scan, which looks at none, gets the empty one
-unfoldable pub lent : Call → Node Station → Option Station
-lent c (running st) = some st
-lent c down = cond (isScan c) (some (numbered (emptyStation narrowKind))) none
+unfoldable pub lent : machine.Kind → Call → Node Station → Option Station
+lent k c (running st) = some st
+lent k c down = cond (isScan c) (some (numbered (emptyStation (kindOf k)))) none
 
 unfoldable pub afterReturn : Functions → Option Station → Call → Host → Host
 afterReturn f none c h = h
 afterReturn f (some st) c h =
     let r : Returned = returned f c st (h .store) in
-    record { node = running (r .outcome .station); store = r .store; ledger = fed (reports c (r .outcome .answer) (listed st) (h .store)) (h .ledger) }
+    record { kind = h .kind; node = running (r .outcome .station); store = r .store; ledger = fed (reports c (r .outcome .answer) (listed st) (h .store)) (h .ledger) }
 
 -- a contract speaks of a call that returns. Of one cut short, the first n of the records that its definition stores are written: a call writes
 -- them in that order, each whole, and no other byte
 unfoldable pub nextBy : Functions → Event → Host → Host
-nextBy f (called c) h = afterReturn f (lent c (h .node)) c h
-nextBy f (cut c n) h = let w : World = next (cut c n) (listedHost h) in record { node = down; store = w .store; ledger = w .ledger }
+nextBy f (called c) h = afterReturn f (lent (h .kind) c (h .node)) c h
+nextBy f (cut c n) h = let w : World = next (cut c n) (listedHost h) in record { kind = h .kind; node = down; store = w .store; ledger = w .ledger }
 
 unfoldable pub runBy : Functions → List Event → Host → Host
 runBy f [] h = h

@@ -115,3 +115,5 @@ feed (A.Stored k) c b = b
 feed (A.Refused n d) c b = b
 -- (a sweep is fed as its collects: Histories, `reports`)
 feed (A.Swept n) c b = b
+-- (no call of a station is answered so: Moves)
+feed (A.Moved n) c b = b

@@ -4,7 +4,7 @@ use mathlib.Core.Path.{_≡_, refl}
 use mathlib.Core.Bool.{true, false}
 use mathlib.Core.List.{List, [], _∷_, _++_}
 use lib.ListN.{replicate}
-use Rattle.model.specs.Kinds.{narrowKind}
+use Rattle.model.specs.Kinds.{narrowKind, wideKind}
 use Rattle.model.specs.declared.Live.{Live}
 use Rattle.model.specs.declared.Entry.{Entry}
 use Rattle.model.specs.declared.Phase.the-variants.{Closing}
@@ -12,9 +12,9 @@ use Rattle.model.specs.Lists.{_and_, same}
 use Rattle.model.specs.Bytes.{bytes, number, idIn}
 use Rattle.model.specs.Lives.{noRead, writesOf, closingSlot, closingClock, recordsStored}
 use Rattle.model.specs.KeySets.{setNumber}
-use Rattle.model.specs.Listed.{numbered}
+use Rattle.model.specs.Listed.{kindOf, kindNamed, numbered}
 use Rattle.model.specs.Stations.{emptyStation}
-use Rattle.image.specs.Layout.{flat, parts, fieldBytes, row, kindBytes, valueBytes, valueFrom, readBytes, readFrom, entryBytes, entryFrom, phaseNumber, phaseOf, phaseFrom, placeHead, keysFrom, placeSize, placesSize, imageSize}
+use Rattle.image.specs.Layout.{flat, parts, fieldBytes, row, kindBytes, kindFrom, valueBytes, valueFrom, readBytes, readFrom, entryBytes, entryFrom, phaseNumber, phaseOf, phaseFrom, placeHead, keysFrom, placeSize, placesSize, imageSize}
 use Rattle.image.specs.Images.{placeBytes, placeFrom, stationBytes, stationIn, isImage}
 
 -- a transaction that is closing: slot 5, clock 3, one record stored; writes of keys 7 and 9, values 300 and 6, and a read
@@ -60,22 +60,34 @@ entry-read = refl
 pub sizes : (placeSize ≡ 408) × (placesSize ≡ 3264) × (imageSize ≡ 4552)
 sizes = (refl, refl, refl)
 
--- the empty station's image is its kind's mark, and else all zero
+-- the empty station's image is its kind's mark, and else all zero: of the narrow kind, and of the wide
 pub empty-written : same (stationBytes (numbered (emptyStation narrowKind))) (1 ∷ replicate 4551 0) ≡ true
-unfolding stationBytes kindBytes emptyStation writesOf setNumber placeBytes placeHead row fieldBytes phaseNumber closingSlot closingClock recordsStored flat valueBytes readBytes entryBytes bytes same
+unfolding stationBytes kindOf kindNamed kindBytes emptyStation writesOf setNumber placeBytes placeHead row fieldBytes phaseNumber closingSlot closingClock recordsStored flat valueBytes readBytes entryBytes bytes same
 empty-written = refl
 
--- no kind; a kind's bytes that are not zero; a place's first byte that is no phase; bytes that are one too few
+pub empty-wide-written : same (stationBytes (numbered (emptyStation wideKind))) (2 ∷ replicate 4551 0) ≡ true
+unfolding stationBytes kindOf kindNamed kindBytes emptyStation writesOf setNumber placeBytes placeHead row fieldBytes phaseNumber closingSlot closingClock recordsStored flat valueBytes readBytes entryBytes bytes same
+empty-wide-written = refl
+
+pub wide-read : isImage (2 ∷ replicate 4551 0) ≡ true
+unfolding isImage _and_ stationBytes stationIn kindFrom kindNamed kindOf kindBytes placeBytes placeFrom placeHead keysFrom row fieldBytes phaseNumber phaseFrom phaseOf closingSlot closingClock recordsStored flat parts valueBytes valueFrom readBytes readFrom entryBytes entryFrom idIn number bytes same
+wide-read = refl
+
+-- no kind, twice; a kind's bytes that are not zero; a place's first byte that is no phase; bytes that are one too few
 pub no-kind : isImage (replicate 4552 0) ≡ false
-unfolding isImage _and_ stationBytes kindBytes row fieldBytes flat same
+unfolding isImage _and_ stationBytes stationIn kindFrom kindNamed kindOf kindBytes row fieldBytes flat same
 no-kind = refl
 
+pub kind-three : isImage (3 ∷ replicate 4551 0) ≡ false
+unfolding isImage _and_ stationBytes stationIn kindFrom kindNamed kindOf kindBytes row fieldBytes flat same
+kind-three = refl
+
 pub kind-not-alone : isImage (1 ∷ 0 ∷ 1 ∷ replicate 4549 0) ≡ false
-unfolding isImage _and_ stationBytes kindBytes row fieldBytes flat same
+unfolding isImage _and_ stationBytes stationIn kindFrom kindNamed kindOf kindBytes row fieldBytes flat same
 kind-not-alone = refl
 
 pub phase-three : isImage (1 ∷ replicate 7 0 ++ (3 ∷ replicate 4543 0)) ≡ false
-unfolding isImage _and_ stationBytes stationIn kindBytes placeBytes placeFrom placeHead keysFrom row fieldBytes phaseNumber phaseFrom phaseOf closingSlot closingClock recordsStored flat parts valueBytes valueFrom readBytes readFrom entryBytes entryFrom idIn number bytes same
+unfolding isImage _and_ stationBytes stationIn kindFrom kindNamed kindOf kindBytes placeBytes placeFrom placeHead keysFrom row fieldBytes phaseNumber phaseFrom phaseOf closingSlot closingClock recordsStored flat parts valueBytes valueFrom readBytes readFrom entryBytes entryFrom idIn number bytes same
 phase-three = refl
 
 pub one-short : isImage (1 ∷ replicate 4550 0) ≡ false

@@ -5,8 +5,8 @@ pub use mathlib.Core.Logic.{_≢_}
 pub use mathlib.Core.Bool.{Bool, true, false, true≢false}
 pub use mathlib.Core.List.{List, [], _∷_, _++_, map, append-nil, append-assoc}
 pub use lib.ListN.{length, drop, length-drop, take, getD, set, replicate, length-append, length-map, take-append-drop, drop-of-length-le, length-set, length-replicate}
-pub use lib.Dec.{eqb}
-pub use lib.Seq.{take-at, drop-at, drop-drop, length-take-le, drop-cons, take-all, take-suc-set, take-add, take-append-add}
+pub use lib.Dec.{eqb, lit<}
+pub use lib.Seq.{take-at, drop-at, drop-drop, length-take-le, drop-cons, take-all, getD-take, take-suc-set, take-add, take-append-add}
 pub use native.Mathlib.Omega.{arith}
 pub use native.Mathlib.Nat.{mul-zero, mul-suc, add-comm, suc-ne-zero, zero-lt-suc, pow-succ', mul-one, mul-le-mul-left}
 pub use native.Mathlib.Numerals.{add-one}
@@ -20,10 +20,12 @@ pub use Rattle.model.specs.declared.Phase.{Phase}
 pub use Rattle.model.specs.declared.Phase.the-variants.{Unused, Open, Closing}
 pub use Rattle.model.specs.declared.Station.{Station}
 pub use Rattle.model.specs.Limits.{writePlaces, readLimit, numberRange, byteRange, livePlaces, entryPlaces}
-pub use Rattle.model.specs.Kinds.{narrowKind}
+pub use Rattle.model.specs.declared.Kind.{Kind}
+pub use Rattle.model.specs.declared.Kind.the-variants.{Narrow, Wide}
 pub use Rattle.model.specs.Ranges.{IsByte, IdFits, ReadFits, PhaseFits, LiveFits, EntryFits, Every, StationFits}
 unfoldable pub use Rattle.model.specs.Lists.{_and_, all, same}
 unfoldable pub use Rattle.model.specs.Bytes.{bytes, number, idIn}
+unfoldable pub use Rattle.model.specs.Listed.{kindOf, kindNamed}
 unfoldable pub use Rattle.model.specs.Lives.{closingSlot, closingClock, recordsStored}
 pub use Rattle.model.proofs.Tests.{and-none-left, and-none-right, and-intro, and-left, and-right}
 pub use Rattle.model.proofs.ListLaws.{every-append}
@@ -32,5 +34,5 @@ pub use Rattle.model.proofs.RangesKept.{bytes-zeros}
 pub use Rattle.model.proofs.RecordLaws.{Bytes, bytes-take, bytes-drop, length-bytes, number-bytes, same-refl, bytes-number, same-true}
 pub use Rattle.records.proofs.SlotSteps.{part-length}
 pub use Rattle.image.specs.Layout.{Field, num, raw}
-unfoldable pub use Rattle.image.specs.Layout.{kindSize, headSize, valueSize, valuesSize, readSize, readsSize, placeSize, fieldBytes, row, flat, parts, kindRow, kindBytes, valueBytes, valueFrom, startBytes, readRow, readBytes, readFrom, entryRow, entryBytes, entryFrom, phaseNumber, phaseOf, phaseFrom, headRow, placeHead, keysFrom, byte, zeros, placesSize, entrySize, entriesSize, imageSize}
+unfoldable pub use Rattle.image.specs.Layout.{kindSize, headSize, valueSize, valuesSize, readSize, readsSize, placeSize, fieldBytes, row, flat, parts, kindRow, kindBytes, kindFrom, valueBytes, valueFrom, startBytes, readRow, readBytes, readFrom, entryRow, entryBytes, entryFrom, phaseNumber, phaseOf, phaseFrom, headRow, placeHead, keysFrom, byte, zeros, placesSize, entrySize, entriesSize, imageSize}
 unfoldable pub use Rattle.image.specs.Images.{isAlone, placeBytes, placeFrom, isKind, isHead, isPlace, stationBytes, stationIn, isImage}

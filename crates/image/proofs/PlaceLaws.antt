@@ -1,22 +1,45 @@
 -- The rows of an image and a place (specs/Layout, specs/Images), by their fields: as long as they say, read back, and tested.
-use Rattle.image.proofs.Names.{ℕ, zero, suc, _+_, _^_, _<_, _≤_, _≡_, refl, sym, ap, subst, _∙_, _≢_, Bool, true, List, [], _∷_, _++_, map, eqb, length, take, drop, getD, set, length-append, length-drop, drop-at, drop-drop, arith, putMid, Id, Live, Entry, Phase, Unused, Open, Closing, writePlaces, readLimit, numberRange, byteRange, narrowKind, _and_, all, same, bytes, number, idIn, closingSlot, closingClock, recordsStored, and-intro, Bytes, bytes-drop, length-bytes, number-bytes, bytes-number, same-refl, kindSize, headSize, valueSize, valuesSize, readSize, readsSize, placeSize, entrySize, Field, num, fieldBytes, row, flat, parts, kindRow, kindBytes, valueBytes, valueFrom, startBytes, readRow, readBytes, readFrom, entryRow, entryBytes, entryFrom, phaseNumber, phaseOf, phaseFrom, headRow, placeHead, keysFrom, isAlone, placeBytes, placeFrom, isKind, isHead, isPlace, Every, IsByte, IdFits, ReadFits, PhaseFits, LiveFits, EntryFits, every-append, bytes-are, bytes-zeros}
+use Rattle.image.proofs.Names.{ℕ, zero, suc, _+_, _^_, _<_, _≤_, _≡_, refl, sym, ap, subst, _∙_, _≢_, Bool, true, List, [], _∷_, _++_, map, eqb, length, take, drop, getD, set, length-append, length-drop, drop-at, drop-drop, arith, putMid, Id, Live, Entry, Phase, Unused, Open, Closing, writePlaces, readLimit, numberRange, byteRange, Kind, Narrow, Wide, kindOf, kindNamed, kindFrom, getD-take, lit<, _and_, all, same, bytes, number, idIn, closingSlot, closingClock, recordsStored, and-intro, Bytes, bytes-drop, length-bytes, number-bytes, bytes-number, same-refl, kindSize, headSize, valueSize, valuesSize, readSize, readsSize, placeSize, entrySize, Field, num, fieldBytes, row, flat, parts, kindRow, kindBytes, valueBytes, valueFrom, startBytes, readRow, readBytes, readFrom, entryRow, entryBytes, entryFrom, phaseNumber, phaseOf, phaseFrom, headRow, placeHead, keysFrom, isAlone, placeBytes, placeFrom, isKind, isHead, isPlace, Every, IsByte, IdFits, ReadFits, PhaseFits, LiveFits, EntryFits, every-append, bytes-are, bytes-zeros}
 use Rattle.image.proofs.PartLaws.{parts-take}
 use Rattle.image.proofs.RowLaws.{spread-all, begins-part, begins-then, begins-at, begins-all, begins-only, and-end, and-true, rowAt, row-begins, row-is, own-byte, byte-is, own-number, number-is, zeros-are, alone-row, number-small, number-fits, row-bytes, Coded, array-bytes, array-long, array-back, array-last, array-many, array-fits, array-begins}
 
 -- ── the kind, by its mark ──
-pub kind-is : (b : List ℕ) → length b ≡ kindSize → Bytes b → isKind b ≡ (eqb (narrowKind .mark) (getD b 0 0) and isAlone kindSize b)
+pub kind-is : (b : List ℕ) → length b ≡ kindSize → Bytes b → isKind b ≡ (eqb (kindOf (kindFrom b) .mark) (getD b 0 0) and isAlone kindSize b)
 unfolding isKind kindBytes fieldBytes isAlone
 kind-is b l y =
-    row-is (kindRow (narrowKind .mark)) b (refl, (refl, tt)) l
-    ∙ (rw (byte-is b 0 (narrowKind .mark) (omega arith), zeros-are b 1 7 (omega arith) y, and-end))
+    row-is (kindRow (kindOf (kindFrom b) .mark)) b (refl, (refl, tt)) l
+    ∙ (rw (byte-is b 0 (kindOf (kindFrom b) .mark) (omega arith), zeros-are b 1 7 (omega arith) y, and-end))
 
-pub kind-long : length (kindBytes (narrowKind .mark)) ≡ kindSize
+pub kind-long : (m : ℕ) → length (kindBytes m) ≡ kindSize
 unfolding kindBytes row flat fieldBytes
-kind-long = refl
+kind-long m = refl
 
-pub kind-bytes : Every IsByte (kindBytes (narrowKind .mark))
+pub kind-bytes : (m : ℕ) → IsByte m → Every IsByte (kindBytes m)
 unfolding kindBytes fieldBytes
-kind-bytes = row-bytes (kindRow (narrowKind .mark)) ((omega arith, tt), (bytes-zeros 7, tt))
+kind-bytes m h = row-bytes (kindRow m) ((h, tt), (bytes-zeros 7, tt))
+
+-- it is read off the first byte alone
+pub kind-part : (b : List ℕ) → same (kindBytes (kindOf (kindFrom b) .mark)) (take kindSize b) ≡ isKind (take kindSize b)
+unfolding isKind kindFrom
+kind-part b = ap (λ (m : ℕ). same (kindBytes (kindOf (kindNamed m) .mark)) (take kindSize b)) (sym (getD-take kindSize b 0 0 (lit< tt)))
+
+pub kind-first : (m : ℕ) (b : List ℕ) → kindFrom (kindBytes m ++ b) ≡ kindNamed m
+unfolding kindFrom kindBytes row flat fieldBytes
+kind-first m b = refl
+
+pub kind-wide : (b : List ℕ) → getD b 0 0 ≡ 2 → Wide ≡ kindFrom b
+unfolding kindFrom kindNamed
+kind-wide b h = sym (ap kindNamed h)
+
+pub kind-narrow : (b : List ℕ) → getD b 0 0 ≢ 2 → Narrow ≡ kindFrom b
+unfolding kindFrom
+kind-narrow b n = sym (go (getD b 0 0) n)
+  where
+    go : (m : ℕ) → m ≢ 2 → kindNamed m ≡ Narrow
+    go zero n = unfold kindNamed in refl
+    go (suc zero) n = unfold kindNamed in refl
+    go (suc (suc zero)) n = absurd (n refl)
+    go (suc (suc (suc m))) n = unfold kindNamed in refl
 
 -- ── any bytes of the right length are a value's, or an entry's ──
 abbrev pub anyBytes : List ℕ → Bool
@@ -205,9 +228,10 @@ place-coded = record {
 }
 
 -- ── what is written over the parts of a row ──
-pub kind-written : (n : ℕ) → n ≡ kindSize → bytes n (narrowKind .mark) ≡ kindBytes (narrowKind .mark)
-unfolding kindBytes row flat fieldBytes bytes
-kind-written n e = rw e
+pub kind-written : (n : ℕ) (k : Kind) → n ≡ kindSize → bytes n (kindOf k .mark) ≡ kindBytes (kindOf k .mark)
+unfolding kindOf kindBytes row flat fieldBytes bytes
+kind-written n Narrow e = rw e
+kind-written n Wide e = rw e
 
 pub value-written : (n x : ℕ) (y : List ℕ) → n ≡ valueSize → y ≡ bytes n x → y ≡ valueBytes x
 unfolding valueBytes

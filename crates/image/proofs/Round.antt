@@ -1,8 +1,9 @@
 -- A station is written as bytes from which it is read back, and bytes are an image exactly where they are those of the station read.
-use Rattle.image.proofs.Names.{ℕ, _+_, _≤_, _≡_, sym, ap, ap₂, _∙_, _≢_, Bool, true, false, List, _++_, map, length, take, drop, length-append, length-drop, drop-at, drop-drop, arith, eqb-true, eq-eqb, ne-eqb, Station, livePlaces, entryPlaces, entrySize, narrowKind, _and_, all, same, and-left, and-right, and-intro, Bytes, bytes-drop, same-refl, same-true, kindSize, placeSize, placesSize, entriesSize, imageSize, flat, parts, kindBytes, entryBytes, entryFrom, placeBytes, placeFrom, isKind, isPlace, stationBytes, stationIn, isImage, StationFits, Every, IsByte, every-append}
+use Rattle.image.proofs.Names.{ℕ, _+_, _≤_, _≡_, sym, ap, ap₂, _∙_, _≢_, Bool, true, false, List, _++_, map, length, take, drop, length-append, length-drop, drop-at, drop-drop, arith, eqb-true, eq-eqb, ne-eqb, Station, livePlaces, entryPlaces, entrySize, kindOf, kindFrom, subst, _and_, all, same, and-left, and-right, and-intro, Bytes, bytes-drop, same-refl, same-true, kindSize, placeSize, placesSize, entriesSize, imageSize, flat, parts, kindBytes, entryBytes, entryFrom, placeBytes, placeFrom, isKind, isPlace, stationBytes, stationIn, isImage, StationFits, Every, IsByte, every-append}
+use Rattle.model.proofs.ListedLaws as lists
 use Rattle.image.proofs.PartLaws.{parts-take}
-use Rattle.image.proofs.RowLaws.{and-end, begins-part, begins-then, begins-at, begins-all, array-long, array-back, array-last, array-many, array-fits, array-begins, array-bytes}
-use Rattle.image.proofs.PlaceLaws.{kind-long, kind-bytes, anyBytes, any-parts, entry-coded, place-coded}
+use Rattle.image.proofs.RowLaws.{and-end, Begins, begins-part, begins-then, begins-at, begins-all, array-long, array-back, array-last, array-many, array-fits, array-begins, array-bytes}
+use Rattle.image.proofs.PlaceLaws.{kind-long, kind-bytes, kind-part, kind-first, anyBytes, any-parts, entry-coded, place-coded}
 
 -- ── bytes are an image ──
 pub no-image : (b : List ℕ) → length b ≢ imageSize → isImage b ≡ false
@@ -28,9 +29,10 @@ module _ (b : List ℕ) (l : length b ≡ imageSize) (y : Bytes b) where
   entries-in = omega (arith, length-drop (kindSize + placesSize) b)
 
   image-tested : isImage b ≡ (isKind (take kindSize b) and (all isPlace (parts placeSize livePlaces placesPart) and all anyBytes (parts entrySize entryPlaces entriesPart)))
-  unfolding isImage isKind stationBytes stationIn _and_
+  unfolding isImage stationBytes stationIn _and_
   image-tested =
-      let k = begins-part (kindBytes (narrowKind .mark)) b kindSize kind-long (omega arith) in
+      let m = kindOf (kindFrom b) .mark in
+      let k = subst (Begins (kindBytes m) b kindSize) (kind-part b) (begins-part (kindBytes m) b kindSize (kind-long m) (omega arith)) in
       let p = array-begins place-coded livePlaces placesPart places-in (bytes-drop kindSize b y) in
       let e = array-begins entry-coded entryPlaces entriesPart entries-in (bytes-drop (kindSize + placesSize) b y) in
       let o : length b ≤ kindSize + (placesSize + entriesSize) = omega arith in
@@ -56,7 +58,7 @@ module _ (b : List ℕ) (l : length b ≡ imageSize) (y : Bytes b) where
 -- ── there and back ──
 module _ (st : Station) (f : StationFits st) where
   abbrev kindPart : List ℕ
-  kindPart = kindBytes (narrowKind .mark)
+  kindPart = kindBytes (kindOf (st .kind) .mark)
 
   abbrev livePart : List ℕ
   livePart = flat placeBytes (st .live)
@@ -70,17 +72,18 @@ module _ (st : Station) (f : StationFits st) where
   -- the image has 4,552 bytes
   pub image-long : length (stationBytes st) ≡ imageSize
   unfolding stationBytes
-  image-long = length-append kindPart (livePart ++ entryPart) ∙ ap₂ _+_ kind-long (length-append livePart entryPart ∙ ap₂ _+_ live-long (array-long entry-coded (st .entries) entryPlaces (f .entry-places) (f .entries)))
+  image-long = length-append kindPart (livePart ++ entryPart) ∙ ap₂ _+_ (kind-long (kindOf (st .kind) .mark)) (length-append livePart entryPart ∙ ap₂ _+_ live-long (array-long entry-coded (st .entries) entryPlaces (f .entry-places) (f .entries)))
 
-  -- the station is read off its image
+  -- the station is read off its image; its kind, off its mark
   pub station-back : stationIn (stationBytes st) ≡ st
   unfolding stationBytes stationIn
   station-back =
-      let k : drop kindSize (kindPart ++ (livePart ++ entryPart)) ≡ livePart ++ entryPart = drop-at kindPart (livePart ++ entryPart) kindSize kind-long in
+      let k : drop kindSize (kindPart ++ (livePart ++ entryPart)) ≡ livePart ++ entryPart = drop-at kindPart (livePart ++ entryPart) kindSize (kind-long (kindOf (st .kind) .mark)) in
       let d : drop (kindSize + placesSize) (kindPart ++ (livePart ++ entryPart)) ≡ entryPart = sym (drop-drop placesSize kindSize (kindPart ++ (livePart ++ entryPart))) ∙ ap (drop placesSize) k ∙ drop-at livePart entryPart placesSize live-long in
       λ z. record {
         live = (ap (λ (b : List ℕ). map placeFrom (parts placeSize livePlaces b)) k ∙ array-back place-coded (st .live) livePlaces (f .live-places) (f .live) entryPart) z;
         entries = (ap (λ (b : List ℕ). map entryFrom (parts entrySize entryPlaces b)) d ∙ array-last entry-coded (st .entries) entryPlaces (f .entry-places) (f .entries)) z;
+        kind = (kind-first (kindOf (st .kind) .mark) (livePart ++ entryPart) ∙ ap (λ (x : Station). x .kind) (lists.station-back st f)) z;
       }
 
   pub image-round : (isImage (stationBytes st) ≡ true) × (stationIn (stationBytes st) ≡ st)
@@ -90,7 +93,7 @@ module _ (st : Station) (f : StationFits st) where
   -- every number of it is a byte
   pub image-bytes : Every IsByte (stationBytes st)
   unfolding stationBytes
-  image-bytes = every-append IsByte kindPart (livePart ++ entryPart) kind-bytes (every-append IsByte livePart entryPart (array-bytes place-coded (st .live) (f .live)) (array-bytes entry-coded (st .entries) (f .entries)))
+  image-bytes = every-append IsByte kindPart (livePart ++ entryPart) (kind-bytes (kindOf (st .kind) .mark) (lists.kind-fits (st .kind) .mark8)) (every-append IsByte livePart entryPart (array-bytes place-coded (st .live) (f .live)) (array-bytes entry-coded (st .entries) (f .entries)))
 
 -- bytes that are a station's image
 pub image-of : (st : Station) (b : List ℕ) → StationFits st → b ≡ stationBytes st → (isImage b ≡ true) × (stationIn b ≡ st)

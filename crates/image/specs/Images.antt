@@ -8,9 +8,9 @@ use Rattle.model.specs.declared.Live.{Live}
 use Rattle.model.specs.declared.Station.{Station}
 use Rattle.model.specs.Lists.{_and_, same}
 use Rattle.model.specs.Limits.{livePlaces, entryPlaces, writePlaces, readLimit}
-use Rattle.model.specs.Kinds.{narrowKind}
 use Rattle.model.specs.Bytes.{number, idIn}
-use Rattle.image.specs.Layout.{kindSize, headSize, valueSize, valuesSize, readSize, placeSize, placesSize, entrySize, imageSize, flat, parts, kindBytes, valueBytes, valueFrom, readBytes, readFrom, entryBytes, entryFrom, placeHead, phaseFrom, keysFrom}
+use Rattle.model.specs.Listed.{kindOf}
+use Rattle.image.specs.Layout.{kindSize, headSize, valueSize, valuesSize, readSize, placeSize, placesSize, entrySize, imageSize, flat, parts, kindBytes, kindFrom, valueBytes, valueFrom, readBytes, readFrom, entryBytes, entryFrom, placeHead, phaseFrom, keysFrom}
 
 -- ── "then 16 values of 8 bytes; then 16 reads of 16 bytes" ──
 unfoldable pub placeBytes : Live → List ℕ
@@ -28,17 +28,18 @@ placeFrom b = record {
 
 -- ── "Head, 8 bytes", "live place .. eight of them", "entry .. 64 of them after the places" ──
 unfoldable pub stationBytes : Station → List ℕ
-stationBytes st = kindBytes (narrowKind .mark) ++ (flat placeBytes (st .live) ++ flat entryBytes (st .entries))
+stationBytes st = kindBytes (kindOf (st .kind) .mark) ++ (flat placeBytes (st .live) ++ flat entryBytes (st .entries))
 
 unfoldable pub stationIn : List ℕ → Station
 stationIn b = record {
   live = map placeFrom (parts placeSize livePlaces (drop kindSize b));
   entries = map entryFrom (parts entrySize entryPlaces (drop (kindSize + placesSize) b));
+  kind = kindFrom b;
 }
 
--- ── bytes are an image, or a part's, where they are the bytes of what is read off them: every zero and every phase is as it must be ──
+-- ── bytes are an image, or a part's, where they are the bytes of what is read off them: every zero, the mark and every phase is as it must be ──
 unfoldable pub isKind : List ℕ → Bool
-isKind b = same (kindBytes (narrowKind .mark)) b
+isKind b = same (kindBytes (kindOf (kindFrom b) .mark)) b
 
 unfoldable pub isHead : List ℕ → Bool
 isHead b = same (placeHead (phaseFrom b) (idIn b .txn) (getD b 3 0) (keysFrom b)) (take headSize b)

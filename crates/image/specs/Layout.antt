@@ -1,6 +1,6 @@
 -- The station as an image of fixed length in lent bytes, for hosts in other languages (image version 3): sizes, and the bytes of each part.
 -- "All numbers are least byte first; 4,552 bytes.
--- Head, 8 bytes: byte 0 the kind of the station's store, by its mark (1 narrow), bytes 1 to 7 zero.
+-- Head, 8 bytes: byte 0 the kind of the station's store, by its mark (1 narrow, 2 wide), bytes 1 to 7 zero.
 -- Live place, 408 bytes, eight of them: byte 0 phase (0 unused, 1 open, 2 closing), byte 1 slot, byte 2 records stored (both 0 unless
 -- closing), byte 3 count of reads, bytes 4 to 7 transaction, bytes 8 to 15 clock (0 unless closing), bytes 16 to 23 the write set's keys (a
 -- number in which bit k stands for key k); then 16 values of 8 bytes; then 16 reads of 16 bytes (key, three zeros, transaction 4, clock 8).
@@ -13,8 +13,10 @@ use Rattle.model.specs.declared.Read.{Read}
 use Rattle.model.specs.declared.Entry.{Entry}
 use Rattle.model.specs.declared.Phase.{Phase}
 use Rattle.model.specs.declared.Phase.the-variants.{Unused, Open, Closing}
+use Rattle.model.specs.declared.Kind.{Kind}
 use Rattle.model.specs.Limits.{livePlaces, entryPlaces, writePlaces, readLimit}
 use Rattle.model.specs.Bytes.{bytes, number, idIn}
+use Rattle.model.specs.Listed.{kindNamed}
 use Rattle.model.specs.Lives.{closingSlot, closingClock, recordsStored}
 
 -- ── sizes ──
@@ -90,6 +92,10 @@ kindRow m = byte m ∷ zeros 7 ∷ []
 
 unfoldable pub kindBytes : ℕ → List ℕ
 kindBytes m = row (kindRow m)
+
+-- any other mark than the wide kind's is taken as the narrow kind's, and is then not among the bytes written
+unfoldable pub kindFrom : List ℕ → Kind
+kindFrom b = kindNamed (getD b 0 0)
 
 -- ── "values of 8 bytes" ──
 unfoldable pub valueBytes : ℕ → List ℕ

@@ -1,10 +1,12 @@
 // The station as an image of fixed length in lent bytes, for hosts in other languages. Its layout is defined in specs/.
 use model::Entry;
 use model::Id;
+use model::Kind;
 use model::Live;
 use model::Phase;
 use model::Read;
 use model::Station;
+use model::mark;
 use records::id_in;
 use records::number_in;
 use records::write_number;
@@ -15,11 +17,10 @@ ghost use mathlib.Core.List.{map};
 ghost use lib.ListN.{length};
 ghost use Rattle.model.specs.Lists.{all};
 ghost use Rattle.model.specs.Limits.{livePlaces, entryPlaces, writePlaces, readLimit};
-ghost use Rattle.model.specs.Kinds.{narrowKind};
 ghost use Rattle.model.specs.Bytes.{idIn};
-ghost use Rattle.model.specs.Listed.{listed, numbered};
+ghost use Rattle.model.specs.Listed.{kindOf, listed, numbered};
 ghost use Rattle.model.specs.Lives.{closingSlot, closingClock, recordsStored};
-ghost use Rattle.image.specs.Layout.{kindSize, headSize, valueSize, valuesSize, readSize, readsSize, placeSize, placesSize, entrySize, entriesSize, imageSize, flat, parts, kindBytes, valueBytes, valueFrom, startBytes, readBytes, readFrom, entryBytes, entryFrom, phaseNumber, placeHead, phaseFrom};
+ghost use Rattle.image.specs.Layout.{kindSize, headSize, valueSize, valuesSize, readSize, readsSize, placeSize, placesSize, entrySize, entriesSize, imageSize, flat, parts, kindBytes, kindFrom, valueBytes, valueFrom, startBytes, readBytes, readFrom, entryBytes, entryFrom, phaseNumber, placeHead, phaseFrom};
 ghost use Rattle.image.specs.Images.{placeBytes, placeFrom, stationBytes, stationIn, isAlone, isKind, isHead, isPlace, isImage};
 
 // The bytes of what stands before a place's values, of a value and of a read, and where a place's reads begin.
@@ -42,8 +43,8 @@ const ENTRIES_AT: usize = KIND + PLACE * Station::LIVE;
 
 pub const IMAGE: usize = ENTRIES_AT + ENTRY * Station::SLOTS;
 
-// The mark of a narrow store.
-const NARROW: u8 = 1;
+// The mark of a wide store.
+const WIDE: u8 = 2;
 
 // A phase's number.
 const UNUSED: u8 = 0;
@@ -75,12 +76,14 @@ fn is_alone(row: &[u8], width: usize) -> bool
     number_in(&row[1..width]) == 0
 }
 
-// The bytes that say the kind of the station's store.
+// The bytes that say the kind of the station's store: the kind that is read, written again, has the same mark.
 fn is_kind(b: &[u8]) -> bool
     requires { ⌜ length (now b) ≡ kindSize ⌝ }
     ensures { λ r. ⌜ r ≡ isKind (now (b .entry)) ⌝ }
 {
-    if b[0] != NARROW {
+    let kind = kind_in(b);
+    let written = mark(kind);
+    if written != b[0] {
         return false;
     }
     is_alone(b, KIND)
@@ -161,6 +164,17 @@ pub fn is_image(bytes: &[u8]) -> bool
 }
 
 // ---- parts read off
+// The kind of the station's store, by its mark; any other mark than the wide kind's is taken as the narrow kind's.
+fn kind_in(b: &[u8]) -> Kind
+    requires { ⌜ kindSize ≤ length (now b) ⌝ }
+    ensures { λ r. ⌜ r ≡ kindFrom (now (b .entry)) ⌝ }
+{
+    if b[0] == WIDE {
+        return Kind::Wide;
+    }
+    Kind::Narrow
+}
+
 fn read_in(b: &[u8]) -> Read
     requires { ⌜ length (now b) ≡ readSize ⌝ }
     ensures { λ r. ⌜ r ≡ readFrom (now (b .entry)) ⌝ }
@@ -291,20 +305,25 @@ pub fn read_image(bytes: &[u8]) -> Image
             station: empty,
         };
     }
+    let kind = kind_in(bytes);
     let live = places_in(&bytes[KIND..ENTRIES_AT]);
     let entries = entries_in(&bytes[ENTRIES_AT..IMAGE]);
     Image {
         whole: true,
-        station: Station { live, entries },
+        station: Station {
+            live,
+            entries,
+            kind,
+        },
     }
 }
 
 // ---- parts written
-fn write_kind(part: &mut [u8])
+fn write_kind(part: &mut [u8], kind: Kind)
     requires { ⌜ length (now part) ≡ kindSize ⌝ }
-    ensures { λ _. ⌜ now (part .exit) ≡ kindBytes (narrowKind .mark) ⌝ }
+    ensures { λ _. ⌜ now (part .exit) ≡ kindBytes (kindOf kind .mark) ⌝ }
 {
-    write_number(part, NARROW as u64);
+    write_number(part, mark(kind) as u64);
 }
 
 // Four bytes and an id: a read, and what begins a place.
@@ -449,7 +468,8 @@ pub fn write_image(bytes: &mut [u8], station: Station)
 {
     let live = station.live;
     let entries = station.entries;
-    write_kind(&mut bytes[0..KIND]);
+    let kind = station.kind;
+    write_kind(&mut bytes[0..KIND], kind);
     write_places(&mut bytes[KIND..ENTRIES_AT], live);
     write_entries(&mut bytes[ENTRIES_AT..IMAGE], entries);
 }

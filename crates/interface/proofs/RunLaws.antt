@@ -7,10 +7,9 @@ use lib.ListN.{length, take, drop}
 use lib.Seq.{take-all}
 use native.Mathlib.Omega.{arith}
 use borrow.Rule.Slice.PartMut.{putMid}
-use Rattle.model.specs.Kinds.{narrowKind}
 use Rattle.model.specs.declared.Station as machine
 use Rattle.model.specs.Types.{Outcome}
-use Rattle.model.specs.Listed.{listed, listedOutcome}
+use Rattle.model.specs.Listed.{kindOf, listed, listedOutcome}
 use Rattle.model.specs.Lists.{_or_}
 use Rattle.model.specs.Sound.{sound}
 use Rattle.model.specs.Effects.{stored, outcomeOf}
@@ -56,14 +55,14 @@ module _ (q : List ℕ) (h : Current) (s : List ℕ) (r : Request) (e : r .comma
 
   -- a scan, and its station
   module _ (n : asksScan (callOf (r .command)) ≡ true) where
-    scan-is : outcomeOf (scan narrowKind s) ≡ acted (listed (h .station)) s r
+    scan-is : outcomeOf (scan (kindOf (h .station .kind)) s) ≡ acted (listed (h .station)) s r
     scan-is = scan-acts (listed (h .station)) s r n _ refl .0
 
-    pub scan-run : (l : Current) → l .whole ≡ true → listed (l .station) ≡ scan narrowKind s .station → heldOf l s ≡ afterRequest q (heldOf h s)
+    pub scan-run : (l : Current) → l .whole ≡ true → listed (l .station) ≡ scan (kindOf (h .station .kind)) s .station → heldOf l s ≡ afterRequest q (heldOf h s)
     unfolding outcomeOf
     scan-run l w g = request-run _ scan-is l (w ∙ sym (or-intro-right (h .whole) _ (sym scan-of ∙ n))) g s (scan-acts (listed (h .station)) s r n _ refl .1)
 
-    pub scan-answered : answerBytes (scan narrowKind s .answer) ≡ answerBytes (requestEffect q (heldOf h s) .answer)
+    pub scan-answered : answerBytes (scan (kindOf (h .station .kind)) s .answer) ≡ answerBytes (requestEffect q (heldOf h s) .answer)
     unfolding outcomeOf
     scan-answered = request-answered _ scan-is
 

@@ -61,26 +61,27 @@ unfoldable pub requestCall : List ℕ → Option Call
 requestCall q = cond (eqb (getD q 2 0) 0 and eqb (getD q 3 0) 0) (asked (getD q 0 0) (idIn q .txn) (getD q 1 0) (idIn q .clock)) none
 
 -- ── an answer: its kind, then a, b and c as a sheet prints them, 8 bytes each ──
-unfoldable pub kindOf : Answer → ℕ
-kindOf A.Started = 1
-kindOf A.Kept = 2
-kindOf (A.Own v) = 3
-kindOf (A.Version v i) = 4
-kindOf A.None = 5
-kindOf (A.Nofit k) = 6
-kindOf (A.Closing d) = 7
-kindOf A.Empty = 8
-kindOf (A.Done i) = 9
-kindOf (A.Stored k) = 10
-kindOf (A.Slipped d) = 11
-kindOf A.Dropped = 12
-kindOf (A.Collected i) = 13
-kindOf (A.Found n) = 14
-kindOf (A.Refused n d) = 15
-kindOf (A.Swept n) = 16
+unfoldable pub answerKind : Answer → ℕ
+answerKind A.Started = 1
+answerKind A.Kept = 2
+answerKind (A.Own v) = 3
+answerKind (A.Version v i) = 4
+answerKind A.None = 5
+answerKind (A.Nofit k) = 6
+answerKind (A.Closing d) = 7
+answerKind A.Empty = 8
+answerKind (A.Done i) = 9
+answerKind (A.Stored k) = 10
+answerKind (A.Slipped d) = 11
+answerKind A.Dropped = 12
+answerKind (A.Collected i) = 13
+answerKind (A.Found n) = 14
+answerKind (A.Refused n d) = 15
+answerKind (A.Swept n) = 16
+answerKind (A.Moved n) = 17
 
 unfoldable pub answerBytes : Answer → List ℕ
-answerBytes x = bytes 8 (kindOf x) ++ (bytes 8 (valuesOf x .a) ++ (bytes 8 (valuesOf x .b) ++ bytes 8 (valuesOf x .c)))
+answerBytes x = bytes 8 (answerKind x) ++ (bytes 8 (valuesOf x .a) ++ (bytes 8 (valuesOf x .b) ++ bytes 8 (valuesOf x .c)))
 
 -- ── between two requests: the station with whether the image is to be its own, and the store ──
 pub record Held : Type 0 where
@@ -88,7 +89,7 @@ pub record Held : Type 0 where
   pub station : Station
   pub store : List ℕ
 
--- an entry with a key and no id: every call but a scan is refused with 2, or with 1
+-- a narrow one, with an entry that has a key and no id: every call but a scan is refused with 2, or with 1
 unfoldable pub unsoundStation : Station
 unsoundStation = setEntry (emptyStation narrowKind) 0 (record { id = noId; keys = 0 ∷ [] })
 

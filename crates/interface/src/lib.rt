@@ -1,14 +1,17 @@
 // The store for hosts in other languages: requests, answers, the station and the store are lent bytes, and nothing is kept between two
 // calls. What the bytes mean is defined in specs/.
 use calls::Answer;
+use calls::Kind;
 use calls::Station;
-use calls::scan;
+use calls::scan_of;
 use desk::Request;
 use desk::asks_scan;
 use desk::decide;
 use image::IMAGE;
 use image::read_image;
 use image::write_image;
+use model::empty_of;
+use moving::move_between;
 use records::id_in;
 use records::write_number;
 use sheet::Command;
@@ -21,7 +24,7 @@ ghost use mathlib.Core.Path.{_≡_};
 ghost use mathlib.Core.Bool.{true, cond};
 ghost use Prim.Native.Nat.{_*_, _/_, _%_};
 ghost use lib.Dec.{eqb};
-ghost use Rattle.model.specs.Kinds.{narrowKind};
+ghost use Rattle.model.specs.Kinds.{narrowKind, wideKind};
 ghost use Rattle.model.specs.Lists.{_and_};
 ghost use Rattle.model.specs.Effects.{stored};
 ghost use Rattle.model.specs.Sweep.{sweep};
@@ -29,14 +32,15 @@ ghost use Rattle.model.specs.Calls.{Sweep};
 ghost use Rattle.sheet.specs.Lines.{ifUnused};
 ghost use lib.ListN.{length};
 ghost use Rattle.model.specs.Stations.{emptyStation};
-ghost use Rattle.model.specs.Listed.{listed};
+ghost use Rattle.model.specs.Listed.{kindOf, listed};
 ghost use Rattle.model.specs.Sound.{sound};
 ghost use Rattle.model.specs.Scan.{scan};
+ghost use Rattle.model.specs.Moves.{move, moveOut, moveBack};
 ghost use Rattle.sheet.specs.Commands.{commandOf};
 ghost use Rattle.sheet.specs.Parts.{verbOf};
 ghost use Rattle.image.specs.Layout.{imageSize};
 ghost use Rattle.image.specs.Images.{stationIn, isImage};
-ghost use Rattle.interface.specs.Exchange.{requestSize, answerSize, verbNumbered, requestCall, kindOf, answerBytes, unsoundStation, heldIn, requestEffect, afterRequest, afterRequests, answersTo, imageOf, imageAfter, requestsIn, afterRun, answersIn, fits, fitsOne};
+ghost use Rattle.interface.specs.Exchange.{requestSize, answerSize, verbNumbered, requestCall, answerKind, answerBytes, unsoundStation, heldIn, requestEffect, afterRequest, afterRequests, answersTo, imageOf, imageAfter, requestsIn, afterRun, answersIn, fits, fitsOne};
 ghost use Rattle.interface.specs.Parts.{heldOf};
 
 // The bytes of a request and of an answer.
@@ -105,8 +109,8 @@ pub fn command_in(request: &[u8]) -> Command
 }
 
 // The kind of an answer.
-fn kind_of(answer: Answer) -> u64
-    ensures { λ r. ⌜ r ≡ kindOf answer ⌝ }
+fn answer_kind(answer: Answer) -> u64
+    ensures { λ r. ⌜ r ≡ answerKind answer ⌝ }
 {
     match answer {
         Answer::Started => 1,
@@ -125,6 +129,7 @@ fn kind_of(answer: Answer) -> u64
         Answer::Found(_) => 14,
         Answer::Refused(_, _) => 15,
         Answer::Swept(_) => 16,
+        Answer::Moved(_) => 17,
     }
 }
 
@@ -133,7 +138,7 @@ pub fn write_answer(out: &mut [u8], answer: Answer)
     requires { ⌜ length (now out) ≡ answerSize ⌝ }
     ensures { λ _. ⌜ now (out .exit) ≡ answerBytes answer ⌝ }
 {
-    let kind = kind_of(answer);
+    let kind = answer_kind(answer);
     let v = values_in(answer);
     write_number(&mut out[0..8], kind);
     write_number(&mut out[8..16], v.a);
@@ -142,11 +147,11 @@ pub fn write_answer(out: &mut [u8], answer: Answer)
 }
 
 // A scan answered: the station is sound, and the image is to be its own.
-fn run_scan(store: &[u8], out: &mut [u8]) -> Current
+fn run_scan(kind: Kind, store: &[u8], out: &mut [u8]) -> Current
     requires { ⌜ length (now out) ≡ answerSize ⌝ }
-    ensures { λ r. ⌜ (r .whole ≡ true) × (r .tested ≡ true) × (listed (r .station) ≡ scan narrowKind (now (store .entry)) .station) × (now (out .exit) ≡ answerBytes (scan narrowKind (now (store .entry)) .answer)) ⌝ }
+    ensures { λ r. ⌜ (r .whole ≡ true) × (r .tested ≡ true) × (listed (r .station) ≡ scan (kindOf kind) (now (store .entry)) .station) × (now (out .exit) ≡ answerBytes (scan (kindOf kind) (now (store .entry)) .answer)) ⌝ }
 {
-    let scanned = scan(store);
+    let scanned = scan_of(kind, store);
     let said = scanned.answer;
     let station = scanned.station;
     write_answer(out, said);
@@ -193,7 +198,8 @@ fn run_requests(first: Current, store: &mut [u8], requests: &[u8], answers: &mut
         i += 1;
         let command = command_in(&requests[from..from + REQUEST]);
         if asks_scan(command) {
-            let found = run_scan(store, &mut answers[to..to + ANSWER]);
+            let kind = station.kind;
+            let found = run_scan(kind, store, &mut answers[to..to + ANSWER]);
             whole = found.whole;
             tested = found.tested;
             let next = found.station;
@@ -309,18 +315,34 @@ pub extern "C" fn gorehimu_run(
     0
 }
 
-// Writes the image of the empty station: 0. Where the length is wrong: 1, and nothing is written.
+// Writes the image of the empty station of a kind: 0. Where the length is wrong: 1, and nothing is written.
+fn write_empty(kind: Kind, image: &mut [u8]) -> u32
+    ensures { λ r. ⌜ r ≡ cond (eqb (length (now (image .entry))) imageSize) 0 1 ⌝ }
+    ensures { λ _. ⌜ now (image .exit) ≡ cond (eqb (length (now (image .entry))) imageSize) (imageOf (emptyStation (kindOf kind))) (now (image .entry)) ⌝ }
+{
+    if image.len() != IMAGE {
+        return 1;
+    }
+    let station = empty_of(kind);
+    write_image(image, station);
+    0
+}
+
+// That of a narrow store's station, and of a wide one's.
 #[no_mangle]
 pub extern "C" fn gorehimu_empty(image: &mut [u8]) -> u32
     ensures { λ r. ⌜ r ≡ cond (eqb (length (now (image .entry))) imageSize) 0 1 ⌝ }
     ensures { λ _. ⌜ now (image .exit) ≡ cond (eqb (length (now (image .entry))) imageSize) (imageOf (emptyStation narrowKind)) (now (image .entry)) ⌝ }
 {
-    if image.len() != IMAGE {
-        return 1;
-    }
-    let station = Station::empty();
-    write_image(image, station);
-    0
+    write_empty(Kind::Narrow, image)
+}
+
+#[no_mangle]
+pub extern "C" fn gorehimu_empty_wide(image: &mut [u8]) -> u32
+    ensures { λ r. ⌜ r ≡ cond (eqb (length (now (image .entry))) imageSize) 0 1 ⌝ }
+    ensures { λ _. ⌜ now (image .exit) ≡ cond (eqb (length (now (image .entry))) imageSize) (imageOf (emptyStation wideKind)) (now (image .entry)) ⌝ }
+{
+    write_empty(Kind::Wide, image)
 }
 
 fn one_fits(image: usize, request: usize, answer: usize) -> bool
@@ -357,18 +379,70 @@ pub extern "C" fn gorehimu_call(
     0
 }
 
-// The station read off a store, as after a cut: its image and the scan's answer, 0. Where a length is wrong: 1, and nothing is written.
+// The station read off a store of a kind, as after a cut: its image and the scan's answer, 0. Where a length is wrong: 1, and nothing is
+// written.
+fn recover_of(kind: Kind, image: &mut [u8], store: &[u8], answer: &mut [u8]) -> u32
+    ensures { λ r. ⌜ r ≡ cond (fitsOne (length (now (image .entry))) requestSize (length (now (answer .entry)))) 0 1 ⌝ }
+    ensures { λ _. ⌜ now (image .exit) ≡ cond (fitsOne (length (now (image .entry))) requestSize (length (now (answer .entry)))) (imageOf (scan (kindOf kind) (now (store .entry)) .station)) (now (image .entry)) ⌝ }
+    ensures { λ _. ⌜ now (answer .exit) ≡ cond (fitsOne (length (now (image .entry))) requestSize (length (now (answer .entry)))) (answerBytes (scan (kindOf kind) (now (store .entry)) .answer)) (now (answer .entry)) ⌝ }
+{
+    if !one_fits(image.len(), REQUEST, answer.len()) {
+        return 1;
+    }
+    let found = run_scan(kind, store, answer);
+    let station = found.station;
+    write_image(image, station);
+    0
+}
+
+// Off a narrow store, and off a wide one.
 #[no_mangle]
 pub extern "C" fn gorehimu_recover(image: &mut [u8], store: &[u8], answer: &mut [u8]) -> u32
     ensures { λ r. ⌜ r ≡ cond (fitsOne (length (now (image .entry))) requestSize (length (now (answer .entry)))) 0 1 ⌝ }
     ensures { λ _. ⌜ now (image .exit) ≡ cond (fitsOne (length (now (image .entry))) requestSize (length (now (answer .entry)))) (imageOf (scan narrowKind (now (store .entry)) .station)) (now (image .entry)) ⌝ }
     ensures { λ _. ⌜ now (answer .exit) ≡ cond (fitsOne (length (now (image .entry))) requestSize (length (now (answer .entry)))) (answerBytes (scan narrowKind (now (store .entry)) .answer)) (now (answer .entry)) ⌝ }
 {
-    if !one_fits(image.len(), REQUEST, answer.len()) {
+    recover_of(Kind::Narrow, image, store, answer)
+}
+
+#[no_mangle]
+pub extern "C" fn gorehimu_recover_wide(image: &mut [u8], store: &[u8], answer: &mut [u8]) -> u32
+    ensures { λ r. ⌜ r ≡ cond (fitsOne (length (now (image .entry))) requestSize (length (now (answer .entry)))) 0 1 ⌝ }
+    ensures { λ _. ⌜ now (image .exit) ≡ cond (fitsOne (length (now (image .entry))) requestSize (length (now (answer .entry)))) (imageOf (scan wideKind (now (store .entry)) .station)) (now (image .entry)) ⌝ }
+    ensures { λ _. ⌜ now (answer .exit) ≡ cond (fitsOne (length (now (image .entry))) requestSize (length (now (answer .entry)))) (answerBytes (scan wideKind (now (store .entry)) .answer)) (now (answer .entry)) ⌝ }
+{
+    recover_of(Kind::Wide, image, store, answer)
+}
+
+// A move, answered: 0. Where the answer's length is wrong: 1, and nothing is written. A store of another length is the move's refusal.
+fn answer_move(from: Kind, to: Kind, source: &[u8], target: &mut [u8], answer: &mut [u8]) -> u32
+    ensures { λ r. ⌜ r ≡ cond (eqb (length (now (answer .entry))) answerSize) 0 1 ⌝ }
+    ensures { λ _. ⌜ now (target .exit) ≡ cond (eqb (length (now (answer .entry))) answerSize) (move (kindOf from) (kindOf to) (now (source .entry)) (now (target .entry)) .target) (now (target .entry)) ⌝ }
+    ensures { λ _. ⌜ now (answer .exit) ≡ cond (eqb (length (now (answer .entry))) answerSize) (answerBytes (move (kindOf from) (kindOf to) (now (source .entry)) (now (target .entry)) .answer)) (now (answer .entry)) ⌝ }
+{
+    if answer.len() != ANSWER {
         return 1;
     }
-    let found = run_scan(store, answer);
-    let station = found.station;
-    write_image(image, station);
+    let said = move_between(from, to, source, target);
+    write_answer(answer, said);
     0
+}
+
+// A narrow store into a wide one, and a wide one into a narrow one.
+#[no_mangle]
+pub extern "C" fn gorehimu_move_out(narrow: &[u8], wide: &mut [u8], answer: &mut [u8]) -> u32
+    ensures { λ r. ⌜ r ≡ cond (eqb (length (now (answer .entry))) answerSize) 0 1 ⌝ }
+    ensures { λ _. ⌜ now (wide .exit) ≡ cond (eqb (length (now (answer .entry))) answerSize) (moveOut (now (narrow .entry)) (now (wide .entry)) .target) (now (wide .entry)) ⌝ }
+    ensures { λ _. ⌜ now (answer .exit) ≡ cond (eqb (length (now (answer .entry))) answerSize) (answerBytes (moveOut (now (narrow .entry)) (now (wide .entry)) .answer)) (now (answer .entry)) ⌝ }
+{
+    answer_move(Kind::Narrow, Kind::Wide, narrow, wide, answer)
+}
+
+#[no_mangle]
+pub extern "C" fn gorehimu_move_back(wide: &[u8], narrow: &mut [u8], answer: &mut [u8]) -> u32
+    ensures { λ r. ⌜ r ≡ cond (eqb (length (now (answer .entry))) answerSize) 0 1 ⌝ }
+    ensures { λ _. ⌜ now (narrow .exit) ≡ cond (eqb (length (now (answer .entry))) answerSize) (moveBack (now (wide .entry)) (now (narrow .entry)) .target) (now (narrow .entry)) ⌝ }
+    ensures { λ _. ⌜ now (answer .exit) ≡ cond (eqb (length (now (answer .entry))) answerSize) (answerBytes (moveBack (now (wide .entry)) (now (narrow .entry)) .answer)) (now (answer .entry)) ⌝ }
+{
+    answer_move(Kind::Wide, Kind::Narrow, wide, narrow, answer)
 }

@@ -12,7 +12,7 @@ use native.Mathlib.Decide.{ℕ-discrete, decLt}
 use native.Mathlib.Omega.{arith}
 use borrow.Author.Tests.{eqb-false, not-false, ne-eqb}
 use Rattle.model.specs.Lists.{_or_, first, member, distinct, same}
-use Rattle.model.proofs.Tests.{or-left, or-right}
+use Rattle.model.proofs.Tests.{or-left, or-right, or-intro-right, not-of-false}
 use Rattle.model.proofs.ListLaws.{member-finds, member-at, member-none}
 
 distinct-head : (x : ℕ) (xs : List ℕ) → distinct (x ∷ xs) ≡ true → (eqb x 0 or not (member x xs)) ≡ true
@@ -38,6 +38,11 @@ distinct-at (x ∷ xs) h zero zero oi oj e n = refl
 distinct-at (x ∷ xs) h zero (suc j) oi oj e n = absurd (distinct-out x xs j h (le-of-suc-le-suc oj) e n)
 distinct-at (x ∷ xs) h (suc i) zero oi oj e n = absurd (distinct-out x xs i h (le-of-suc-le-suc oi) (sym e) (λ z. n (e ∙ z)))
 distinct-at (x ∷ xs) h (suc i) (suc j) oi oj e n = ap suc (distinct-at xs (distinct-tail x xs h) i j (le-of-suc-le-suc oi) (le-of-suc-le-suc oj) e n)
+
+-- a number that the others have not
+pub distinct-cons : (x : ℕ) (xs : List ℕ) → member x xs ≡ false → distinct xs ≡ true → distinct (x ∷ xs) ≡ true
+unfolding distinct
+distinct-cons x xs h k = rw (or-intro-right (eqb x 0) _ (not-of-false _ h), distinct) k
 
 -- and a list in which they do is distinct
 pub distinct-of : (l : List ℕ) → ((i j : ℕ) → i < length l → j < length l → getD l i 0 ≡ getD l j 0 → getD l i 0 ≢ 0 → i ≡ j) → distinct l ≡ true

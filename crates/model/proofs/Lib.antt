@@ -14,6 +14,11 @@ pub mod ListedLaws
 pub mod InsideLaws
 pub mod SlotLaws
 pub mod ScanLaws
+pub mod ContentLaws
+pub mod HeldLaws
+pub mod LaidLaws
+pub mod MoveRows
+pub mod MoveLaws
 pub mod ConflictLaws
 pub mod OrderLaws
 pub mod ReadingLaws
@@ -32,6 +37,7 @@ pub mod KindKept
 pub mod CommitLaws
 pub mod ReadYourWrites
 pub mod KindTable
+pub mod MoveTable
 pub mod BenchTable
 pub mod BenchSweeps
 pub mod RunSheet

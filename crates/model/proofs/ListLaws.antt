@@ -8,7 +8,7 @@ use mathlib.Core.Option.{Option, some, none, Option·elim}
 use lib.Dec.{eqb}
 use lib.ListN.{length, take, drop, getD, replicate, set, length-set, List·getD-eq-default}
 use lib.Seq.{getD-set-same, getD-set-other}
-use native.Mathlib.Nat.{le-of-suc-le-suc, not-suc-le-zero, zero-lt-suc, lt-irrefl}
+use native.Mathlib.Nat.{le-of-suc-le-suc, not-suc-le-zero, zero-lt-suc, le-refl, lt-irrefl}
 use native.Mathlib.Decide.{ℕ-discrete, decLt}
 use native.Mathlib.Omega.{arith}
 use borrow.Author.Tests.{eqb-true, eq-eqb}
@@ -123,6 +123,12 @@ module _ {A : Type 0} where
   all-replicate p zero a h = refl
   all-replicate p (suc n) a h = all-cons p a (replicate n a) h (all-replicate p n a h)
 
+  pub all-drop : (p : A → Bool) (n : ℕ) (l : List A) → all p l ≡ true → all p (drop n l) ≡ true
+  unfolding all
+  all-drop p zero l h = h
+  all-drop p (suc n) [] h = refl
+  all-drop p (suc n) (x ∷ xs) h = all-drop p n xs (all-tail p x xs h)
+
   pub all-fails : (p : A → Bool) (l : List A) (d : A) (j : ℕ) → j < length l → p (getD l j d) ≡ false → all p l ≡ false
   all-fails p l d j o h = go (all p l) refl
     where
@@ -172,6 +178,13 @@ module _ {A : Type 0} where
   any-none-of p [] d f = refl
   any-none-of p (x ∷ xs) d f = any-no p x xs (f 0 (zero-lt-suc _)) ∙ any-none-of p xs d (λ j o. f (suc j) (suc-le-suc o))
 
+  pub any-cons-none : (p : A → Bool) (x : A) (xs : List A) → any p (x ∷ xs) ≡ false → (p x ≡ false) × (any p xs ≡ false)
+  any-cons-none p x xs h = go (p x) refl
+    where
+      go : (b : Bool) → p x ≡ b → (p x ≡ false) × (any p xs ≡ false)
+      go true e = absurd (true≢false (sym (any-yes p x xs e) ∙ h))
+      go false e = (e, sym (any-no p x xs e) ∙ h)
+
   -- ── count ──
   pub count-yes : (p : A → Bool) (x : A) (xs : List A) → p x ≡ true → count p (x ∷ xs) ≡ suc (count p xs)
   unfolding count
@@ -180,6 +193,15 @@ module _ {A : Type 0} where
   pub count-no : (p : A → Bool) (x : A) (xs : List A) → p x ≡ false → count p (x ∷ xs) ≡ count p xs
   unfolding count
   count-no p x xs h = rw (h, count)
+
+  pub count-most : (p : A → Bool) (xs : List A) → count p xs ≤ length xs
+  unfolding count
+  count-most p [] = le-refl 0
+  count-most p (x ∷ xs) = go (p x) refl (count-most p xs)
+    where
+      go : (b : Bool) → p x ≡ b → count p xs ≤ length xs → count p (x ∷ xs) ≤ suc (length xs)
+      go true e ih = rw (count-yes p x xs e) (suc-le-suc ih)
+      go false e ih = rw (count-no p x xs e) (omega (arith, ih))
 
   -- ── membership ──
   pub getD-mem : (l : List A) (j : ℕ) (d : A) → j < length l → List·Memᴰ (getD l j d) l

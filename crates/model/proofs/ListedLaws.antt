@@ -10,21 +10,22 @@ use lib.Count.{ones}
 use native.Mathlib.Omega.{arith}
 use Rattle.model.specs.declared as machine
 use Rattle.model.specs.declared.Id.{Id}
+use Rattle.model.specs.declared.Kind.the-variants.{Narrow, Wide}
 use Rattle.model.specs.declared.Phase.the-variants.{Unused}
 use Rattle.model.specs.Types.{Entry, Write, Live, Station}
 use Rattle.model.specs.Lists.{_and_, _or_}
 use Rattle.model.specs.Ids.{noId, sameId}
 use Rattle.model.specs.Limits.{keys, writePlaces, numberRange}
-use Rattle.model.specs.Kinds.{narrowKind}
+use Rattle.model.specs.Kinds.{Kind, KindFits}
 use Rattle.model.specs.KeySets.{keySet, setNumber}
 use Rattle.model.specs.Lives.{liveBeyond, writesOf, writeCount, writeKey, writeValue}
-use Rattle.model.specs.Listed.{valued, listedLive, listedLives, listedEntry, listedEntries, listed, numberedLive, numberedEntry, numbered}
+use Rattle.model.specs.Listed.{kindOf, kindNamed, valued, listedLive, listedLives, listedEntry, listedEntries, listed, numberedLive, numberedEntry, numbered}
 use Rattle.model.specs.Entries.{noEntry, isNoEntry, entryRules}
 use Rattle.model.specs.Sound.{entryRight}
 use Rattle.model.specs.Ranges.{Every, LiveFits, EntryFits, StationFits, LiveListFits, ListFits, ListsFit}
 use Rattle.model.proofs.Tests.{and-true}
 use Rattle.model.proofs.ListLaws.{every-map, every-take, map-at, map-set}
-use Rattle.model.proofs.KindLaws.{narrow-fits}
+use Rattle.model.proofs.KindLaws.{narrow-fits, wide-fits}
 use Rattle.model.proofs.ValuedLaws.{valued-length, valued-keys, valued-unkeyed, valued-values, valued-unvalued, valued-every, valued-back, valued-count}
 use Rattle.model.proofs.KeySetLaws.{number-below, set-none, set-ascends, set-number, number-set, set-ones}
 
@@ -75,13 +76,24 @@ lives-there : (ls : List Live) → Every LiveListFits ls → listedLives (map nu
 lives-there [] f = refl
 lives-there (l ∷ ls) f = ap₂ (λ (x : Live) (xs : List Live). x ∷ xs) (live-there l (f .0)) (lives-there ls (f .1))
 
+-- a kind
+kind-back : (k : machine.Kind.Kind) → kindNamed (kindOf k .mark) ≡ k
+unfolding kindOf kindNamed
+kind-back Narrow = refl
+kind-back Wide = refl
+
+pub kind-fits : (k : machine.Kind.Kind) → KindFits (kindOf k)
+unfolding kindOf
+kind-fits Narrow = narrow-fits
+kind-fits Wide = wide-fits
+
 -- every station of the machine, sound or not: so its lists say all of it
 pub station-back : (st : machine.Station.Station) → StationFits st → numbered (listed st) ≡ st
-station-back st f = λ z. record { live = lives-back (st .live) (f .live) z; entries = entries-back (st .entries) (f .entries) z }
+station-back st f = λ z. record { kind = kind-back (st .kind) z; live = lives-back (st .live) (f .live) z; entries = entries-back (st .entries) (f .entries) z }
 
--- and every narrow station whose lists fit
-pub station-there : (st : Station) → st .kind ≡ narrowKind → ListsFit st → listed (numbered st) ≡ st
-station-there st k f = λ z. record { kind = sym k z; live = lives-there (st .live) (f .live) z; entries = entries-there (st .entries) (f .entries) z }
+-- and every station of the two kinds whose lists fit
+pub station-there : (k : machine.Kind.Kind) (st : Station) → st .kind ≡ kindOf k → ListsFit st → listed (numbered st) ≡ st
+station-there k st e f = λ z. record { kind = (ap (λ (κ : Kind). kindOf (kindNamed (κ .mark))) e ∙ (ap kindOf (kind-back k) ∙ sym e)) z; live = lives-there (st .live) (f .live) z; entries = entries-there (st .entries) (f .entries) z }
 
 -- ── what fits the one fits the other ──
 live-fits-there : (l : machine.Live.Live) → LiveFits l → LiveListFits (listedLive l)
@@ -113,7 +125,7 @@ live-fits-back l f = record {
 
 pub listed-fits : (st : machine.Station.Station) → StationFits st → ListsFit (listed st)
 listed-fits st f = record {
-  kind = narrow-fits;
+  kind = kind-fits (st .kind);
   live-places = length-map (st .live) listedLive ∙ f .live-places;
   live = every-map LiveListFits listedLive LiveFits live-fits-there (st .live) (f .live);
   entry-places = length-map (st .entries) listedEntry ∙ f .entry-places;
@@ -187,11 +199,11 @@ module _ (ls : List machine.Live.Live) (i : ℕ) where
   lives-set l = map-set listedLive ls i l
 
 -- ── "(2 now reads: 1 to 8 ones for an entry.)" ──
-pub right-by-ones : (e : machine.Entry.Entry) → EntryFits e
-    → entryRight narrowKind (listedEntry e)
-    ≡ ((sameId (e .id) noId and eqb (ones (e .keys)) 0) or (leb 1 (ones (e .keys)) and leb (ones (e .keys)) (narrowKind .writeLimit) and leb 1 (e .id .txn) and leb 1 (e .id .clock)))
+pub right-by-ones : (κ : Kind) (e : machine.Entry.Entry) → EntryFits e
+    → entryRight κ (listedEntry e)
+    ≡ ((sameId (e .id) noId and eqb (ones (e .keys)) 0) or (leb 1 (ones (e .keys)) and leb (ones (e .keys)) (κ .writeLimit) and leb 1 (e .id .txn) and leb 1 (e .id .clock)))
 unfolding entryRight isNoEntry entryRules
-right-by-ones e f =
+right-by-ones κ e f =
     ap₂ (λ (n : ℕ) (b : Bool). unused n or (counted n and b)) (set-ones (e .keys) (f .keys64)) (set-ascends (e .keys))
     ∙ ap (λ (b : Bool). unused (ones (e .keys)) or b) (and-true (counted (ones (e .keys))))
   where
@@ -199,4 +211,4 @@ right-by-ones e f =
     unused n = sameId (e .id) noId and eqb n 0
 
     counted : ℕ → Bool
-    counted n = leb 1 n and leb n (narrowKind .writeLimit) and leb 1 (e .id .txn) and leb 1 (e .id .clock)
+    counted n = leb 1 n and leb n (κ .writeLimit) and leb 1 (e .id .txn) and leb 1 (e .id .clock)

@@ -159,7 +159,7 @@ pub carries-mark : (κ : Kind) (r : List ℕ) (e : Entry) → carriesEntry κ r 
 unfolding carriesEntry
 carries-mark κ r e h = eqb-true (markIn r) (κ .mark) (and-left _ _ (and-left _ _ (and-left _ _ (and-left _ _ h))))
 
-carries-zeros : (κ : Kind) (r : List ℕ) (e : Entry) → carriesEntry κ r e ≡ true → (getD r 2 0 ≡ 0) × (getD r 3 0 ≡ 0)
+pub carries-zeros : (κ : Kind) (r : List ℕ) (e : Entry) → carriesEntry κ r e ≡ true → (getD r 2 0 ≡ 0) × (getD r 3 0 ≡ 0)
 unfolding carriesEntry
 carries-zeros κ r e h =
     let c : (eqb (markIn r) (κ .mark) and eqb (getD r 2 0) 0 and eqb (getD r 3 0) 0) ≡ true = and-left _ _ (and-left _ _ h) in
@@ -167,7 +167,7 @@ carries-zeros κ r e h =
 
 -- a write set's count and key bytes
 module _ (κ : Kind) (r ks : List ℕ) (h : carriesKeys κ r ks ≡ true) where
-  keys-counted : countIn r ≡ length ks
+  pub keys-counted : countIn r ≡ length ks
   unfolding carriesKeys
   keys-counted = eqb-true (countIn r) (length ks) (and-left _ _ h)
 
@@ -180,11 +180,11 @@ module _ (κ : Kind) (r ks : List ℕ) (h : carriesKeys κ r ks ≡ true) where
   unfolding entryIn
   keys-carried φ w = ap₂ (κ .decode) keys-counted keys-encoded ∙ φ .round ks w
 
-carries-keys : (κ : Kind) (r : List ℕ) (e : Entry) → carriesEntry κ r e ≡ true → carriesKeys κ r (keysOf e) ≡ true
+pub carries-keys : (κ : Kind) (r : List ℕ) (e : Entry) → carriesEntry κ r e ≡ true → carriesKeys κ r (keysOf e) ≡ true
 unfolding carriesEntry
 carries-keys κ r e h = and-right _ _ h
 
-carries-id-of : (κ : Kind) (r : List ℕ) (e : Entry) → carriesEntry κ r e ≡ true → idIn r ≡ e .id
+pub carries-id-of : (κ : Kind) (r : List ℕ) (e : Entry) → carriesEntry κ r e ≡ true → idIn r ≡ e .id
 unfolding carriesEntry
 carries-id-of κ r e h = same-id (idIn r) (e .id) (and-right _ _ (and-left _ _ h))
 
@@ -234,11 +234,11 @@ carries-rules κ r e φ h k =
     (rw q (carries-keys κ r e h))) (rw q k)
 
 -- the cells of a list, one by one
-unfoldable spread : ℕ → List ℕ → List ℕ
+unfoldable pub spread : ℕ → List ℕ → List ℕ
 spread zero l = []
 spread (suc n) l = getD l 0 0 ∷ spread n (drop 1 l)
 
-spread-all : (n : ℕ) (l : List ℕ) → length l ≡ n → l ≡ spread n l
+pub spread-all : (n : ℕ) (l : List ℕ) → length l ≡ n → l ≡ spread n l
 unfolding spread
 spread-all zero [] h = refl
 spread-all zero (x ∷ xs) h = absurd (suc-ne-zero _ h)

@@ -173,6 +173,22 @@ none-keeps κ s f = record {
     which d d′ e e′ o o′ n h h′ q (yes y) = clash d d′ e e′ y o′ h h′ q
     which d d′ e e′ o o′ n h h′ q (no y) = clash d′ d e′ e (omega arith) o h′ h (sym q)
 
+-- by the lowest slot that breaks the rules
+at-slot : (κ : Kind) (s : List ℕ) (b : Bool) (j : ℕ) → j < κ .slots → breaks (take j (slotsSeen κ s)) (seen κ s j) ≡ b → breaksAt (slotsSeen κ s) j ≡ b
+at-slot κ s b j o h = subst (λ (x : Seen). breaks (take j (slotsSeen κ s)) x ≡ b) (sym (seen-at κ s j free o)) h
+
+of-slot : (κ : Kind) (s : List ℕ) (b : Bool) (j : ℕ) → j < κ .slots → breaksAt (slotsSeen κ s) j ≡ b → breaks (take j (slotsSeen κ s)) (seen κ s j) ≡ b
+of-slot κ s b j o h = subst (λ (x : Seen). breaks (take j (slotsSeen κ s)) x ≡ b) (seen-at κ s j free o) h
+
+pub keeps-lowest : (κ : Kind) (s : List ℕ) → KeepsRules κ s → lowestBroken (slotsSeen κ s) ≡ length (slotsSeen κ s)
+keeps-lowest κ s k = lowest-none (slotsSeen κ s) (λ j o. let oj : j < κ .slots = omega (arith, seen-length κ s) in at-slot κ s false j oj (keeps-none κ s k j oj))
+
+before-lowest : (κ : Kind) (s : List ℕ) (j : ℕ) → j < κ .slots → j < lowestBroken (slotsSeen κ s) → breaks (take j (slotsSeen κ s)) (seen κ s j) ≡ false
+before-lowest κ s j o oj = of-slot κ s false j o (lowest-before (slotsSeen κ s) j (omega (arith, seen-length κ s)) oj)
+
+pub lowest-keeps : (κ : Kind) (s : List ℕ) → κ .slots ≤ lowestBroken (slotsSeen κ s) → KeepsRules κ s
+lowest-keeps κ s h = none-keeps κ s (λ j o. before-lowest κ s j o (omega arith))
+
 -- ── the scan ──
 pub scan-length : (κ : Kind) (s : List ℕ) → length s ≢ storeSize κ → scan κ s ≡ says (A.Refused 1 0) (emptyStation κ)
 unfolding scan refusals wrongLength
@@ -183,22 +199,16 @@ module _ (κ : Kind) (s : List ℕ) (l : length s ≡ storeSize κ) where
   unfolding scan refusals wrongLength
   scan-judged = rw (eq-eqb (length s) (storeSize κ) l)
 
-  at-slot : (b : Bool) (j : ℕ) → j < κ .slots → breaks (take j (slotsSeen κ s)) (seen κ s j) ≡ b → breaksAt (slotsSeen κ s) j ≡ b
-  at-slot b j o h = subst (λ (x : Seen). breaks (take j (slotsSeen κ s)) x ≡ b) (sym (seen-at κ s j free o)) h
-
-  of-slot : (b : Bool) (j : ℕ) → j < κ .slots → breaksAt (slotsSeen κ s) j ≡ b → breaks (take j (slotsSeen κ s)) (seen κ s j) ≡ b
-  of-slot b j o h = subst (λ (x : Seen). breaks (take j (slotsSeen κ s)) x ≡ b) (seen-at κ s j free o) h
-
   -- a store that keeps the rules: one entry for each committed slot
   pub scan-finds : KeepsRules κ s → scan κ s ≡ says (A.Found (count isCommitted (slotsSeen κ s))) (idleStation κ (entriesSeen (slotsSeen κ s)))
-  scan-finds k = scan-judged ∙ scanned-found (slotsSeen κ s) κ (lowest-none (slotsSeen κ s) (λ j o. let oj : j < κ .slots = omega (arith, seen-length κ s) in at-slot false j oj (keeps-none κ s k j oj)))
+  scan-finds k = scan-judged ∙ scanned-found (slotsSeen κ s) κ (keeps-lowest κ s k)
 
   -- any other: the lowest slot that breaks them
   pub scan-refused : (d : ℕ) → d < κ .slots → breaks (take d (slotsSeen κ s)) (seen κ s d) ≡ true → ((j : ℕ) → j < d → breaks (take j (slotsSeen κ s)) (seen κ s j) ≡ false)
       → scan κ s ≡ says (A.Refused 18 d) (emptyStation κ)
   scan-refused d o h f =
       let od : d < length (slotsSeen κ s) = omega (arith, seen-length κ s) in
-      scan-judged ∙ scanned-refused (slotsSeen κ s) κ d od (lowest-is (slotsSeen κ s) d od (at-slot true d o h) (λ j oj. at-slot false j (omega arith) (f j oj)))
+      scan-judged ∙ scanned-refused (slotsSeen κ s) κ d od (lowest-is (slotsSeen κ s) d od (at-slot κ s true d o h) (λ j oj. at-slot κ s false j (omega arith) (f j oj)))
 
   pub scan-or : KeepsRules κ s ⊎ ((d : ℕ) × (d < κ .slots) × (scan κ s ≡ says (A.Refused 18 d) (emptyStation κ)) × (breaks (take d (slotsSeen κ s)) (seen κ s d) ≡ true) × ((j : ℕ) → j < d → breaks (take j (slotsSeen κ s)) (seen κ s j) ≡ false))
   scan-or = go (decLt (lowestBroken (slotsSeen κ s)) (κ .slots))
@@ -206,15 +216,12 @@ module _ (κ : Kind) (s : List ℕ) (l : length s ≡ storeSize κ) where
       d : ℕ
       d = lowestBroken (slotsSeen κ s)
 
-      before : (j : ℕ) → j < κ .slots → j < d → breaks (take j (slotsSeen κ s)) (seen κ s j) ≡ false
-      before j o oj = of-slot false j o (lowest-before (slotsSeen κ s) j (omega (arith, seen-length κ s)) oj)
-
       go : Dec (d < κ .slots) → KeepsRules κ s ⊎ ((d : ℕ) × (d < κ .slots) × (scan κ s ≡ says (A.Refused 18 d) (emptyStation κ)) × (breaks (take d (slotsSeen κ s)) (seen κ s d) ≡ true) × ((j : ℕ) → j < d → breaks (take j (slotsSeen κ s)) (seen κ s j) ≡ false))
       go (yes y) =
-          let h : breaks (take d (slotsSeen κ s)) (seen κ s d) ≡ true = of-slot true d y (lowest-breaks (slotsSeen κ s) (omega (arith, seen-length κ s))) in
-          let f : (j : ℕ) → j < d → breaks (take j (slotsSeen κ s)) (seen κ s j) ≡ false = λ j oj. before j (omega arith) oj in
+          let h : breaks (take d (slotsSeen κ s)) (seen κ s d) ≡ true = of-slot κ s true d y (lowest-breaks (slotsSeen κ s) (omega (arith, seen-length κ s))) in
+          let f : (j : ℕ) → j < d → breaks (take j (slotsSeen κ s)) (seen κ s j) ≡ false = λ j oj. before-lowest κ s j (omega arith) oj in
           inr (d, y, scan-refused d y h f, h, f)
-      go (no y) = inl (none-keeps κ s (λ j o. before j o (omega arith)))
+      go (no y) = inl (lowest-keeps κ s (omega arith))
 
 -- the entries of the station found: of the slots seen, and unused ones after them
 pub entries-length : (κ : Kind) (s : List ℕ) → KindFits κ → length (entriesSeen (slotsSeen κ s)) ≡ entryPlaces
@@ -256,7 +263,7 @@ unfolding entrySeen
 map-replicate zero = refl
 map-replicate (suc n) = ap (λ (es : List Entry). noEntry ∷ es) (map-replicate n)
 
-count-free : (n : ℕ) → count isCommitted (replicate n free) ≡ 0
+pub count-free : (n : ℕ) → count isCommitted (replicate n free) ≡ 0
 count-free zero = unfold count in refl
 count-free (suc n) = count-no isCommitted free (replicate n free) (unfold isCommitted in refl) ∙ count-free n
 

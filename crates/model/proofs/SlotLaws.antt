@@ -185,7 +185,7 @@ module _ (κ : Kind) (s : List ℕ) (d : ℕ) where
         subst (λ (x : ℕ). carriesVersion (recordAt κ s d (recordOf e k)) x (e .id) ≡ true) (r .3) (subst (λ (m : ℕ). carriesVersion (recordAt κ s d m) (getD (keysOf e) (r .0) 0) (e .id) ≡ true) (sym (r .2)) (committed-nth (r .0) (r .1)))
 
 -- ── a slot handed on as its bytes ──
-take-inside : (k m n : ℕ) (l : List ℕ) → k + m ≤ n → take m (drop k (take n l)) ≡ take m (drop k l)
+pub take-inside : (k m n : ℕ) (l : List ℕ) → k + m ≤ n → take m (drop k (take n l)) ≡ take m (drop k l)
 take-inside zero m n l o = take-take m n l (omega arith)
 take-inside (suc k) m zero l o = absurd (not-suc-le-zero {n = k + m} (omega arith))
 take-inside (suc k) m (suc n) [] o = refl

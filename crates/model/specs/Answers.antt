@@ -22,6 +22,7 @@ refusedWith A.Dropped = 0
 refusedWith (A.Collected i) = 0
 refusedWith (A.Found n) = 0
 refusedWith (A.Swept n) = 0
+refusedWith (A.Moved n) = 0
 
 -- the count of a sweep's answer; 0 of any other
 unfoldable pub sweptIn : Answer → ℕ
@@ -41,6 +42,7 @@ sweptIn A.Dropped = 0
 sweptIn (A.Collected i) = 0
 sweptIn (A.Found n) = 0
 sweptIn (A.Refused n d) = 0
+sweptIn (A.Moved n) = 0
 
 pub record Values : Type 0 where
   pub a : ℕ
@@ -52,7 +54,7 @@ values x y z = record { a = x; b = y; c = z }
 
 -- "Value is a for own and version; b and c are clock and ticket for version, done and collected; a is the key for stored, the drawer
 -- for closing and slipped, the number of entries for found, the number for refused (b the drawer with 18). The rest are 0." 02 §1: "field
--- a of nofit" is the key in the way. §2: a is the count for swept, which no line of a sheet is answered.
+-- a of nofit" is the key in the way. §2, §6: a is the count for swept and moved, which no line of a sheet is answered.
 unfoldable pub valuesOf : Answer → Values
 valuesOf A.Started = values 0 0 0
 valuesOf A.Kept = values 0 0 0
@@ -70,3 +72,4 @@ valuesOf (A.Collected i) = values 0 (i .clock) (i .txn)
 valuesOf (A.Found n) = values n 0 0
 valuesOf (A.Refused n d) = values n d 0
 valuesOf (A.Swept n) = values n 0 0
+valuesOf (A.Moved n) = values n 0 0

@@ -26,6 +26,7 @@ pub mod Step
 pub mod Abort
 pub mod Collect
 pub mod Scan
+pub mod Moves
 pub mod Answers
 pub mod Sweep
 pub mod Calls

@@ -1,15 +1,28 @@
 -- 02 §5: "Prove the two equal in every answer, sound stations translated both ways.": the machine's station, whose write sets are numbers, as the
 -- definitions', whose write sets are lists; and back. Each is the other's inverse (ListedLaws), so that a contract which says of what a call hands
 -- back which lists it has says what it is.
-use Prim.Native.Nat.{ℕ}
+use Prim.Native.Nat.{ℕ, zero, suc}
 use mathlib.Core.List.{List, [], _∷_, map}
 use lib.ListN.{length, take}
 use Rattle.model.specs.declared as machine
 use Rattle.model.specs.Types.{Entry, Write, Live, Station, Outcome}
 use Rattle.model.specs.Limits.{writePlaces}
 use Rattle.model.specs.KeySets.{keySet, setNumber}
-use Rattle.model.specs.Kinds.{narrowKind}
+use Rattle.model.specs.declared.Kind.the-variants.{Narrow, Wide}
+use Rattle.model.specs.Kinds.{Kind, narrowKind, wideKind}
 use Rattle.model.specs.Lives.{writesOf, writeKey, writeValue}
+
+-- ── the machine's kinds ──
+unfoldable pub kindOf : machine.Kind.Kind → Kind
+kindOf Narrow = narrowKind
+kindOf Wide = wideKind
+
+-- by its mark
+unfoldable pub kindNamed : ℕ → machine.Kind.Kind
+kindNamed (suc (suc zero)) = Wide
+kindNamed zero = Narrow
+kindNamed (suc zero) = Narrow
+kindNamed (suc (suc (suc n))) = Narrow
 
 -- ── numbers to lists ──
 -- keys with their values; where there are more values than keys, these have key 0, and where there are more keys, these have value 0
@@ -39,7 +52,7 @@ abbrev pub listedEntries : List machine.Entry.Entry → List Entry
 listedEntries es = map listedEntry es
 
 abbrev pub listed : machine.Station.Station → Station
-listed st = record { kind = narrowKind; live = listedLives (st .live); entries = listedEntries (st .entries) }
+listed st = record { kind = kindOf (st .kind); live = listedLives (st .live); entries = listedEntries (st .entries) }
 
 abbrev pub listedOutcome : machine.Outcome.Outcome → Outcome
 listedOutcome o = record { answer = o .answer; station = listed (o .station) }
@@ -59,7 +72,7 @@ abbrev pub numberedEntry : Entry → machine.Entry.Entry
 numberedEntry e = record { id = e .id; keys = setNumber (e .keys) }
 
 abbrev pub numbered : Station → machine.Station.Station
-numbered st = record { live = map numberedLive (st .live); entries = map numberedEntry (st .entries) }
+numbered st = record { kind = kindNamed (st .kind .mark); live = map numberedLive (st .live); entries = map numberedEntry (st .entries) }
 
 abbrev pub numberedOutcome : Outcome → machine.Outcome.Outcome
 numberedOutcome o = record { answer = o .answer; station = numbered (o .station) }

@@ -4,9 +4,9 @@ ghost use mathlib.Core.Path.{_≡_};
 ghost use Prim.Native.Nat.{_≤_};
 ghost use lib.ListN.{length};
 ghost use Rattle.model.specs.Limits.{readLimit};
-ghost use Rattle.model.specs.Kinds.{narrowKind};
+ghost use Rattle.model.specs.Kinds.{narrowKind, wideKind, slotSize, storeSize};
 ghost use Rattle.model.specs.Ids.{sameId};
-ghost use Rattle.model.specs.Listed.{listedEntry, listedLive, listed};
+ghost use Rattle.model.specs.Listed.{kindOf, listedEntry, listedLive, listed};
 ghost use Rattle.model.specs.Lives.{blank, readsOf, writeCount};
 ghost use Rattle.model.specs.Entries.{noEntry};
 ghost use Rattle.model.specs.Stations.{emptyStation};
@@ -47,14 +47,22 @@ pub struct Entry {
     pub keys: u64,
 }
 
-// 01's station, the paper's node: all that is lost when power goes.
+// The kind of a store (02 §6): 64 slots of 8 keys, or 32 slots of 16.
+pub enum Kind {
+    Narrow,
+    Wide,
+}
+
+// 01's station, the paper's node: all that is lost when power goes. It is made for a store of its kind; of the wide kind only the first 32 entries are
+// used.
 pub struct Station {
     pub live: [Live; Station::LIVE],
     pub entries: [Entry; Station::SLOTS],
+    pub kind: Kind,
 }
 
-// What a call answers; the variants are 01's output words, and Swept, with how many entries a sweep has collected. Nofit holds the key in the way;
-// Refused the number and, with 18, the slot.
+// What a call answers; the variants are 01's output words, and Swept and Moved, with how many entries a sweep has collected and how many slots a
+// move has filled. Nofit holds the key in the way; Refused the number and, with 18, the slot.
 pub enum Answer {
     Started,
     Kept,
@@ -72,6 +80,7 @@ pub enum Answer {
     Found(u8),
     Refused(u8, u8),
     Swept(u8),
+    Moved(u8),
 }
 
 // What a call hands back beside the store: its answer, and the station.
@@ -105,6 +114,8 @@ impl Station {
 
     pub const WRITES_U8: u8 = Station::WRITES as u8;
 
+    pub const WIDE_WRITES_U8: u8 = 16;
+
     pub const READS_U8: u8 = Station::READS as u8;
 
     pub const KEYS_U8: u8 = Station::KEYS as u8;
@@ -121,25 +132,97 @@ impl Station {
 
     pub const STORE: usize = Station::SLOT * Station::SLOTS;
 
+    // The same of the wide kind: slots, keys in a write set, the bytes of a slot and of a store.
+    pub const WIDE_SLOTS: usize = 32;
+
+    pub const WIDE_WRITES: usize = 16;
+
+    pub const WIDE_SLOT: usize = Station::RECORD * (Station::WIDE_WRITES + 1);
+
+    pub const WIDE_STORE: usize = Station::WIDE_SLOT * Station::WIDE_SLOTS;
+
     // The station made from nothing. Measured: made of blank and no_entry it is not inlined, and a scan costs a copy more.
     pub fn empty() -> Station
         ensures { λ r. ⌜ listed r ≡ emptyStation narrowKind ⌝ }
     {
-        let id = Id { clock: 0, txn: 0 };
-        let read = Read { key: 0, id: id };
-        let live = Live {
-            txn: 0,
-            phase: Phase::Unused,
-            keys: 0,
-            values: [0; Station::WRITE_PLACES],
-            read_count: 0,
-            reads: [read; Station::READS],
-        };
-        let entry = Entry { id: id, keys: 0 };
-        Station {
-            live: [live; Station::LIVE],
-            entries: [entry; Station::SLOTS],
-        }
+        empty_of(Kind::Narrow)
+    }
+
+    // And of the wide kind.
+    pub fn empty_wide() -> Station
+        ensures { λ r. ⌜ listed r ≡ emptyStation wideKind ⌝ }
+    {
+        empty_of(Kind::Wide)
+    }
+}
+
+// ---- by the kind
+// Slots; keys in a write set, at most; the mark of a commit record.
+pub fn slots(kind: Kind) -> usize
+    ensures { λ r. ⌜ r ≡ kindOf kind .slots ⌝ }
+{
+    match kind {
+        Kind::Narrow => Station::SLOTS,
+        Kind::Wide => Station::WIDE_SLOTS,
+    }
+}
+
+pub fn write_limit(kind: Kind) -> usize
+    ensures { λ r. ⌜ r ≡ kindOf kind .writeLimit ⌝ }
+{
+    match kind {
+        Kind::Narrow => Station::WRITES,
+        Kind::Wide => Station::WIDE_WRITES,
+    }
+}
+
+pub fn mark(kind: Kind) -> u8
+    ensures { λ r. ⌜ r ≡ kindOf kind .mark ⌝ }
+{
+    match kind {
+        Kind::Narrow => 1,
+        Kind::Wide => 2,
+    }
+}
+
+// The bytes of a slot and of a store.
+pub fn slot_size(kind: Kind) -> usize
+    ensures { λ r. ⌜ r ≡ slotSize (kindOf kind) ⌝ }
+{
+    match kind {
+        Kind::Narrow => Station::SLOT,
+        Kind::Wide => Station::WIDE_SLOT,
+    }
+}
+
+pub fn store_size(kind: Kind) -> usize
+    ensures { λ r. ⌜ r ≡ storeSize (kindOf kind) ⌝ }
+{
+    match kind {
+        Kind::Narrow => Station::STORE,
+        Kind::Wide => Station::WIDE_STORE,
+    }
+}
+
+// The station with nothing in it, of a kind.
+pub fn empty_of(kind: Kind) -> Station
+    ensures { λ r. ⌜ listed r ≡ emptyStation (kindOf kind) ⌝ }
+{
+    let id = Id { clock: 0, txn: 0 };
+    let read = Read { key: 0, id: id };
+    let live = Live {
+        txn: 0,
+        phase: Phase::Unused,
+        keys: 0,
+        values: [0; Station::WRITE_PLACES],
+        read_count: 0,
+        reads: [read; Station::READS],
+    };
+    let entry = Entry { id: id, keys: 0 };
+    Station {
+        live: [live; Station::LIVE],
+        entries: [entry; Station::SLOTS],
+        kind,
     }
 }
 

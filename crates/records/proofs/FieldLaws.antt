@@ -1,13 +1,14 @@
 -- A commit record's rules by its fields are those by its entry.
-use Prim.Native.Nat.{ℕ, _-_, _≤_}
+use Prim.Native.Nat.{ℕ, zero, suc, _-_, _≤_}
 use mathlib.Core.Path.{_≡_, refl, sym, ap, ap₂, subst, _∙_}
-use mathlib.Core.Bool.{true}
+use mathlib.Core.Bool.{true, not}
 use mathlib.Core.List.{List, [], _∷_, _++_}
 use lib.Dec.{eqb, leb}
 use lib.ListN.{length, take, drop, replicate, length-take, length-drop, take-append-drop}
 use lib.Seq.{length-take-le}
+use native.Mathlib.Nat.{suc-ne-zero}
 use native.Mathlib.Omega.{arith}
-use borrow.Author.Tests.{leb-true, eqb-true, eq-eqb}
+use borrow.Author.Tests.{leb-true, eqb-true, eq-eqb, ne-eqb, le-leb}
 use Rattle.model.specs.Lists.{_and_, all, ascending, padded, same}
 use Rattle.model.specs.Limits.{keys, keysSize, recordSize}
 use Rattle.model.specs.Kinds.{narrowKind}
@@ -94,3 +95,8 @@ module _ (r : List ℕ) (l : length r ≡ recordSize) where
 
   pub rules-fields : (carriesKeys narrowKind r (keysOf (entryIn narrowKind r)) and entryRules narrowKind (entryIn narrowKind r)) ≡ fieldRules (fieldsIn r)
   rules-fields = same-test _ _ there back
+
+-- a number that is not 0 is at least 1
+pub some-number : (n : ℕ) → not (eqb n 0) ≡ leb 1 n
+some-number zero = refl
+some-number (suc n) = rw (ne-eqb (suc n) 0 (suc-ne-zero n), le-leb 1 (suc n) (omega arith))

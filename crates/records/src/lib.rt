@@ -1,33 +1,35 @@
 // The bytes of a record and of a slot, read and written. Their meaning is defined in model's specs/Bytes, Entries, Records and Slots.
 use keysets::key_bytes;
 use keysets::key_count;
+use keysets::lowest_key;
 use keysets::with_key;
+use keysets::without_lowest;
 use model::Entry;
 use model::Id;
+use model::Kind;
 use model::Station;
+use model::mark;
 use model::same_id;
 ghost use mathlib.Core.Path.{_≡_};
 ghost use mathlib.Core.Bool.{true, false};
 ghost use Prim.Native.Nat.{_≤_, _<_, _^_};
 ghost use mathlib.Core.List.{_++_};
 ghost use lib.Dec.{eqb};
-ghost use lib.ListN.{length, take, drop, getD};
-ghost use Rattle.model.specs.Lists.{_and_, all, ascending, same};
+ghost use lib.ListN.{length, take, drop};
+ghost use Rattle.model.specs.Lists.{all, ascending, same};
 ghost use Rattle.model.specs.Limits.{keys, keysSize, recordSize, byteRange};
-ghost use Rattle.model.specs.Kinds.{narrowKind, slotSize};
+ghost use Rattle.model.specs.Kinds.{narrowKind, wideKind, slotSize};
 ghost use Rattle.model.specs.Bytes.{bytes, number, idIn, headBytes};
 ghost use Rattle.model.specs.KeySets.{keySet};
-ghost use Rattle.model.specs.Listed.{listedEntry};
-ghost use Rattle.model.specs.Entries.{markIn, commitRecord, carriesEntry};
+ghost use Rattle.model.specs.Listed.{kindOf, listedEntry};
+ghost use Rattle.model.specs.Entries.{commitRecord, carriesEntry};
 ghost use Rattle.model.specs.Records.{valueIn, versionRecord, zeroRecord, carriesVersion, recordAt};
 ghost use Rattle.model.specs.Slots.{versionsCarry, seen};
-ghost use Rattle.records.specs.Fields.{fieldsIn, firstKeys, fieldRules};
+ghost use Rattle.records.specs.Fields.{fieldsIn, firstKeys, fieldRules, isCommit, numberRules, IsWritten};
 ghost use Rattle.records.specs.SlotView.{seenAs};
 
-// A commit record's first byte, 01's mark.
+// A free slot's first byte, 01's mark.
 const FREE_MARK: u8 = 0;
-
-const COMMITTED_MARK: u8 = 1;
 
 // What a slot, 01's drawer, is read as.
 pub enum Slot {
@@ -90,12 +92,27 @@ fn same_keys(part: &[u8], keys: [u8; Station::WRITES]) -> bool
     true
 }
 
-// A commit record has its mark and its two zeros.
-fn is_commit(r: &[u8]) -> bool
-    requires { ⌜ length (now r) ≡ recordSize ⌝ }
-    ensures { λ b. ⌜ b ≡ (eqb (markIn (now (r .entry))) (narrowKind .mark) and eqb (getD (now (r .entry)) 2 0) 0 and eqb (getD (now (r .entry)) 3 0) 0) ⌝ }
+// The eight key bytes of a write set: the keys themselves, zeros after the last; of a wide store the number, least byte first.
+fn field_bytes(kind: Kind, set: u64) -> [u8; Station::WRITES]
+    requires { ⌜ length (keySet set) ≤ kindOf kind .writeLimit ⌝ }
+    ensures { λ r. ⌜ r ≡ kindOf kind .encode (keySet set) ⌝ }
 {
-    if r[0] != COMMITTED_MARK {
+    match kind {
+        Kind::Narrow => key_bytes(set),
+        Kind::Wide => {
+            let mut out = [0u8; Station::WRITES];
+            write_number(&mut out, set);
+            out
+        }
+    }
+}
+
+// A commit record has its kind's mark and its two zeros.
+fn is_commit(kind: Kind, r: &[u8]) -> bool
+    requires { ⌜ length (now r) ≡ recordSize ⌝ }
+    ensures { λ b. ⌜ b ≡ isCommit (kindOf kind) (now (r .entry)) ⌝ }
+{
+    if r[0] != mark(kind) {
         return false;
     }
     if r[2] != 0 {
@@ -105,12 +122,12 @@ fn is_commit(r: &[u8]) -> bool
 }
 
 // A commit record carries an entry.
-pub fn carries_entry(r: &[u8], e: Entry) -> bool
+pub fn carries_entry(kind: Kind, r: &[u8], e: Entry) -> bool
     requires { ⌜ length (now r) ≡ recordSize ⌝ }
-    requires { ⌜ length (keySet (e .keys)) ≤ keysSize ⌝ }
-    ensures { λ b. ⌜ b ≡ carriesEntry narrowKind (now (r .entry)) (listedEntry e) ⌝ }
+    requires { ⌜ length (keySet (e .keys)) ≤ kindOf kind .writeLimit ⌝ }
+    ensures { λ b. ⌜ b ≡ carriesEntry (kindOf kind) (now (r .entry)) (listedEntry e) ⌝ }
 {
-    if !is_commit(r) {
+    if !is_commit(kind, r) {
         return false;
     }
     let id = e.id;
@@ -120,7 +137,7 @@ pub fn carries_entry(r: &[u8], e: Entry) -> bool
     if r[1] != key_count(e.keys) {
         return false;
     }
-    let keys = key_bytes(e.keys);
+    let keys = field_bytes(kind, e.keys);
     same_keys(&r[16..24], keys)
 }
 
@@ -219,7 +236,7 @@ fn keeps_rules(f: Fields) -> bool
 }
 
 // The set of the commit record's keys, or 0, which is no write set, where a version record does not carry its key and the id. Records above the count are leftovers and are not read.
-fn carried_set(w: &[u8], f: Fields) -> u64
+fn carried_keys(w: &[u8], f: Fields) -> u64
     requires { ⌜ length (now w) ≡ slotSize narrowKind ⌝ }
     requires { ⌜ fieldRules f ≡ true ⌝ }
     ensures { λ r. ⌜ (r ≡ 0 → versionsCarry (recordAt narrowKind (now (w .entry)) 0) (f .id) 1 (firstKeys f) ≡ false) × (0 < r → (versionsCarry (recordAt narrowKind (now (w .entry)) 0) (f .id) 1 (firstKeys f) ≡ true) × (keySet r ≡ firstKeys f)) ⌝ }
@@ -240,22 +257,101 @@ fn carried_set(w: &[u8], f: Fields) -> u64
     set
 }
 
-// What a slot's 216 bytes are read as; a free slot's are not read on.
-pub fn read_slot(w: &[u8]) -> Slot
+// The write set of a narrow slot that has its mark; 0 where its rules are broken.
+fn narrow_set(w: &[u8], f: Fields) -> u64
     requires { ⌜ length (now w) ≡ slotSize narrowKind ⌝ }
-    ensures { λ r. ⌜ seenAs r ≡ seen narrowKind (now (w .entry)) 0 ⌝ }
+    requires { ⌜ f ≡ fieldsIn (take recordSize (now w)) ⌝ }
+    ensures { λ r. ⌜ IsWritten narrowKind (now (w .entry)) r ⌝ }
+{
+    if !keeps_rules(f) {
+        return 0;
+    }
+    carried_keys(w, f)
+}
+
+// Each version record of a wide slot carries its key of the set, and the id.
+fn carries_all(w: &[u8], id: Id, set: u64) -> bool
+    requires { ⌜ length (now w) ≡ slotSize wideKind ⌝ }
+    requires { ⌜ length (keySet set) ≤ wideKind .writeLimit ⌝ }
+    ensures { λ r. ⌜ r ≡ versionsCarry (recordAt wideKind (now (w .entry)) 0) id 1 (keySet set) ⌝ }
+{
+    let mut rest = set;
+    let mut n = 1;
+    while rest != 0 {
+        let key = lowest_key(rest);
+        let at = Station::RECORD * n;
+        if !carries_version(&w[at..at + Station::RECORD], key, id) {
+            return false;
+        }
+        rest = without_lowest(rest);
+        n += 1;
+    }
+    true
+}
+
+// A wide commit record's count is the ones of its number and within the limit, and its transaction and clock are not 0.
+fn number_right(count: u8, set: u64, id: Id) -> bool
+    ensures { λ r. ⌜ r ≡ numberRules count (keySet set) id ⌝ }
+{
+    let n = key_count(set);
+    if count != n {
+        return false;
+    }
+    if n == 0 {
+        return false;
+    }
+    if Station::WIDE_WRITES_U8 < n {
+        return false;
+    }
+    if id.txn == 0 {
+        return false;
+    }
+    id.clock != 0
+}
+
+// The write set of a wide slot that has its mark; 0 where its rules are broken.
+fn wide_set(w: &[u8], f: Fields) -> u64
+    requires { ⌜ length (now w) ≡ slotSize wideKind ⌝ }
+    requires { ⌜ f ≡ fieldsIn (take recordSize (now w)) ⌝ }
+    ensures { λ r. ⌜ IsWritten wideKind (now (w .entry)) r ⌝ }
+{
+    let id = f.id;
+    let keys = f.keys;
+    let set = number_in(&keys);
+    if !number_right(f.count, set, id) {
+        return 0;
+    }
+    if !carries_all(w, id, set) {
+        return 0;
+    }
+    set
+}
+
+fn written_set(kind: Kind, w: &[u8], f: Fields) -> u64
+    requires { ⌜ length (now w) ≡ slotSize (kindOf kind) ⌝ }
+    requires { ⌜ f ≡ fieldsIn (take recordSize (now w)) ⌝ }
+    ensures { λ r. ⌜ IsWritten (kindOf kind) (now (w .entry)) r ⌝ }
+{
+    match kind {
+        Kind::Narrow => narrow_set(w, f),
+        Kind::Wide => wide_set(w, f),
+    }
+}
+
+// What a slot's bytes are read as; a free slot's are not read on.
+pub fn read_slot(kind: Kind, w: &[u8]) -> Slot
+    requires { ⌜ length (now w) ≡ slotSize (kindOf kind) ⌝ }
+    ensures { λ r. ⌜ seenAs r ≡ seen (kindOf kind) (now (w .entry)) 0 ⌝ }
 {
     if w[0] == FREE_MARK {
         return Slot::Free;
     }
-    if !is_commit(&w[0..Station::RECORD]) {
+    if !is_commit(kind, &w[0..Station::RECORD]) {
         return Slot::Damaged;
     }
+    // Measured: read here, and not once more for the id.
     let f = fields_in(&w[0..Station::RECORD]);
-    if !keeps_rules(f) {
-        return Slot::Damaged;
-    }
-    let set = carried_set(w, f);
+    let set = written_set(kind, w, f);
     if set == 0 {
         return Slot::Damaged;
     }
@@ -310,14 +406,14 @@ pub fn write_version(part: &mut [u8], key: u8, id: Id, value: u64)
 }
 
 // A commit record over the part lent.
-pub fn write_commit(part: &mut [u8], e: Entry)
+pub fn write_commit(kind: Kind, part: &mut [u8], e: Entry)
     requires { ⌜ length (now part) ≡ recordSize ⌝ }
-    requires { ⌜ length (keySet (e .keys)) ≤ keysSize ⌝ }
-    ensures { λ _. ⌜ now (part .exit) ≡ commitRecord narrowKind (listedEntry e) ⌝ }
+    requires { ⌜ length (keySet (e .keys)) ≤ kindOf kind .writeLimit ⌝ }
+    ensures { λ _. ⌜ now (part .exit) ≡ commitRecord (kindOf kind) (listedEntry e) ⌝ }
 {
     let id = e.id;
-    let keys = key_bytes(e.keys);
-    write_head(part, COMMITTED_MARK, key_count(e.keys), id);
+    let keys = field_bytes(kind, e.keys);
+    write_head(part, mark(kind), key_count(e.keys), id);
     write_keys(&mut part[16..24], keys);
 }
 

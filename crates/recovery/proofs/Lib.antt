@@ -1,1 +1,2 @@
 pub mod ScanSteps
+pub mod MarkLaws

@@ -46,6 +46,7 @@ wordOf (A.Found n) = 102 ∷ 111 ∷ 117 ∷ 110 ∷ 100 ∷ []
 wordOf (A.Refused n d) = 114 ∷ 101 ∷ 102 ∷ 117 ∷ 115 ∷ 101 ∷ 100 ∷ []
 -- 02 §2: "The sheet gets no verb for this or any later call.": no line is answered so (line-no-sweep), the word is for whoever prints an answer
 wordOf (A.Swept n) = 115 ∷ 119 ∷ 101 ∷ 112 ∷ 116 ∷ []
+wordOf (A.Moved n) = 109 ∷ 111 ∷ 118 ∷ 101 ∷ 100 ∷ []
 
 abbrev pub comma : ℕ
 comma = 44

@@ -31,8 +31,8 @@ const KEY_MAX: u64 = 255;
 const NUMBER_MAX: u64 = 18446744073709551615;
 
 // The words of the answers, each with the comma after it.
-const WORDS: [u8; 108] =
-    *b"started,kept,own,version,none,nofit,closing,empty,done,stored,slipped,dropped,collected,found,refused,swept,";
+const WORDS: [u8; 114] =
+    *b"started,kept,own,version,none,nofit,closing,empty,done,stored,slipped,dropped,collected,found,refused,swept,moved,";
 
 // What a line asks, or a host's request: a sweep is only a request's.
 pub enum Command {
@@ -238,7 +238,7 @@ pub fn parse_line(line: &[u8]) -> Command
 
 // Where an answer's word and its comma stand in the words.
 fn word_part(answer: Answer) -> Part
-    ensures { λ r. ⌜ (take (r .size) (drop (r .at) words) ≡ wordOf answer ++ (44 ∷ [])) × (r .at + r .size ≤ 108) × (r .size ≤ 10) ⌝ }
+    ensures { λ r. ⌜ (take (r .size) (drop (r .at) words) ≡ wordOf answer ++ (44 ∷ [])) × (r .at + r .size ≤ 114) × (r .size ≤ 10) ⌝ }
 {
     match answer {
         Answer::Started => {
@@ -288,6 +288,9 @@ fn word_part(answer: Answer) -> Part
         }
         Answer::Swept(_) => {
             return Part { at: 102, size: 6 };
+        }
+        Answer::Moved(_) => {
+            return Part { at: 108, size: 6 };
         }
     }
 }
@@ -360,6 +363,9 @@ pub fn values_in(answer: Answer) -> Values
             return three(0, 0, 0);
         }
         Answer::Swept(n) => {
+            return three(n as u64, 0, 0);
+        }
+        Answer::Moved(n) => {
             return three(n as u64, 0, 0);
         }
     }

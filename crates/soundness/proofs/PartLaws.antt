@@ -83,18 +83,18 @@ unused-is l h = ap (λ (a : Bool). eqb (l .txn) 0 and a and eqb (l .«read_count
         ∙ sym (ap (λ (a : Bool). a and eqb (l .«read_count») 0 and all isZero (l .values) and all isNoRead (l .reads)) z)
 
 -- ── slots ──
-module _ (κ : Kind) (ts : List ℕ) (m : ℕ) where
-  pub free-none : m ≡ 0 → slotFree κ ts m ≡ true
+module _ (n : ℕ) (ts : List ℕ) (m : ℕ) where
+  pub free-none : m ≡ 0 → slotFree n ts m ≡ true
   unfolding slotFree _or_
   free-none e = rw (eq-eqb m 0 e)
 
-  pub free-high : m ≢ 0 → κ .slots < m → slotFree κ ts m ≡ false
+  pub free-high : m ≢ 0 → n < m → slotFree n ts m ≡ false
   unfolding slotFree _or_ _and_
-  free-high n h = rw (ne-eqb m 0 n, lt-leb m (κ .slots) h)
+  free-high k h = rw (ne-eqb m 0 k, lt-leb m n h)
 
-  pub free-is : m ≢ 0 → m ≤ κ .slots → slotFree κ ts m ≡ eqb (getD ts (m + 7) 0) 0
+  pub free-is : m ≢ 0 → m ≤ n → slotFree n ts m ≡ eqb (getD ts (m + 7) 0) 0
   unfolding slotFree _or_ _and_
-  free-is n h = rw (ne-eqb m 0 n, le-leb m (κ .slots) h)
+  free-is k h = rw (ne-eqb m 0 k, le-leb m n h)
 
 -- ── a read, by the slot of its transaction ──
 module _ (es : List Entry) (ts : List ℕ) (r : Read) (d : ℕ) (e : d ≡ slotIn ts (r .id .txn)) where

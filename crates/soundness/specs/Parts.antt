@@ -13,7 +13,7 @@ use Rattle.model.specs.Limits.{keys, livePlaces, entryPlaces, readLimit}
 use Rattle.model.specs.Kinds.{Kind}
 use Rattle.model.specs.Ids.{sameId}
 use Rattle.model.specs.Lives.{writesOf, writeCount, writeKey, readKey, slotMark}
-use Rattle.model.specs.Entries.{isNoEntry, wrote, noEntry}
+use Rattle.model.specs.Entries.{wrote, noEntry}
 use Rattle.model.specs.Sound.{isNoWrite, isNoRead, isNoLive, entryRight}
 
 -- a key of an ascending set: at least lo, below the limit
@@ -90,12 +90,16 @@ namedBy es ts r = ltb (slotIn ts (r .id .txn)) entryPlaces and isNamed (getD es 
 unfoldable pub placeFits : Kind → List Entry → List ℕ → Live → Bool
 placeFits κ es ts l = shape κ l and readsRight (namedBy es ts) l
 
--- a closing transaction's slot, counted from 1, is there and not held
-unfoldable pub slotFree : Kind → List ℕ → ℕ → Bool
-slotFree κ ts m = eqb m 0 or (leb m (κ .slots) and eqb (getD ts (m + 7) 0) 0)
+-- a closing transaction's slot, counted from 1, is one of n and not held
+unfoldable pub slotFree : ℕ → List ℕ → ℕ → Bool
+slotFree n ts m = eqb m 0 or (leb m n and eqb (getD ts (m + 7) 0) 0)
+
+-- no slot from the nth on is held
+unfoldable pub nonePast : ℕ → List ℕ → Bool
+nonePast n ts = all (eqb 0) (drop (livePlaces + n) ts)
 
 -- all of it, in the order of the tests
 unfoldable pub parts : Kind → List Live → List Entry → Bool
 parts κ ls es =
-    all (entryRight κ) es and all isNoEntry (drop (κ .slots) es) and distinct (txnColumn ls es) and all (placeFits κ es (txnColumn ls es)) ls
-    and distinct (markColumn ls) and all (slotFree κ (txnColumn ls es)) (markColumn ls)
+    all (entryRight κ) es and distinct (txnColumn ls es) and all (placeFits κ es (txnColumn ls es)) ls
+    and distinct (markColumn ls) and all (slotFree (κ .slots) (txnColumn ls es)) (markColumn ls) and nonePast (κ .slots) (txnColumn ls es)

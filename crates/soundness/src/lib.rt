@@ -2,30 +2,29 @@
 use keysets::has_key;
 use keysets::key_count;
 use model::Entry;
+use model::Kind;
 use model::Live;
 use model::Phase;
 use model::Read;
 use model::Station;
+use model::slots;
 use model::wide;
 use model::write_count;
+use model::write_limit;
 ghost use mathlib.Core.Path.{_≡_};
 ghost use mathlib.Core.Bool.{false};
 ghost use Prim.Native.Nat.{_+_, _≤_};
 ghost use lib.Dec.{eqb};
 ghost use lib.ListN.{length, drop};
 ghost use Rattle.model.specs.Limits.{livePlaces, entryPlaces, writePlaces};
-ghost use Rattle.model.specs.Kinds.{narrowKind};
 ghost use Rattle.model.specs.Lists.{all, count, distinct};
-ghost use Rattle.model.specs.Listed.{listedLive, listedEntry, listed};
+ghost use Rattle.model.specs.Listed.{kindOf, listedLive, listedEntry, listed};
 ghost use Rattle.model.specs.Lives.{slotMark};
 ghost use Rattle.model.specs.Sound.{isNoRead, isNoLive, entryRight, sound};
-ghost use Rattle.soundness.specs.Parts.{fits, isZero, writesRight, noReads, listsRight, countsRight, isUnused, shape, slotIn, isNamed, slotFree};
+ghost use Rattle.soundness.specs.Parts.{fits, isZero, writesRight, noReads, listsRight, countsRight, isUnused, shape, slotIn, isNamed, slotFree, nonePast};
 
 // Transactions, live and held, at most.
 const TXNS: usize = Station::LIVE + Station::SLOTS;
-
-// The greatest mark: slots counted from 1.
-const MARKS: u32 = Station::SLOTS as u32;
 
 // ---- entries ----
 fn key_fits(low: u8, key: u8) -> bool
@@ -37,9 +36,9 @@ fn key_fits(low: u8, key: u8) -> bool
     key < Station::KEYS_U8
 }
 
-// 02 §5: "1 to 8 ones for an entry".
-fn entry_right(e: Entry) -> bool
-    ensures { λ r. ⌜ r ≡ entryRight narrowKind (listedEntry e) ⌝ }
+// 02 §5: "1 to 8 ones for an entry"; of a wide store 16.
+fn entry_right(kind: Kind, e: Entry) -> bool
+    ensures { λ r. ⌜ r ≡ entryRight (kindOf kind) (listedEntry e) ⌝ }
 {
     let n = key_count(e.keys);
     let id = e.id;
@@ -49,7 +48,7 @@ fn entry_right(e: Entry) -> bool
         }
         return id.txn == 0;
     }
-    if Station::WRITES_U8 < n {
+    if write_limit(kind) < wide(n) {
         return false;
     }
     if id.txn == 0 {
@@ -87,11 +86,11 @@ fn no_values(l: Live, n: usize) -> bool
 }
 
 // The write set: within its limit, the values past it zero. Its keys are a number's, and ascend.
-fn writes_right(l: Live) -> bool
-    ensures { λ r. ⌜ r ≡ writesRight narrowKind (listedLive l) ⌝ }
+fn writes_right(kind: Kind, l: Live) -> bool
+    ensures { λ r. ⌜ r ≡ writesRight (kindOf kind) (listedLive l) ⌝ }
 {
     let n = wide(key_count(l.keys));
-    if Station::WRITES < n {
+    if write_limit(kind) < n {
         return false;
     }
     no_values(l, n)
@@ -141,8 +140,8 @@ fn unused_right(l: Live) -> bool
 }
 
 // A place in use but for its phase and its reads: these are tested with the entries that they name.
-fn lists_right(l: Live) -> bool
-    ensures { λ r. ⌜ r ≡ listsRight narrowKind (listedLive l) ⌝ }
+fn lists_right(kind: Kind, l: Live) -> bool
+    ensures { λ r. ⌜ r ≡ listsRight (kindOf kind) (listedLive l) ⌝ }
 {
     if l.txn == 0 {
         return false;
@@ -150,7 +149,7 @@ fn lists_right(l: Live) -> bool
     if Station::READS_U8 < l.read_count {
         return false;
     }
-    writes_right(l)
+    writes_right(kind, l)
 }
 
 // A closing transaction's clock, records stored and keys written.
@@ -180,18 +179,18 @@ fn is_unused(p: Phase) -> bool
 }
 
 // A place in use.
-fn used_right(l: Live) -> bool
-    ensures { λ r. ⌜ (isUnused (l .phase) ≡ false → r ≡ shape narrowKind (listedLive l)) ⌝ }
+fn used_right(kind: Kind, l: Live) -> bool
+    ensures { λ r. ⌜ (isUnused (l .phase) ≡ false → r ≡ shape (kindOf kind) (listedLive l)) ⌝ }
 {
     let p = l.phase;
     match p {
         Phase::Unused => false,
-        Phase::Open => lists_right(l),
+        Phase::Open => lists_right(kind, l),
         Phase::Closing(_, clock, stored) => {
             if !counts_right(clock, stored, write_count(l)) {
                 return false;
             }
-            lists_right(l)
+            lists_right(kind, l)
         }
     }
 }
@@ -249,23 +248,40 @@ fn differ(xs: &[u32]) -> bool
     true
 }
 
-// Every closing transaction's slot is there and not held.
-fn slots_free(txns: &[u32; TXNS], marks: &[u32]) -> bool
-    ensures { λ r. ⌜ r ≡ all (slotFree narrowKind (now (txns .entry))) (now (marks .entry)) ⌝ }
+// Every closing transaction's slot is among so many and not held.
+fn slots_free(most: usize, txns: &[u32; TXNS], marks: &[u32]) -> bool
+    requires { ⌜ most ≤ entryPlaces ⌝ }
+    ensures { λ r. ⌜ r ≡ all (slotFree most (now (txns .entry))) (now (marks .entry)) ⌝ }
 {
     let mut i = 0;
     while i < marks.len() {
         let m = marks[i];
         i += 1;
         if m != 0 {
-            if MARKS < m {
+            let slot = m as usize;
+            if most < slot {
                 return false;
             }
-            let at = m as usize + Station::LAST_PLACE;
+            let at = slot + Station::LAST_PLACE;
             if txns[at] != 0 {
                 return false;
             }
         }
+    }
+    true
+}
+
+// No entry past so many is held: of a kind with fewer slots than there are entries, the rest are unused.
+fn none_past(most: usize, txns: &[u32]) -> bool
+    requires { ⌜ most ≤ entryPlaces ⌝ }
+    ensures { λ r. ⌜ r ≡ nonePast most (now (txns .entry)) ⌝ }
+{
+    let mut i = Station::LIVE + most;
+    while i < txns.len() {
+        if txns[i] != 0 {
+            return false;
+        }
+        i += 1;
     }
     true
 }
@@ -306,12 +322,13 @@ fn named(e: Entry, read: Read) -> bool
 pub fn is_sound(station: Station) -> bool
     ensures { λ r. ⌜ r ≡ sound (listed station) ⌝ }
 {
+    let kind = station.kind;
     // The transactions of the live places, then of the entries; 0 where unused.
     let mut txns = [0u32; TXNS];
     let mut d = 0;
     while d < Station::SLOTS {
         let e = station.entries[d];
-        if !entry_right(e) {
+        if !entry_right(kind, e) {
             return false;
         }
         let id = e.id;
@@ -342,7 +359,7 @@ pub fn is_sound(station: Station) -> bool
             continue;
         }
         let used = station.live[i];
-        if !used_right(used) {
+        if !used_right(kind, used) {
             return false;
         }
         let reader = station.live[i];
@@ -377,5 +394,9 @@ pub fn is_sound(station: Station) -> bool
     if !differ(&marks) {
         return false;
     }
-    slots_free(&txns, &marks)
+    let most = slots(kind);
+    if !slots_free(most, &txns, &marks) {
+        return false;
+    }
+    none_past(most, &txns)
 }

@@ -5,7 +5,7 @@ use mathlib.Core.Logic.{_≢_}
 use mathlib.Core.Bool.{Bool, true, false, not}
 use mathlib.Core.List.{List, [], _∷_, _++_, map}
 use lib.Dec.{eqb, leb}
-use lib.ListN.{length}
+use lib.ListN.{length, length-map}
 use native.Mathlib.Decide.{decLt}
 use native.Mathlib.Nat.{lt-irrefl}
 use native.Mathlib.Omega.{arith}
@@ -25,8 +25,8 @@ use Rattle.model.proofs.RefusalLaws.{row-off}
 use Rattle.model.proofs.SoundFacts.{live-facts}
 use Rattle.model.proofs.SoundLaws.{Used}
 use Rattle.model.proofs.StationLaws.{place-hit}
-use Rattle.stations.specs.Found.{liveTxn, liveIn, stationOf, firstRow, namedRows, openRows}
-use Rattle.stations.proofs.Callers.{place-live, place-none}
+use Rattle.stations.specs.Found.{liveTxn, liveIn, placeIn, isLiveIn, firstRow, namedRows, openRows}
+use Rattle.stations.proofs.Search.{member-hit, member-miss}
 
 -- a row's number is not 0, which stands for none
 abbrev pub isNumbered : Row → Bool
@@ -121,7 +121,7 @@ pub record Placed (st : Station) (t k i : ℕ) : Type 0 where
   pub place : i ≡ placeOf t st
   pub live : isLive t st ≡ true
 
-module _ (st : Station) (t k i : ℕ) (p : i ≡ placeOf t (stationOf (st .live) [])) (o : i < livePlaces) where
+module _ (st : Station) (t k i : ℕ) (p : i ≡ placeIn t (st .live)) (o : i < livePlaces) where
   found : (ms : List Row) → any applies (namedRows (st .live) t k (sound st) ++ ms) ≡ false → Placed st t k i × (any applies ms ≡ false)
   unfolding namedRows isLive liveTxns placeOf
   found ms h =
@@ -138,7 +138,7 @@ module _ (st : Station) (t k i : ℕ) (p : i ≡ placeOf t (stationOf (st .live)
 
     -- past row 9 it is open
     module _ (e : r ≡ firstRow (openRows (st .live) t k b)) where
-      open-both : Placed st t k i × (any applies (9 when isClosing (liveIn (st .live) (placeOf t (stationOf (st .live) [])) .phase) ∷ []) ≡ false)
+      open-both : Placed st t k i × (any applies (9 when isClosing (liveIn (st .live) (placeIn t (st .live)) .phase) ∷ []) ≡ false)
       unfolding openRows
       open-both = found _ (rows-off st (openRows (st .live) t k) b tested r e (open-numbered (st .live) t k (sound st)) z)
 
@@ -158,12 +158,12 @@ module _ (st : Station) (t k i : ℕ) (f : Placed st t k i) where
   place-used = live-facts st (f .right) i place-numbered
 
 -- ── from the place that was found ──
-pub place-row : (ls : List Live) (t i : ℕ) → length ls ≡ 8 → i ≡ first (eqb t) (map liveTxn ls) → leb livePlaces i ≡ not (isLive t (stationOf ls []))
+pub place-row : (ls : List Live) (t i : ℕ) → length ls ≡ 8 → i ≡ first (eqb t) (map liveTxn ls) → leb livePlaces i ≡ not (isLiveIn t ls)
 place-row ls t i n at = go (decLt i 8)
   where
-    go : Dec (i < 8) → leb livePlaces i ≡ not (isLive t (stationOf ls []))
-    go (yes y) = lt-leb 8 i y ∙ sym (ap not (place-live (stationOf ls []) t i at n y))
-    go (no y) = let o : 8 ≤ i = omega (arith, y) in le-leb 8 i o ∙ sym (ap not (place-none (stationOf ls []) t i at n o))
+    go : Dec (i < 8) → leb livePlaces i ≡ not (isLiveIn t ls)
+    go (yes y) = lt-leb 8 i y ∙ sym (ap not (member-hit t i (map liveTxn ls) (sym at) (rw (length-map ls liveTxn, n) y)))
+    go (no y) = let o : 8 ≤ i = omega (arith, y) in le-leb 8 i o ∙ sym (ap not (member-miss t i (map liveTxn ls) (sym at) (rw (length-map ls liveTxn, n) o)))
 
 pub named-row-is : (ls : List Live) (t k i : ℕ) (b : Bool) → length ls ≡ 8 → i ≡ first (eqb t) (map liveTxn ls)
     → firstRow (2 when not b ∷ 3 when eqb t 0 ∷ 4 when leb keys k ∷ 8 when leb livePlaces i ∷ []) ≡ firstRow (namedRows ls t k b)
@@ -183,7 +183,7 @@ module _ (ls : List Live) (t k i : ℕ) (b : Bool) (r : ℕ) (e : r ≡ firstRow
   unfolding openRows
   open-early n = e ∙ first-append (namedRows ls t k b) _ (λ z. n (e ∙ z))
 
-  module _ (z : r ≡ 0) (p : i ≡ placeOf t (stationOf ls [])) (h : Phase) (f : h ≡ liveIn ls i .phase) where
+  module _ (z : r ≡ 0) (p : i ≡ placeIn t ls) (h : Phase) (f : h ≡ liveIn ls i .phase) where
     open-late : firstRow (9 when isClosing h ∷ []) ≡ firstRow (openRows ls t k b)
     unfolding openRows
     open-late =

@@ -11,7 +11,7 @@ use Rattle.stations.specs.declared.Change.{Change}
 
 -- the station with the change made, and its answer
 unfoldable pub changedBy : Station → Change → Outcome
-changedBy st c = record { answer = c .answer; station = record { live = set (st .live) (c .place) (c .live); entries = set (st .entries) (c .slot) (c .entry) } }
+changedBy st c = record { answer = c .answer; station = record { kind = st .kind; live = set (st .live) (c .place) (c .live); entries = set (st .entries) (c .slot) (c .entry) } }
 
 -- the change comes to what the effect hands back, and its place and slot are there
 unfoldable pub IsChange : Station → Effect → Change → Type 0

@@ -1,14 +1,15 @@
 -- Names for what the contracts of this crate say of lists.
 use Prim.Native.Nat.{ℕ}
 use mathlib.Core.Bool.{Bool, not, cond}
-use mathlib.Core.List.{List, [], _∷_, _++_}
+use mathlib.Core.List.{List, [], _∷_, _++_, map}
 use lib.Dec.{eqb, leb}
-use lib.ListN.{take, drop}
-use Rattle.model.specs.Kinds.{narrowKind}
+use lib.ListN.{take, drop, getD}
+use Rattle.model.specs.Kinds.{Kind}
 use Rattle.model.specs.Types.{Live, Entry, Station}
+use Rattle.model.specs.Lists.{first, member}
 use Rattle.model.specs.Limits.{keys}
-use Rattle.model.specs.Lives.{slotMark, isClosing}
-use Rattle.model.specs.Stations.{liveAt, isLive, placeOf}
+use Rattle.model.specs.Lives.{liveBeyond, slotMark, isClosing}
+use Rattle.model.specs.Clocks.{entryClock, liveClock}
 use Rattle.model.specs.Effects.{Row, _when_}
 
 -- the transaction at a place, and of an entry
@@ -22,12 +23,24 @@ entryTxn e = e .id .txn
 abbrev pub liveMark : Live → ℕ
 liveMark l = slotMark (l .phase)
 
--- the station that has these; the transaction at a place of these
-abbrev pub stationOf : List Live → List Entry → Station
-stationOf ls es = record { kind = narrowKind; live = ls; entries = es }
+-- the station of a kind that has these
+abbrev pub stationOf : Kind → List Live → List Entry → Station
+stationOf κ ls es = record { kind = κ; live = ls; entries = es }
 
+-- ── by the live places and the entries alone, whatever the kind ──
+-- the transaction at a place (model's liveAt), the place of a transaction (placeOf), and whether it has one (isLive)
 abbrev pub liveIn : List Live → ℕ → Live
-liveIn ls i = liveAt (stationOf ls []) i
+liveIn ls i = getD ls i liveBeyond
+
+abbrev pub placeIn : ℕ → List Live → ℕ
+placeIn t ls = first (eqb t) (map liveTxn ls)
+
+abbrev pub isLiveIn : ℕ → List Live → Bool
+isLiveIn t ls = member t (map liveTxn ls)
+
+-- the clocks that are taken (clocks)
+abbrev pub clocksIn : List Live → List Entry → List ℕ
+clocksIn ls es = map entryClock es ++ map liveClock ls
 
 module _ {A : Type 0} where
   -- has a key that is k or greater
@@ -46,8 +59,8 @@ firstRow (r ∷ rs) = cond (r .applies) (r .returned) (firstRow rs)
 
 -- rows 2, 3, 4 and 8 of a call on transaction t and key k, where the soundness test said b and these are live; a call without a key has key 0
 unfoldable pub namedRows : List Live → ℕ → ℕ → Bool → List Row
-namedRows ls t k b = 2 when not b ∷ 3 when eqb t 0 ∷ 4 when leb keys k ∷ 8 when not (isLive t (stationOf ls [])) ∷ []
+namedRows ls t k b = 2 when not b ∷ 3 when eqb t 0 ∷ 4 when leb keys k ∷ 8 when not (isLiveIn t ls) ∷ []
 
 -- and row 9
 unfoldable pub openRows : List Live → ℕ → ℕ → Bool → List Row
-openRows ls t k b = namedRows ls t k b ++ (9 when isClosing (liveIn ls (placeOf t (stationOf ls [])) .phase) ∷ [])
+openRows ls t k b = namedRows ls t k b ++ (9 when isClosing (liveIn ls (placeIn t ls) .phase) ∷ [])

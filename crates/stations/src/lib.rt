@@ -8,13 +8,12 @@ ghost use lib.Dec.{eqb, leb};
 ghost use lib.ListN.{length, take};
 ghost use Rattle.model.specs.Lists.{_and_, first, member, maximum, anyBelow};
 ghost use Rattle.model.specs.Limits.{keys, livePlaces, entryPlaces, writePlaces, readLimit};
-ghost use Rattle.model.specs.Kinds.{narrowKind};
 ghost use Rattle.model.specs.Lives.{noLive, writesOf, readKey, hasWritten, hasRead, valueUnder, isClosing, closingClock, slotMark, withPhase};
 ghost use Rattle.model.specs.KeySets.{keySet};
-ghost use Rattle.model.specs.Listed.{listedLive, listedLives, listedEntry, listedEntries, listed};
+ghost use Rattle.model.specs.Listed.{kindOf, listedLive, listedLives, listedEntry, listedEntries, listed};
 ghost use Rattle.model.specs.Entries.{wrote, recordOf, entryFor};
-ghost use Rattle.model.specs.Clocks.{entryClock, liveClock, clocks};
-ghost use Rattle.model.specs.Stations.{isFree, placeOf, setLive, setEntry};
+ghost use Rattle.model.specs.Clocks.{entryClock, liveClock};
+ghost use Rattle.model.specs.Stations.{isFree, setLive, setEntry};
 ghost use Rattle.model.specs.Sound.{zeroPastCounts};
 ghost use Rattle.model.specs.Ranges.{ReadsFit};
 ghost use Rattle.model.specs.Effects.{says, _when_};
@@ -23,13 +22,14 @@ ghost use Rattle.model.specs.Put.{withWrite};
 ghost use Rattle.model.specs.Get.{withRead};
 ghost use Rattle.model.specs.Commit.{highestFree};
 ghost use Rattle.stations.specs.Changes.{changedBy, IsChange};
-ghost use Rattle.stations.specs.Found.{liveTxn, entryTxn, liveMark, stationOf, liveIn, joined, firstRow, namedRows, openRows};
+ghost use Rattle.stations.specs.Found.{entryTxn, liveMark, stationOf, liveIn, placeIn, clocksIn, joined, firstRow, namedRows, openRows};
 use keysets::has_key;
 use keysets::keys_below;
 use keysets::with_key;
 use model::Answer;
 use model::Entry;
 use model::Id;
+use model::Kind;
 use model::Live;
 use model::Outcome;
 use model::Phase;
@@ -37,6 +37,7 @@ use model::Read;
 use model::Station;
 use model::blank;
 pub use model::no_entry;
+use model::slots;
 use model::wide;
 
 // ---- unused, and just started
@@ -55,7 +56,7 @@ pub fn opened(txn: u32) -> Live
 // ---- where a transaction is
 // The first place with this transaction, 0 for the lowest unused; their number where there is none.
 pub fn place_of(live: [Live; Station::LIVE], txn: u32) -> usize
-    ensures { λ r. ⌜ r ≡ first (eqb txn) (map liveTxn (listedLives live)) ⌝ }
+    ensures { λ r. ⌜ r ≡ placeIn txn (listedLives live) ⌝ }
 {
     let mut i = 0;
     while i < Station::LIVE {
@@ -157,12 +158,16 @@ fn is_marked(marks: [usize; Station::LIVE], mark: usize) -> bool
     false
 }
 
-// The highest slot that no entry and no closing transaction has; their number where there is none.
-pub fn highest_free(live: [Live; Station::LIVE], entries: [Entry; Station::SLOTS]) -> usize
-    ensures { λ r. ⌜ r ≡ cond (anyBelow (isFree (stationOf (listedLives live) (listedEntries entries))) (narrowKind .slots)) (highestFree (stationOf (listedLives live) (listedEntries entries))) entryPlaces ⌝ }
+// The highest slot of the kind that no entry and no closing transaction has; 64, which is no slot of either kind, where there is none.
+pub fn highest_free(
+    kind: Kind,
+    live: [Live; Station::LIVE],
+    entries: [Entry; Station::SLOTS],
+) -> usize
+    ensures { λ r. ⌜ r ≡ cond (anyBelow (isFree (stationOf (kindOf kind) (listedLives live) (listedEntries entries))) (kindOf kind .slots)) (highestFree (stationOf (kindOf kind) (listedLives live) (listedEntries entries))) entryPlaces ⌝ }
 {
     let marks = closing_slots(live);
-    let mut n = Station::SLOTS;
+    let mut n = slots(kind);
     while 0 < n {
         let d = n - 1;
         let e = entries[d];
@@ -390,7 +395,7 @@ fn greatest_closing_clock(live: [Live; Station::LIVE]) -> u64
 
 // The greatest clock of the entries and the closing transactions; 0 where there is none.
 pub fn greatest_clock(live: [Live; Station::LIVE], entries: [Entry; Station::SLOTS]) -> u64
-    ensures { λ r. ⌜ r ≡ maximum (clocks (stationOf (listedLives live) (listedEntries entries))) ⌝ }
+    ensures { λ r. ⌜ r ≡ maximum (clocksIn (listedLives live) (listedEntries entries)) ⌝ }
 {
     let held = greatest_entry_clock(entries);
     let closing = greatest_closing_clock(live);
@@ -474,7 +479,7 @@ fn named_row(tested: bool, txn: u32, key: u8, place: usize) -> u8
 
 // By rows 2, 3, 4 and 8. A call without a key gives 0.
 pub fn named_at(live: [Live; Station::LIVE], tested: bool, txn: u32, key: u8) -> Named
-    ensures { λ r. ⌜ (r .row ≡ firstRow (namedRows (listedLives live) txn key tested)) × (r .place ≡ placeOf txn (stationOf (listedLives live) [])) × (r .row ≡ 0 → r .place < livePlaces) ⌝ }
+    ensures { λ r. ⌜ (r .row ≡ firstRow (namedRows (listedLives live) txn key tested)) × (r .place ≡ placeIn txn (listedLives live)) × (r .row ≡ 0 → r .place < livePlaces) ⌝ }
 {
     let place = place_of(live, txn);
     Named {
@@ -485,7 +490,7 @@ pub fn named_at(live: [Live; Station::LIVE], tested: bool, txn: u32, key: u8) ->
 
 // By rows 2, 3, 4, 8 and 9.
 pub fn open_at(live: [Live; Station::LIVE], tested: bool, txn: u32, key: u8) -> Named
-    ensures { λ r. ⌜ (r .row ≡ firstRow (openRows (listedLives live) txn key tested)) × (r .place ≡ placeOf txn (stationOf (listedLives live) [])) × (r .row ≡ 0 → r .place < livePlaces) ⌝ }
+    ensures { λ r. ⌜ (r .row ≡ firstRow (openRows (listedLives live) txn key tested)) × (r .place ≡ placeIn txn (listedLives live)) × (r .row ≡ 0 → r .place < livePlaces) ⌝ }
 {
     let at = named_at(live, tested, txn, key);
     if at.row != 0 {

@@ -27,7 +27,7 @@ use Rattle.model.proofs.RefusalLaws.{refusals-none, skipped, hit}
 use Rattle.model.proofs.Tests.{not-of-false, not-of-true}
 use Rattle.reading.specs.declared.Chosen.the-variants.{Version, Nofit, None}
 use Rattle.reading.specs.Choosing.{chosenAs}
-use Rattle.stations.specs.Found.{stationOf, firstRow, namedRows, openRows}
+use Rattle.stations.specs.Found.{placeIn, firstRow, namedRows, openRows}
 use Rattle.stations.proofs.RowLaws.{rows-refused, rows-passed, open-numbered}
 use Rattle.storing.proofs.Parts.{length-right}
 
@@ -84,7 +84,7 @@ module _ (st : Station) (s : List ℕ) (t k : ℕ) where
     pub get-refused : r ≢ 0 → get st s t k ≡ says (A.Refused r 0) st
     get-refused n = get-sized ∙ rows-refused st (openRows (st .live) t k) b tested r e n _
 
-    pub get-open : r ≡ 0 → (i : ℕ) → i ≡ placeOf t (stationOf (st .live) []) → (l : Live) → l ≡ liveAt st i → get st s t k ≡ get-rest i l
+    pub get-open : r ≡ 0 → (i : ℕ) → i ≡ placeIn t (st .live) → (l : Live) → l ≡ liveAt st i → get st s t k ≡ get-rest i l
     unfolding placeOf liveTxns
     get-open n i p l q =
         get-sized ∙ (rows-passed st (openRows (st .live) t k) b tested r e (open-numbered (st .live) t k (sound st)) n _

@@ -16,10 +16,10 @@ use Rattle.model.specs.declared.Phase.the-variants.{Unused, Open, Closing}
 use Rattle.model.specs.declared.Answer.{Answer}
 use Rattle.model.specs.declared.Answer.the-variants as A
 use Rattle.model.specs.Limits.{livePlaces, entryPlaces}
-use Rattle.model.specs.Kinds.{Kind, narrowKind, storeSize}
+use Rattle.model.specs.Kinds.{Kind, storeSize}
 use Rattle.model.specs.Lives.{writeCount, withPhase, noWrite, noLive, isClosing, closingSlot, recordsStored}
 use Rattle.model.specs.Entries.{commitRecord, entryFor}
-use Rattle.model.specs.Listed.{listedLive, listedEntry, listed}
+use Rattle.model.specs.Listed.{kindOf, listedLive, listedEntry, listed}
 use Rattle.model.specs.Stations.{liveAt, setLive, setEntry, liveTxns, isLive, placeOf}
 use Rattle.model.specs.Records.{versionRecord, withRecord}
 use Rattle.model.specs.Sound.{sound}
@@ -29,7 +29,7 @@ use Rattle.model.proofs.ListedLaws.{lives-set, listed-set}
 use Rattle.model.proofs.RefusalLaws.{refusals-none, skipped, hit}
 use Rattle.model.proofs.Tests.{not-of-false, not-of-true}
 use Rattle.stations.specs.Changes.{changedBy, IsChange}
-use Rattle.stations.specs.Found.{stationOf, firstRow, namedRows}
+use Rattle.stations.specs.Found.{placeIn, firstRow, namedRows}
 use Rattle.stations.proofs.RowLaws.{rows-refused, rows-passed, named-numbered}
 use Rattle.storing.specs.Parts.{recordAnswer, recordStored}
 use Rattle.storing.proofs.Parts.{length-right}
@@ -81,7 +81,7 @@ module _ (st : Station) (s : List ℕ) (t : ℕ) where
     pub step-refused : r ≢ 0 → step st s t ≡ says (A.Refused r 0) st
     step-refused n = step-sized ∙ rows-refused st (namedRows (st .live) t 0) b tested r e n _
 
-    pub step-open : r ≡ 0 → (i : ℕ) → i ≡ placeOf t (stationOf (st .live) []) → step st s t ≡ step-rest i
+    pub step-open : r ≡ 0 → (i : ℕ) → i ≡ placeIn t (st .live) → step st s t ≡ step-rest i
     unfolding placeOf liveTxns
     step-open n i p = step-sized ∙ (rows-passed st (namedRows (st .live) t 0) b tested r e (named-numbered (st .live) t 0 (sound st)) n _ ∙ ap step-rest (sym p))
 
@@ -115,7 +115,7 @@ module _ (st : Station) (s : List ℕ) (t : ℕ) where
 pub is-done : (st : machine.Station.Station) (a : Answer) (i : ℕ) (m : machine.Live.Live) (d : ℕ) (e : machine.Entry.Entry) → i < livePlaces → d < entryPlaces
     → IsChange st (says a (setEntry (setLive (listed st) i (listedLive m)) d (listedEntry e))) (record { answer = a; place = i; live = m; slot = d; entry = e })
 unfolding IsChange changedBy outcomeOf says setLive setEntry
-is-done st a i m d e v u = (v, u, λ j. record { answer = a; station = record { kind = narrowKind; live = lives-set (st .live) i m j; entries = listed-set (st .entries) d e j } })
+is-done st a i m d e v u = (v, u, λ j. record { answer = a; station = record { kind = kindOf (st .kind); live = lives-set (st .live) i m j; entries = listed-set (st .entries) d e j } })
 
 -- a phase that is none of the third kind
 pub not-closing : (p : Phase) → (denote.Enum.Declared.tagOf Rattle.model.proofs.Phase.the-type p ≡ 0) ⊎ (denote.Enum.Declared.tagOf Rattle.model.proofs.Phase.the-type p ≡ 1) → isClosing p ≡ false

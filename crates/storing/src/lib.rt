@@ -3,17 +3,17 @@
 // the effect. A refusal changes no byte; a record is written whole, into its own 24 bytes lent to the record writer.
 ghost use mathlib.Core.Path.{_≡_};
 ghost use mathlib.Core.Bool.{true, not};
-ghost use Prim.Native.Nat.{_<_, _≤_};
+ghost use Prim.Native.Nat.{_+_, _<_, _≤_};
 ghost use lib.Dec.{leb};
 ghost use lib.ListN.{length};
 ghost use Rattle.model.specs.Lists.{_and_};
-ghost use Rattle.model.specs.Limits.{entryPlaces, readLimit};
+ghost use Rattle.model.specs.Limits.{readLimit, recordSize};
 ghost use Rattle.model.specs.Kinds.{narrowKind, width, storeSize};
 ghost use Rattle.model.specs.Lives.{writeCount, hasRead};
 ghost use Rattle.model.specs.Entries.{wrote, commitRecord, recordOf};
-ghost use Rattle.model.specs.Records.{valueIn, versionRecord, zeroRecord, carriesVersion, recordAt, withRecord};
+ghost use Rattle.model.specs.Records.{valueIn, versionRecord, zeroRecord, carriesVersion, recordPlace, recordAt, withRecord};
 ghost use Rattle.model.specs.KeySets.{keySet};
-ghost use Rattle.model.specs.Listed.{listedLive, listedEntry, listed};
+ghost use Rattle.model.specs.Listed.{kindOf, listedLive, listedEntry, listed};
 ghost use Rattle.model.specs.Sound.{sound};
 ghost use Rattle.model.specs.Effects.{stored};
 ghost use Rattle.model.specs.Get.{get};
@@ -25,9 +25,12 @@ use keysets::nth_key;
 use model::Answer;
 use model::Entry;
 use model::Id;
+use model::Kind;
 use model::Live;
 use model::Phase;
 use model::Station;
+use model::slots;
+use model::store_size;
 use model::write_count;
 use reading::Chosen;
 use reading::choose_version;
@@ -57,33 +60,45 @@ use stations::with_phase;
 use stations::with_read;
 
 // ---- one record of a slot, written whole
-fn store_version(store: &mut [u8], slot: usize, n: usize, key: u8, id: Id, value: u64)
-    requires { ⌜ length (now store) ≡ storeSize narrowKind ⌝ }
-    requires { ⌜ slot < entryPlaces ⌝ }
-    requires { ⌜ n < width narrowKind ⌝ }
-    ensures { λ _. ⌜ now (store .exit) ≡ withRecord narrowKind (now (store .entry)) slot n (versionRecord key id value) ⌝ }
+// Where record n of a slot begins.
+pub fn record_place(kind: Kind, slot: usize, n: usize) -> usize
+    requires { ⌜ slot < kindOf kind .slots ⌝ }
+    requires { ⌜ n < width (kindOf kind) ⌝ }
+    ensures { λ r. ⌜ (r ≡ recordPlace (kindOf kind) slot n) × (r + recordSize ≤ storeSize (kindOf kind)) × (r + recordSize ≤ storeSize narrowKind) ⌝ }
 {
-    let at = Station::SLOT * slot + Station::RECORD * n;
+    match kind {
+        Kind::Narrow => Station::SLOT * slot + Station::RECORD * n,
+        Kind::Wide => Station::WIDE_SLOT * slot + Station::RECORD * n,
+    }
+}
+
+fn store_version(kind: Kind, store: &mut [u8], slot: usize, n: usize, key: u8, id: Id, value: u64)
+    requires { ⌜ length (now store) ≡ storeSize (kindOf kind) ⌝ }
+    requires { ⌜ slot < kindOf kind .slots ⌝ }
+    requires { ⌜ n < width (kindOf kind) ⌝ }
+    ensures { λ _. ⌜ now (store .exit) ≡ withRecord (kindOf kind) (now (store .entry)) slot n (versionRecord key id value) ⌝ }
+{
+    let at = record_place(kind, slot, n);
     write_version(&mut store[at..at + Station::RECORD], key, id, value);
 }
 
-fn store_commit(store: &mut [u8], slot: usize, e: Entry)
-    requires { ⌜ length (now store) ≡ storeSize narrowKind ⌝ }
-    requires { ⌜ slot < entryPlaces ⌝ }
-    requires { ⌜ length (keySet (e .keys)) ≤ narrowKind .writeLimit ⌝ }
-    ensures { λ _. ⌜ now (store .exit) ≡ withRecord narrowKind (now (store .entry)) slot 0 (commitRecord narrowKind (listedEntry e)) ⌝ }
+fn store_commit(kind: Kind, store: &mut [u8], slot: usize, e: Entry)
+    requires { ⌜ length (now store) ≡ storeSize (kindOf kind) ⌝ }
+    requires { ⌜ slot < kindOf kind .slots ⌝ }
+    requires { ⌜ length (keySet (e .keys)) ≤ kindOf kind .writeLimit ⌝ }
+    ensures { λ _. ⌜ now (store .exit) ≡ withRecord (kindOf kind) (now (store .entry)) slot 0 (commitRecord (kindOf kind) (listedEntry e)) ⌝ }
 {
-    let at = Station::SLOT * slot;
-    write_commit(&mut store[at..at + Station::RECORD], e);
+    let at = record_place(kind, slot, 0);
+    write_commit(kind, &mut store[at..at + Station::RECORD], e);
 }
 
 // Zeros over the commit record: the slot is free.
-pub fn store_zero(store: &mut [u8], slot: usize)
-    requires { ⌜ length (now store) ≡ storeSize narrowKind ⌝ }
-    requires { ⌜ slot < entryPlaces ⌝ }
-    ensures { λ _. ⌜ now (store .exit) ≡ withRecord narrowKind (now (store .entry)) slot 0 zeroRecord ⌝ }
+pub fn store_zero(kind: Kind, store: &mut [u8], slot: usize)
+    requires { ⌜ length (now store) ≡ storeSize (kindOf kind) ⌝ }
+    requires { ⌜ slot < kindOf kind .slots ⌝ }
+    ensures { λ _. ⌜ now (store .exit) ≡ withRecord (kindOf kind) (now (store .entry)) slot 0 zeroRecord ⌝ }
 {
-    let commit = Station::SLOT * slot;
+    let commit = record_place(kind, slot, 0);
     write_zero(&mut store[commit..commit + Station::RECORD]);
 }
 
@@ -106,15 +121,15 @@ struct VersionRead {
 }
 
 // The version record of a key, in the slot of an entry that wrote it.
-fn read_version(store: &[u8], slot: usize, e: Entry, key: u8) -> VersionRead
-    requires { ⌜ length (now store) ≡ storeSize narrowKind ⌝ }
-    requires { ⌜ slot < entryPlaces ⌝ }
-    requires { ⌜ (length (keySet (e .keys)) ≤ narrowKind .writeLimit) × (wrote (listedEntry e) key ≡ true) ⌝ }
-    ensures { λ r. ⌜ r .carried ≡ carriesVersion (recordAt narrowKind (now (store .entry)) slot (recordOf (listedEntry e) key)) key (e .id) ⌝ }
-    ensures { λ r. ⌜ r .value ≡ valueIn (recordAt narrowKind (now (store .entry)) slot (recordOf (listedEntry e) key)) ⌝ }
+fn read_version(kind: Kind, store: &[u8], slot: usize, e: Entry, key: u8) -> VersionRead
+    requires { ⌜ length (now store) ≡ storeSize (kindOf kind) ⌝ }
+    requires { ⌜ slot < kindOf kind .slots ⌝ }
+    requires { ⌜ (length (keySet (e .keys)) ≤ kindOf kind .writeLimit) × (wrote (listedEntry e) key ≡ true) ⌝ }
+    ensures { λ r. ⌜ r .carried ≡ carriesVersion (recordAt (kindOf kind) (now (store .entry)) slot (recordOf (listedEntry e) key)) key (e .id) ⌝ }
+    ensures { λ r. ⌜ r .value ≡ valueIn (recordAt (kindOf kind) (now (store .entry)) slot (recordOf (listedEntry e) key)) ⌝ }
 {
     let id = e.id;
-    let at = Station::SLOT * slot + Station::RECORD * record_of(e, key);
+    let at = record_place(kind, slot, record_of(e, key));
     VersionRead {
         carried: carries_version(&store[at..at + Station::RECORD], key, id),
         value: value_in(&store[at..at + Station::RECORD]),
@@ -126,7 +141,8 @@ pub fn get(station: Station, tested: bool, store: &[u8], txn: u32, key: u8) -> C
     requires { ⌜ tested ≡ sound (listed station) ⌝ }
     ensures { λ r. ⌜ IsChange station (get (listed station) (now (store .entry)) txn key) r ⌝ }
 {
-    if store.len() != Station::STORE {
+    let kind = station.kind;
+    if store.len() != store_size(kind) {
         return refused(station, 1);
     }
     let live = station.live;
@@ -152,7 +168,7 @@ pub fn get(station: Station, tested: bool, store: &[u8], txn: u32, key: u8) -> C
     }
     let e = station.entries[d];
     let id = e.id;
-    let version = read_version(store, d, e, key);
+    let version = read_version(kind, store, d, e, key);
     if !version.carried {
         return refused(station, 17);
     }
@@ -162,22 +178,22 @@ pub fn get(station: Station, tested: bool, store: &[u8], txn: u32, key: u8) -> C
 
 // ---- step
 // The next record of a closing transaction with n records stored: a version record, or after all of them the commit record.
-fn store_record(store: &mut [u8], l: Live, e: Entry, slot: u8, n: u8) -> Answer
-    requires { ⌜ length (now store) ≡ storeSize narrowKind ⌝ }
-    requires { ⌜ slot < entryPlaces ⌝ }
-    requires { ⌜ (n ≤ writeCount (listedLive l)) × (writeCount (listedLive l) ≤ narrowKind .writeLimit) × (length (keySet (e .keys)) ≤ narrowKind .writeLimit) ⌝ }
-    ensures { λ r. ⌜ (r ≡ recordAnswer (listedLive l) slot n) × (now (store .exit) ≡ recordStored narrowKind (listedLive l) (listedEntry e) slot n (now (store .entry))) ⌝ }
+fn store_record(kind: Kind, store: &mut [u8], l: Live, e: Entry, slot: u8, n: u8) -> Answer
+    requires { ⌜ length (now store) ≡ storeSize (kindOf kind) ⌝ }
+    requires { ⌜ slot < kindOf kind .slots ⌝ }
+    requires { ⌜ (n ≤ writeCount (listedLive l)) × (writeCount (listedLive l) ≤ kindOf kind .writeLimit) × (length (keySet (e .keys)) ≤ kindOf kind .writeLimit) ⌝ }
+    ensures { λ r. ⌜ (r ≡ recordAnswer (listedLive l) slot n) × (now (store .exit) ≡ recordStored (kindOf kind) (listedLive l) (listedEntry e) slot n (now (store .entry))) ⌝ }
 {
     let d = slot as usize;
     if n == write_count(l) {
-        store_commit(store, d, e);
+        store_commit(kind, store, d, e);
         return Answer::Slipped(slot);
     }
     let id = e.id;
     let j = n as usize;
     let key = nth_key(l.keys, j);
     let value = l.values[j];
-    store_version(store, d, j + 1, key, id, value);
+    store_version(kind, store, d, j + 1, key, id, value);
     Answer::Stored(key)
 }
 
@@ -186,7 +202,8 @@ pub fn step(station: Station, tested: bool, store: &mut [u8], txn: u32) -> Chang
     requires { ⌜ tested ≡ sound (listed station) ⌝ }
     ensures { λ r. ⌜ (IsChange station (step (listed station) (now (store .entry)) txn) r) × (now (store .exit) ≡ stored (step (listed station) (now (store .entry)) txn .stores) (now (store .entry))) ⌝ }
 {
-    if store.len() != Station::STORE {
+    let kind = station.kind;
+    if store.len() != store_size(kind) {
         return refused(station, 1);
     }
     let live = station.live;
@@ -215,7 +232,7 @@ pub fn step(station: Station, tested: bool, store: &mut [u8], txn: u32) -> Chang
         };
     }
     let on = with_phase(l, Phase::Closing(slot, clock, n + 1));
-    let answer = store_record(store, l, e, slot, n);
+    let answer = store_record(kind, store, l, e, slot, n);
     live_changed(station, answer, place, on)
 }
 
@@ -225,14 +242,15 @@ pub fn collect(station: Station, tested: bool, store: &mut [u8], slot: u8) -> Ch
     requires { ⌜ tested ≡ sound (listed station) ⌝ }
     ensures { λ r. ⌜ (IsChange station (collect (listed station) (now (store .entry)) slot) r) × (now (store .exit) ≡ stored (collect (listed station) (now (store .entry)) slot .stores) (now (store .entry))) ⌝ }
 {
-    if store.len() != Station::STORE {
+    let kind = station.kind;
+    if store.len() != store_size(kind) {
         return refused(station, 1);
     }
     if !tested {
         return refused(station, 2);
     }
     let d = slot as usize;
-    if d >= Station::SLOTS {
+    if d >= slots(kind) {
         return refused(station, 14);
     }
     let e = station.entries[d];
@@ -248,11 +266,11 @@ pub fn collect(station: Station, tested: bool, store: &mut [u8], slot: u8) -> Ch
     if is_read(live, id) {
         return refused(station, 16);
     }
-    let at = Station::SLOT * d;
-    if !carries_entry(&store[at..at + Station::RECORD], e) {
+    let at = record_place(kind, d, 0);
+    if !carries_entry(kind, &store[at..at + Station::RECORD], e) {
         return refused(station, 17);
     }
-    store_zero(store, d);
+    store_zero(kind, store, d);
     let free = no_entry();
     entry_changed(station, Answer::Collected(id), d, free)
 }

@@ -15,9 +15,9 @@ use Rattle.model.specs.Types.{Entry, Station, Outcome}
 use Rattle.model.specs.declared as machine
 use Rattle.model.specs.declared.Answer.the-variants as A
 use Rattle.model.specs.Limits.{entryPlaces, sweepLimit}
-use Rattle.model.specs.Kinds.{narrowKind, storeSize}
+use Rattle.model.specs.Kinds.{storeSize}
 use Rattle.model.specs.Ids.{older}
-use Rattle.model.specs.Listed.{listedLives, listedEntry, listedEntries, listed}
+use Rattle.model.specs.Listed.{kindOf, listedLives, listedEntry, listedEntries, listed}
 use Rattle.model.specs.Entries.{noEntry, carriesEntry}
 use Rattle.model.specs.Stations.{entryAt, setEntry}
 use Rattle.model.specs.Records.{zeroRecord, recordAt, withRecord}
@@ -82,6 +82,10 @@ module _ (st : Station) (h : sound st ≡ true) (w : length (st .entries) ≡ en
 
     pub last-may : mayCollect st (entryAt st lastOf) ≡ true
     last-may = a .may (n - 1) (omega arith) .1
+
+    -- it is held, so it is a slot of the kind
+    pub last-below : lastOf < st .kind .slots
+    last-below = held-below st h lastOf (may-held st lastOf last-may)
 
     inside : lastOf < length (st .entries)
     inside = omega (arith, last-low)
@@ -148,6 +152,7 @@ plus-zero m = omega arith
 pub record Sweeping (limit : ℕ) (st₀ : Station) (s₀ : List ℕ) (st : Station) (s : List ℕ) (count n : ℕ) (xs : List ℕ) : Type 0 where
   pub right : sound st ≡ true
   pub long : length (st .entries) ≡ entryPlaces
+  pub kind : st .kind ≡ st₀ .kind
   pub size : length s ≡ storeSize (st .kind)
   pub within : count ≤ limit
   pub slots-left : AreToCollect st n xs
@@ -161,6 +166,7 @@ sweeping-start limit st s n xs h w l a =
     record {
       right = h;
       long = w;
+      kind = refl;
       size = l;
       within = omega arith;
       slots-left = a;
@@ -186,6 +192,7 @@ module _ (limit : ℕ) (st₀ : Station) (s₀ : List ℕ) (st : Station) (s : L
     sweeping-next u k = record {
       right = subst (λ (x : Station). sound x ≡ true) one (unfold Keeps in collect-keeps st s d (p .right));
       long = setEntry-length st d noEntry ∙ p .long;
+      kind = unfold setEntry in p .kind;
       size = sym (ap length two) ∙ (collect-length st s d (p .size) c ∙ ap (λ (x : Station). storeSize (x .kind)) one);
       within = omega arith;
       slots-left = others-left st (p .right) (p .long) n xs (p .slots-left) o;
@@ -231,10 +238,10 @@ module _ (limit : ℕ) (st₀ : Station) (s₀ : List ℕ) (st : Station) (s : L
   )
 
 -- the same, with the slot, the unused entry and the store as the code has them
-pub sweeping-as : (limit : ℕ) (st₀ : Station) (s₀ : List ℕ) (st : machine.Station.Station) (s : List ℕ) (d count n : ℕ) (xs : List ℕ) → Sweeping limit st₀ s₀ (setEntry (listed st) d noEntry) (withRecord narrowKind s d 0 zeroRecord) count n xs
-    → (w : ℕ) → w ≡ d → (x : machine.Entry.Entry) → listedEntry x ≡ noEntry → (y : List ℕ) → y ≡ withRecord narrowKind s w 0 zeroRecord
-    → Sweeping limit st₀ s₀ (stationOf (listedLives (st .live)) (listedEntries (set (st .entries) w x))) y count n xs
+pub sweeping-as : (limit : ℕ) (st₀ : Station) (s₀ : List ℕ) (st : machine.Station.Station) (s : List ℕ) (d count n : ℕ) (xs : List ℕ) → Sweeping limit st₀ s₀ (setEntry (listed st) d noEntry) (withRecord (kindOf (st .kind)) s d 0 zeroRecord) count n xs
+    → (w : ℕ) → w ≡ d → (x : machine.Entry.Entry) → listedEntry x ≡ noEntry → (y : List ℕ) → y ≡ withRecord (kindOf (st .kind)) s w 0 zeroRecord
+    → Sweeping limit st₀ s₀ (stationOf (kindOf (st .kind)) (listedLives (st .live)) (listedEntries (set (st .entries) w x))) y count n xs
 unfolding setEntry
 sweeping-as limit st₀ s₀ st s d count n xs p w q x e y f =
-    subst (λ (z : List ℕ). Sweeping limit st₀ s₀ (stationOf (listedLives (st .live)) (listedEntries (set (st .entries) w x))) z count n xs) (sym (f ∙ ap (λ (c : ℕ). withRecord narrowKind s c 0 zeroRecord) q))
-    (subst (λ (es : List Entry). Sweeping limit st₀ s₀ (stationOf (listedLives (st .live)) es) (withRecord narrowKind s d 0 zeroRecord) count n xs) (sym (listed-set (st .entries) w x ∙ (λ i. set (listedEntries (st .entries)) (q i) (e i)))) p)
+    subst (λ (z : List ℕ). Sweeping limit st₀ s₀ (stationOf (kindOf (st .kind)) (listedLives (st .live)) (listedEntries (set (st .entries) w x))) z count n xs) (sym (f ∙ ap (λ (c : ℕ). withRecord (kindOf (st .kind)) s c 0 zeroRecord) q))
+    (subst (λ (es : List Entry). Sweeping limit st₀ s₀ (stationOf (kindOf (st .kind)) (listedLives (st .live)) es) (withRecord (kindOf (st .kind)) s d 0 zeroRecord) count n xs) (sym (listed-set (st .entries) w x ∙ (λ i. set (listedEntries (st .entries)) (q i) (e i)))) p)

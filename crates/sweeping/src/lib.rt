@@ -10,31 +10,34 @@ ghost use Rattle.model.specs.Lists.{_and_, _or_, any};
 ghost use Rattle.model.specs.Limits as Limits;
 ghost use Rattle.model.specs.Kinds as Kinds;
 ghost use Rattle.model.specs.Ids.{sameId};
-ghost use Rattle.model.specs.Listed.{listedLive, listedLives, listedEntries, listed, listedOutcome};
+ghost use Rattle.model.specs.Listed.{kindOf, listedLive, listedLives, listedEntries, listed, listedOutcome};
 ghost use Rattle.model.specs.Lives.{readsOf};
 ghost use Rattle.model.specs.Sound.{sound};
 ghost use Rattle.model.specs.Effects.{_when_, outcomeOf, stored};
 ghost use Rattle.model.specs.Sweep.{sweep};
-ghost use Rattle.stations.specs.Found.{stationOf, firstRow};
+ghost use Rattle.stations.specs.Found.{firstRow};
 ghost use Rattle.reading.specs.Columns.{Column, AreRows, idAt, hasId};
 ghost use Rattle.sweeping.specs.Marks.{AlsoMarked, Marked};
 ghost use Rattle.sweeping.specs.Sifted.{AreSifted};
-ghost use Rattle.sweeping.specs.Order.{AreToCollect};
+ghost use Rattle.sweeping.specs.Order.{AreToCollect, AreToCollectOf};
 use keysets::is_within;
 use model::Answer;
 use model::Entry;
 use model::Id;
+use model::Kind;
 use model::Live;
 use model::Outcome;
 use model::Station;
 use model::no_entry;
 use model::read_count;
+use model::store_size;
 use model::wide;
 use reading::Candidates;
 use reading::clocks_of;
 use reading::newest_first;
 use reading::txns_of;
 use records::carries_entry;
+use storing::record_place;
 use storing::store_zero;
 
 // ---- which entries there are, and which of them live transactions have read
@@ -168,8 +171,7 @@ fn sifted(
 
 // The slots whose entries may be collected, newest first.
 fn to_collect(live: [Live; Station::LIVE], entries: [Entry; Station::SLOTS]) -> Candidates
-    requires { ⌜ sound (stationOf (listedLives live) (listedEntries entries)) ≡ true ⌝ }
-    ensures { λ r. ⌜ AreToCollect (stationOf (listedLives live) (listedEntries entries)) (r .n) (r .slots) ⌝ }
+    ensures { λ r. ⌜ AreToCollectOf (listedLives live) (listedEntries entries) (r .n) (r .slots) ⌝ }
 {
     let clocks = clocks_of(entries);
     let txns = txns_of(entries);
@@ -193,7 +195,7 @@ fn goes_on(left: usize, count: u8, limit: u64) -> bool
 // Clears the last of the slots, which has the oldest entry, and so on to the first, as far as the limit. A commit record that is not its
 // entry's ends it.
 fn collect_all(station: Station, store: &mut [u8], order: Candidates, limit: u64) -> Outcome
-    requires { ⌜ length (now store) ≡ (Kinds.storeSize Kinds.narrowKind) ⌝ }
+    requires { ⌜ length (now store) ≡ Kinds.storeSize (kindOf (station .kind)) ⌝ }
     requires { ⌜ (sound (listed station) ≡ true) × (0 < limit) × (limit ≤ Limits.sweepLimit) ⌝ }
     requires { ⌜ AreToCollect (listed station) (order .n) (order .slots) ⌝ }
     ensures { λ r. ⌜ (listedOutcome r ≡ outcomeOf (sweep (listed station) (now (store .entry)) limit)) × (now (store .exit) ≡ stored (sweep (listed station) (now (store .entry)) limit .stores) (now (store .entry))) ⌝ }
@@ -205,14 +207,15 @@ fn collect_all(station: Station, store: &mut [u8], order: Candidates, limit: u64
         let s = order.slots[left - 1];
         let d = wide(s);
         let e = next.entries[d];
-        let at = Station::SLOT * d;
-        if !carries_entry(&store[at..at + Station::RECORD], e) {
+        let kind = next.kind;
+        let at = record_place(kind, d, 0);
+        if !carries_entry(kind, &store[at..at + Station::RECORD], e) {
             return Outcome {
                 station: next,
                 answer: Answer::Swept(count),
             };
         }
-        store_zero(store, d);
+        store_zero(kind, store, d);
         let free = no_entry();
         next.entries[d] = free;
         left -= 1;
@@ -225,10 +228,10 @@ fn collect_all(station: Station, store: &mut [u8], order: Candidates, limit: u64
 }
 
 // The first of rows 1, 2 and 20 that applies; 0 where none does.
-fn sweep_row(size: usize, tested: bool, limit: u64) -> u8
-    ensures { λ r. ⌜ r ≡ firstRow (1 when not (eqb size (Kinds.storeSize Kinds.narrowKind)) ∷ 2 when not tested ∷ 20 when (eqb limit 0 or ltb Limits.sweepLimit limit) ∷ []) ⌝ }
+fn sweep_row(kind: Kind, size: usize, tested: bool, limit: u64) -> u8
+    ensures { λ r. ⌜ r ≡ firstRow (1 when not (eqb size (Kinds.storeSize (kindOf kind))) ∷ 2 when not tested ∷ 20 when (eqb limit 0 or ltb Limits.sweepLimit limit) ∷ []) ⌝ }
 {
-    if size != Station::STORE {
+    if size != store_size(kind) {
         return 1;
     }
     if !tested {
@@ -248,7 +251,8 @@ pub fn sweep(station: Station, tested: bool, store: &mut [u8], limit: u64) -> Ou
     requires { ⌜ tested ≡ sound (listed station) ⌝ }
     ensures { λ r. ⌜ (listedOutcome r ≡ outcomeOf (sweep (listed station) (now (store .entry)) limit)) × (now (store .exit) ≡ stored (sweep (listed station) (now (store .entry)) limit .stores) (now (store .entry))) ⌝ }
 {
-    let row = sweep_row(store.len(), tested, limit);
+    let kind = station.kind;
+    let row = sweep_row(kind, store.len(), tested, limit);
     if row != 0 {
         return Outcome {
             station,

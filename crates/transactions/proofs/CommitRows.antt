@@ -55,7 +55,7 @@ module _ (st : Station) (few : st .kind .slots ≤ entryPlaces) (n d : ℕ) (q :
   unfolding slotFor
   slot-taken w o = free-some st few d (rw (ne-eqb n 0 w) at q) o
 
-module _ (st : Station) (n x c : ℕ) (q : c ≡ clockFor n x st) where
+module _ (st : Station) (n x c : ℕ) (q : c ≡ clockFor n x (clocks st)) where
   no-clock : x ≢ 0 → c ≡ 0 → (n ≢ 0) × (member lastClock (clocks st) ≡ true)
   unfolding clockFor
   no-clock w z = go (eqb n 0) (member lastClock (clocks st)) refl refl
@@ -199,7 +199,7 @@ module _ {st : Station} {t x i : ℕ} {l : Live} (k : IsOpen st t x i l) (few : 
       let s = no-slot st few (writeCount l) d q o in
       k .rest ∙ hit 13 _ _ st _ (and-intro _ _ (le-leb 1 (writeCount l) (omega (arith, s .0))) (not-of-false _ (s .1)))
 
-  module _ (o : d < 64) (c : ℕ) (p : c ≡ clockFor (writeCount l) x st) where
+  module _ (o : d < 64) (c : ℕ) (p : c ≡ clockFor (writeCount l) x (clocks st)) where
     pub commit-21 : c ≡ 0 → commit st t x ≡ says (A.Refused 21 0) st
     unfolding last-rows
     commit-21 z =

@@ -21,7 +21,7 @@ use Rattle.model.specs.Put.{withWrite, put}
 use Rattle.model.specs.Abort.{abort}
 use Rattle.model.proofs.RefusalLaws.{refusals-none, skipped, hit}
 use Rattle.model.proofs.Tests.{and-intro, or-none, or-intro-left, or-intro-right, not-of-false, not-of-true, and-none-left, and-none-right}
-use Rattle.stations.specs.Found.{liveTxn, entryTxn, stationOf, liveIn, firstRow, namedRows, openRows}
+use Rattle.stations.specs.Found.{liveTxn, entryTxn, liveIn, placeIn, firstRow, namedRows, openRows}
 use Rattle.stations.proofs.Callers.{place-none, slot-none}
 use Rattle.stations.proofs.RowLaws.{is-unsound, not-unsound, rows-refused, rows-passed, open-numbered}
 
@@ -79,7 +79,7 @@ module _ (st : Station) (t : ℕ) (b : Bool) (tested : b ≡ sound st) (r : ℕ)
   pub abort-refused : r ≢ 0 → abort st t ≡ says (A.Refused r 0) st
   abort-refused n = abort-rows ∙ rows-refused st (openRows (st .live) t 0) b tested r e n _
 
-  pub abort-done : r ≡ 0 → (i : ℕ) → i ≡ placeOf t (stationOf (st .live) []) → abort st t ≡ says A.Dropped (setLive st i noLive)
+  pub abort-done : r ≡ 0 → (i : ℕ) → i ≡ placeIn t (st .live) → abort st t ≡ says A.Dropped (setLive st i noLive)
   unfolding placeOf liveTxns
   abort-done z i p =
       abort-rows ∙ (rows-passed st (openRows (st .live) t 0) b tested r e (open-numbered (st .live) t 0 (sound st)) z _
@@ -98,7 +98,7 @@ module _ (st : Station) (t k v : ℕ) (b : Bool) (tested : b ≡ sound st) (r : 
   pub put-refused : r ≢ 0 → put st t k v ≡ says (A.Refused r 0) st
   put-refused n = put-rows ∙ rows-refused st (openRows (st .live) t k) b tested r e n _
 
-  module _ (z : r ≡ 0) (i : ℕ) (p : i ≡ placeOf t (stationOf (st .live) [])) (l : Live) (f : l ≡ liveIn (st .live) i) where
+  module _ (z : r ≡ 0) (i : ℕ) (p : i ≡ placeIn t (st .live)) (l : Live) (f : l ≡ liveIn (st .live) i) where
     put-passed : put st t k v ≡ put-rest i l
     unfolding liveAt placeOf liveTxns
     put-passed =

@@ -12,7 +12,7 @@ use Rattle.model.specs.Lists.{_and_, member, anyBelow}
 use Rattle.model.specs.Limits.{livePlaces, entryPlaces, lastClock}
 use Rattle.model.specs.Lives.{noLive, writeCount, withPhase}
 use Rattle.model.specs.Stations.{isFree}
-use Rattle.model.specs.Clocks.{clocks, clockAbove}
+use Rattle.model.specs.Clocks.{clockAbove}
 use Rattle.model.specs.Effects.{Row, _when_}
 use Rattle.model.specs.Commit.{highestFree}
 
@@ -24,9 +24,10 @@ unknownRows t c j i b = 2 when not b ∷ 3 when eqb t 0 ∷ 5 when eqb c 0 ∷ 8
 unfoldable pub slotFor : ℕ → Station → ℕ
 slotFor n st = cond (eqb n 0) 0 (cond (anyBelow (isFree st) (st .kind .slots)) (highestFree st) entryPlaces)
 
--- the clock that a commit of so many writes takes where c is given; where none is left 0, which is no clock. Without writes it takes none: c
-unfoldable pub clockFor : ℕ → ℕ → Station → ℕ
-clockFor n c st = cond (eqb n 0) c (cond (member lastClock (clocks st)) 0 (clockAbove c (clocks st)))
+-- the clock that a commit of so many writes takes where c is given and these are taken; where none is left 0, which is no clock. Without writes it
+-- takes none: c
+unfoldable pub clockFor : ℕ → ℕ → List ℕ → ℕ
+clockFor n c taken = cond (eqb n 0) c (cond (member lastClock taken) 0 (clockAbove c taken))
 
 -- 01 'Calls': "Open with an empty write list: empty, nothing stored, the ticket is forgotten. Else it becomes closing"
 unfoldable pub afterCommit : ℕ → ℕ → Live → Live

@@ -3,10 +3,13 @@
 // effect. Whoever makes many calls tests once: a call leaves a sound station sound (model's proofs/SoundKept).
 use model::Answer;
 use model::Entry;
+use model::Kind;
 use model::Live;
 use model::Phase;
 use model::Station;
+use model::wide;
 use model::write_count;
+use model::write_limit;
 use stations::Change;
 use stations::greater;
 use stations::greatest_clock;
@@ -25,13 +28,13 @@ use stations::unchanged;
 use stations::with_phase;
 use stations::with_write;
 ghost use mathlib.Core.Path.{_≡_};
-ghost use Rattle.model.specs.Listed.{listedLive, listedLives, listedEntries, listed};
+ghost use Rattle.model.specs.Listed.{kindOf, listedLive, listedLives, listedEntries, listed};
 ghost use Rattle.model.specs.Sound.{sound};
 ghost use Rattle.model.specs.Start.{start};
 ghost use Rattle.model.specs.Put.{put};
 ghost use Rattle.model.specs.Commit.{commit};
 ghost use Rattle.model.specs.Abort.{abort};
-ghost use Rattle.stations.specs.Found.{stationOf, firstRow};
+ghost use Rattle.stations.specs.Found.{stationOf, clocksIn, firstRow};
 ghost use Rattle.stations.specs.Changes.{IsChange};
 ghost use Rattle.transactions.specs.Committing.{unknownRows, slotFor, clockFor, afterCommit, commitAnswer};
 
@@ -76,7 +79,9 @@ pub fn put(station: Station, tested: bool, txn: u32, key: u8, value: u64) -> Cha
     }
     let place = at.place;
     let l = live_at(live, place);
-    if write_count(l) >= Station::WRITES_U8 {
+    let kind = station.kind;
+    let writes = write_count(l);
+    if wide(writes) >= write_limit(kind) {
         if !has_written(l, key) {
             return refused(station, 11);
         }
@@ -108,14 +113,19 @@ fn unknown_row(tested: bool, txn: u32, clock: u64, held: usize, place: usize) ->
     0
 }
 
-// The slot for this many writes: the highest free one, 64 where there is none. Nothing written needs no slot: 0.
-fn slot_for(live: [Live; Station::LIVE], entries: [Entry; Station::SLOTS], writes: u8) -> usize
-    ensures { λ r. ⌜ r ≡ slotFor writes (stationOf (listedLives live) (listedEntries entries)) ⌝ }
+// The slot for this many writes: the highest free one of the kind, 64 where there is none. Nothing written needs no slot: 0.
+fn slot_for(
+    kind: Kind,
+    live: [Live; Station::LIVE],
+    entries: [Entry; Station::SLOTS],
+    writes: u8,
+) -> usize
+    ensures { λ r. ⌜ r ≡ slotFor writes (stationOf (kindOf kind) (listedLives live) (listedEntries entries)) ⌝ }
 {
     if writes == 0 {
         return 0;
     }
-    highest_free(live, entries)
+    highest_free(kind, live, entries)
 }
 
 // The clock for this many writes: the greater of the one given and the next after all that are taken; 0 where there is no next. Nothing
@@ -126,7 +136,7 @@ fn clock_for(
     writes: u8,
     given: u64,
 ) -> u64
-    ensures { λ r. ⌜ r ≡ clockFor writes given (stationOf (listedLives live) (listedEntries entries)) ⌝ }
+    ensures { λ r. ⌜ r ≡ clockFor writes given (clocksIn (listedLives live) (listedEntries entries)) ⌝ }
 {
     if writes == 0 {
         return given;
@@ -184,7 +194,8 @@ pub fn commit(station: Station, tested: bool, txn: u32, clock: u64) -> Change
         return refused(station, 9);
     }
     let writes = write_count(l);
-    let slot = slot_for(live, entries, writes);
+    let kind = station.kind;
+    let slot = slot_for(kind, live, entries, writes);
     if slot >= Station::SLOTS {
         return refused(station, 13);
     }

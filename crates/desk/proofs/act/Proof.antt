@@ -11,14 +11,14 @@ use Rattle.desk.proofs.act.Tie as tie
 asks-scan-requires : tie.Need-asks-scan-requires
 asks-scan-requires c κs = search needs
 
-scan-requires : tie.Need-scan-requires
-scan-requires c κs = search needs
+scan-of-requires : tie.Need-scan-of-requires
+scan-of-requires c κs = search needs
 
 same-length : tie.Need-same-length
 same-length c = search needs
 
 returns : tie.Need-returns
-returns c = scan-acts _ _ _ (sym (c .before .before .before .asks-scan .ensures) ∙ c .before .before .if1 .taken) _ (c .scan .ensures)
+returns c = scan-acts _ _ _ (sym (c .before .before .before .asks-scan .ensures) ∙ c .before .before .if1 .taken) _ (c .scan-of .ensures)
 
 enum-known-command : tie.Need-enum-known-command
 enum-known-command c = search needs
@@ -54,7 +54,7 @@ act-spec =
     tie.close
     (tie.spec
     asks-scan-requires
-    scan-requires
+    scan-of-requires
     same-length
     returns
     enum-known-command

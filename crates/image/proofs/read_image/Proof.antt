@@ -20,18 +20,20 @@ returns c =
 returns-2 : tie.Need-returns-2
 unfolding stationIn
 returns-2 c =
-    let k = c .before .before .before .before in
+    let m = c .before .before .before .before in
+    let k = m .before in
     let b = k .before .before .before .args .bytes .now in
     let p = parts-take placeSize livePlaces (drop kindSize b) (omega (arith, long k, length-drop kindSize b)) in
     let q = parts-take entrySize entryPlaces (drop (kindSize + placesSize) b) (omega (arith, long k, length-drop (kindSize + placesSize) b)) in
-    let s : record { live = c .before .before .places-in .result; entries = c .entries-in .result } ≡ stationIn b = λ z. record {
+    let s : record { live = c .before .before .places-in .result; entries = c .entries-in .result; kind = m .kind-in .result } ≡ stationIn b = λ z. record {
       live = (c .before .before .places-in .ensures ∙ ap (map placeFrom) p) z;
       entries = (c .entries-in .ensures ∙ ap (map entryFrom) q) z;
+      kind = m .kind-in .ensures z;
     } in
     (sym (whole k), λ h. s)
 
 pub read-image-spec : {M : Type 1} → statement M
 read-image-spec =
-    tie.close (tie.spec (λ c κs. search needs) (λ c κs. search needs) returns
-    (λ c. search needs) (λ c. search needs) (λ c. omega (arith, long c)) (λ c κs. let e = long (c .before) in search needs)
-    (λ c. search needs) (λ c. search needs) (λ c. omega (arith, long (c .before .before))) (λ c κs. let e = long (c .before .before .before) in search needs) returns-2)
+    tie.close (tie.spec (λ c κs. search needs) (λ c κs. search needs) returns (λ c κs. omega (arith, long c))
+    (λ c. search needs) (λ c. search needs) (λ c. omega (arith, long (c .before))) (λ c κs. let e = long (c .before .before) in search needs)
+    (λ c. search needs) (λ c. search needs) (λ c. omega (arith, long (c .before .before .before))) (λ c κs. let e = long (c .before .before .before .before) in search needs) returns-2)

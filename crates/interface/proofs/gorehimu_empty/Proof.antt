@@ -1,37 +1,17 @@
 -- `interface::gorehimu_empty` meets its contract.
-use mathlib.Core.Path.{sym, ap, _∙_}
-use lib.ListN.{length}
-use borrow.Author.Tests.{eq-eqb, ne-eqb}
 use borrow.Author.Needs.{needs}
-use Rattle.model.specs.Listed.{numbered}
-use Rattle.image.specs.Layout.{imageSize}
-use Rattle.image.specs.Images.{stationBytes}
-use Rattle.interface.specs.Exchange.{imageOf}
-use Rattle.interface.proofs.LengthLaws.{cond-yes, cond-no}
+use Rattle.model.specs.Listed.{kindOf}
 use Rattle.interface.proofs.gorehimu_empty.Statement.{statement}
 use Rattle.interface.proofs.gorehimu_empty.Tie as tie
 
 returns : tie.Need-returns
-returns c =
-    let e = ne-eqb (length (c .before .before .args .image .now)) imageSize (c .if1 .taken) in
-    (cond-no _ _ _ e, cond-no _ _ _ e)
-
-empty-requires : tie.Need-empty-requires
-empty-requires c κs = search needs
-
-write-image-requires : tie.Need-write-image-requires
-write-image-requires c κs = search needs
-
-same-length : tie.Need-same-length
-same-length c = search needs
-
-returns-2 : tie.Need-returns-2
-unfolding imageOf
-returns-2 c =
-    let w = c .before .before .write-image in
-    let e = eq-eqb (length (c .before .before .before .before .before .before .before .args .image .now)) imageSize (c .before .before .before .before .before .if1 .left) in
-    (cond-yes _ _ _ e, w .ensures .0 ∙ ap stationBytes (sym (w .ensures .1 .1) ∙ ap numbered (c .before .before .before .before .empty .ensures)) ∙ cond-yes _ _ _ e)
+unfolding kindOf
+returns c = c .before .before .write-empty .ensures
 
 pub gorehimu-empty-spec : {M : Type 1} → statement M
 gorehimu-empty-spec =
-    tie.close (tie.spec returns empty-requires write-image-requires same-length returns-2)
+    tie.close
+    (tie.spec
+    (λ c κs. search needs)
+    (λ c. search needs)
+    returns)

@@ -8,9 +8,8 @@ use borrow.Author.Needs.{needs}
 use borrow.Rule.Slice.PartMut.{mid-len, same-len-mid}
 use native.Mathlib.Omega.{arith}
 use Rattle.model.specs.declared.Station.{Station}
-use Rattle.model.specs.Listed.{listed}
+use Rattle.model.specs.Listed.{kindOf, listed}
 use Rattle.model.specs.Limits.{livePlaces, entryPlaces}
-use Rattle.model.specs.Kinds.{narrowKind}
 use Rattle.model.specs.Sound.{sound}
 use Rattle.model.proofs.SoundKept.{sound-scan}
 use Rattle.stations.specs.Changes.{changedBy}
@@ -106,11 +105,11 @@ loop-again c =
     let d : Request = record { command = m .result; tested = l .tested } in
     let k : asksScan (callOf (m .result)) ≡ true = sym (n .ensures) ∙ c .before .before .before .before .before .before .if1 .taken in (
       omega (arith, o),
-      same-len-mid (answerSize * l .i) (answerSize * l .i + answerSize - answerSize * l .i) (l .answers) (r .last .1 .0) (r .kept .1 .0) ∙ l .inv .1,
+      same-len-mid (answerSize * l .i) (answerSize * l .i + answerSize - answerSize * l .i) (l .answers) (r .last .1 .1 .0) (r .kept .1 .1 .0) ∙ l .inv .1,
       l .inv .2,
-      r .ensures .1 ∙ sym (sound-scan narrowKind (l .store)) ∙ ap sound (sym (r .ensures .2)),
-      passed-more _ (s .args .requests .now) _ _ (l .i) (heldOf h (l .store)) (l .answers) (l .inv .4) o w (heldOf (r .result) (l .store)) (r .last .1 .0)
-          (r .kept .1 .0 ∙ mid-len (answerSize * l .i) (answerSize * l .i + answerSize) (l .answers) w ∙ omega arith)
+      r .ensures .1 ∙ sym (sound-scan (kindOf (l .station .kind)) (l .store)) ∙ ap sound (sym (r .ensures .2)),
+      passed-more _ (s .args .requests .now) _ _ (l .i) (heldOf h (l .store)) (l .answers) (l .inv .4) o w (heldOf (r .result) (l .store)) (r .last .1 .1 .0)
+          (r .kept .1 .1 .0 ∙ mid-len (answerSize * l .i) (answerSize * l .i + answerSize) (l .answers) w ∙ omega arith)
           (scan-run q h (l .store) d (m .ensures) k (r .result) (r .ensures .0) (r .ensures .2))
           (r .ensures .3 ∙ scan-answered q h (l .store) d (m .ensures) k),
     )

@@ -7,8 +7,8 @@ use Rattle.interface.specs.Exchange.{answerBytes}
 use Rattle.interface.proofs.run_scan.Statement.{statement}
 use Rattle.interface.proofs.run_scan.Tie as tie
 
-scan-requires : tie.Need-scan-requires
-scan-requires c κs = search needs
+scan-of-requires : tie.Need-scan-of-requires
+scan-of-requires c κs = search needs
 
 write-answer-requires : tie.Need-write-answer-requires
 write-answer-requires c κs = search needs
@@ -19,8 +19,8 @@ same-length c = search needs
 returns : tie.Need-returns
 unfolding outcomeOf
 returns c =
-    let o = c .before .before .before .before .before .scan in
+    let o = c .before .before .before .before .before .scan-of in
     (refl, refl, ap (λ (x : Outcome). x .station) (o .ensures), c .before .before .write-answer .ensures ∙ ap (λ (x : Outcome). answerBytes (x .answer)) (o .ensures))
 
 pub run-scan-spec : {M : Type 1} → statement M
-run-scan-spec = tie.close (tie.spec scan-requires write-answer-requires same-length returns)
+run-scan-spec = tie.close (tie.spec scan-of-requires write-answer-requires same-length returns)

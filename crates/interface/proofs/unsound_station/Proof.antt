@@ -18,7 +18,7 @@ use Rattle.interface.proofs.unsound_station.Tie as tie
 
 -- the empty station, and key 0 in its first entry
 made : (st : machine.Station.Station) → listed st ≡ (emptyStation narrowKind)
-    → listed (record { live = st .live; entries = set (st .entries) 0 (record { id = getD (st .entries) 0 zeroEntry .id; keys = 1 }) }) ≡ setEntry (emptyStation narrowKind) 0 (record { id = noId; keys = 0 ∷ [] })
+    → listed (record { kind = st .kind; live = st .live; entries = set (st .entries) 0 (record { id = getD (st .entries) 0 zeroEntry .id; keys = 1 }) }) ≡ setEntry (emptyStation narrowKind) 0 (record { id = noId; keys = 0 ∷ [] })
 unfolding setEntry keySet keysBelow withLowest
 made st e =
     let i : listedEntry (getD (st .entries) 0 zeroEntry) ≡ noEntry = sym (listed-any (st .entries) 0) ∙ (unfold emptyStation in ap (λ (x : Station). getD (x .entries) 0 noEntry) e) in

@@ -8,8 +8,8 @@ use Rattle.interface.proofs.ByteLaws.{four-written}
 use Rattle.interface.proofs.write_answer.Statement.{statement}
 use Rattle.interface.proofs.write_answer.Tie as tie
 
-kind-of-requires : tie.Need-kind-of-requires
-kind-of-requires c κs = search needs
+answer-kind-requires : tie.Need-answer-kind-requires
+answer-kind-requires c κs = search needs
 
 values-in-requires : tie.Need-values-in-requires
 values-in-requires c κs = search needs
@@ -69,7 +69,7 @@ returns : tie.Need-returns
 unfolding answerBytes
 returns c =
     let s = c .before .before .before .before .before .before .before .before .before .before .before .before .before .before .before .before .before .before .before in
-    let k = c .before .before .before .before .before .before .before .before .before .before .before .before .before .before .before .before .before .kind-of in
+    let k = c .before .before .before .before .before .before .before .before .before .before .before .before .before .before .before .before .before .answer-kind in
     let v = c .before .before .before .before .before .before .before .before .before .before .before .before .before .before .before .before .values-in in
     let w₀ = c .before .before .before .before .before .before .before .before .before .before .before .before .before .before .write-number in
     let w₁ = c .before .before .before .before .before .before .before .before .before .before .write-number2 in
@@ -83,7 +83,7 @@ pub write-answer-spec : {M : Type 1} → statement M
 write-answer-spec =
     tie.close
     (tie.spec
-    kind-of-requires
+    answer-kind-requires
     values-in-requires
     sub-write-number
     part-write-number-start

@@ -197,6 +197,19 @@ returns-16 : tie.Need-returns-16
 unfolding valuesOf
 returns-16 c = rw (c .before .before .answer11 .given .1) (c .three16 .ensures)
 
+enum-known-answer-12 : tie.Need-enum-known-answer-12
+enum-known-answer-12 c = search needs
+
+cast-three-12 : tie.Need-cast-three-12
+cast-three-12 c = search needs
+
+three-requires-17 : tie.Need-three-requires-17
+three-requires-17 c κs = search needs
+
+returns-17 : tie.Need-returns-17
+unfolding valuesOf
+returns-17 c = rw (c .before .before .answer12 .given .1) (c .three17 .ensures)
+
 pub values-in-spec : {M : Type 1} → statement M
 values-in-spec =
     tie.close
@@ -259,4 +272,8 @@ values-in-spec =
     enum-known-answer-11
     cast-three-11
     three-requires-16
-    returns-16)
+    returns-16
+    enum-known-answer-12
+    cast-three-12
+    three-requires-17
+    returns-17)

@@ -119,6 +119,13 @@ returns-16 : tie.Need-returns-16
 unfolding words wordOf
 returns-16 c = rw (c .enum-told16 .given .1) (refl, omega arith, omega arith)
 
+enum-told-17 : tie.Need-enum-told-17
+enum-told-17 c = search needs
+
+returns-17 : tie.Need-returns-17
+unfolding words wordOf
+returns-17 c = rw (c .enum-told17 .given .1) (refl, omega arith, omega arith)
+
 pub word-part-spec : {M : Type 1} → statement M
 word-part-spec =
     tie.close
@@ -154,4 +161,6 @@ word-part-spec =
     enum-told-15
     returns-15
     enum-told-16
-    returns-16)
+    returns-16
+    enum-told-17
+    returns-17)

@@ -1,12 +1,12 @@
 use mathlib.Core.Path.{_≡_, sym, ap, _∙_}
 use mathlib.Core.Bool.{Bool, true, false, true≢false}
-use Rattle.model.specs.Kinds.{narrowKind}
 use Rattle.model.specs.Types.{Live}
 use Rattle.model.specs.declared.Phase.{Phase}
 use borrow.Author.Needs.{needs}
 use borrow.Author.Tests.{not-true, not-false}
 use Rattle.model.specs.Lists.{_and_}
-use Rattle.model.specs.Listed.{listedLive}
+use Rattle.model.specs.Kinds.{Kind}
+use Rattle.model.specs.Listed.{kindOf, listedLive}
 use Rattle.soundness.specs.Parts.{listsRight, countsRight, isUnused, shapeRight, shape}
 use Rattle.soundness.proofs.used_right.Statement.{statement}
 use Rattle.soundness.proofs.used_right.Tie as tie
@@ -33,11 +33,14 @@ counts-right-requires c κs = tt
 abbrev args : tie.After-p → Live
 args p = listedLive (p .before .before .args .l)
 
-counts : (a : tie.After-counts-right) (b : Bool) → a .counts-right .result ≡ b → shape narrowKind (args (a .before .before .before)) ≡ (b and listsRight narrowKind (args (a .before .before .before)))
+abbrev kind : tie.After-p → Kind
+kind p = kindOf (p .before .before .args .kind)
+
+counts : (a : tie.After-counts-right) (b : Bool) → a .counts-right .result ≡ b → shape (kind (a .before .before .before)) (args (a .before .before .before)) ≡ (b and listsRight (kind (a .before .before .before)) (args (a .before .before .before)))
 unfolding shapeRight
 counts a b e =
     let p = a .before .before .before in
-    ap (λ (q : Phase). shapeRight narrowKind q (args p)) (p .p .given .1) ∙ ap (λ (x : Bool). x and listsRight narrowKind (args p)) (sym (a .counts-right .ensures ∙ ap (countsRight _ _) (a .before .write-count .ensures)) ∙ e)
+    ap (λ (q : Phase). shapeRight (kind p) q (args p)) (p .p .given .1) ∙ ap (λ (x : Bool). x and listsRight (kind p) (args p)) (sym (a .counts-right .ensures ∙ ap (countsRight _ _) (a .before .write-count .ensures)) ∙ e)
 
 returns : tie.Need-returns
 unfolding _and_
@@ -52,7 +55,7 @@ returns-2 c = λ u. absurd (true≢false (sym (ap isUnused (c .enum-told .given 
 
 returns-3 : tie.Need-returns-3
 unfolding shapeRight
-returns-3 c = λ u. c .lists-right .ensures ∙ sym (ap (λ (q : Phase). shapeRight narrowKind q (listedLive (c .before .before .before .args .l))) (c .before .enum-told2 .given .1))
+returns-3 c = λ u. c .lists-right .ensures ∙ sym (ap (λ (q : Phase). shapeRight (kindOf (c .before .before .before .args .kind)) q (listedLive (c .before .before .before .args .l))) (c .before .enum-told2 .given .1))
 
 returns-4 : tie.Need-returns-4
 unfolding _and_

@@ -2,7 +2,6 @@
 use Prim.Native.Nat.{max}
 use mathlib.Core.Path.{sym, ap₂, _∙_}
 use borrow.Author.Needs.{needs}
-use Rattle.model.specs.Clocks.{clocks}
 use Rattle.stations.proofs.Clocks.{maximum-append}
 use Rattle.stations.proofs.greatest_clock.Statement.{statement}
 use Rattle.stations.proofs.greatest_clock.Tie as tie
@@ -17,7 +16,6 @@ greater-requires : tie.Need-greater-requires
 greater-requires c κs = search needs
 
 returns : tie.Need-returns
-unfolding clocks
 returns c = c .greater .ensures ∙ (ap₂ max (c .before .before .greatest-entry-clock .ensures) (c .before .greatest-closing-clock .ensures) ∙ sym (maximum-append _ _))
 
 pub greatest-clock-spec : {M : Type 1} → statement M

@@ -3,7 +3,6 @@ use mathlib.Core.Path.{sym, _∙_}
 use lib.ListN.{length-map}
 use borrow.Author.Needs.{needs}
 use Rattle.model.specs.Listed.{listedLive, listedLives}
-use Rattle.model.specs.Stations.{placeOf, liveTxns}
 use Rattle.stations.proofs.RowLaws.{named-row-is, named-low}
 use Rattle.stations.proofs.named_at.Statement.{statement}
 use Rattle.stations.proofs.named_at.Tie as tie
@@ -15,7 +14,6 @@ named-row-requires : tie.Need-named-row-requires
 named-row-requires c κs = search needs
 
 returns : tie.Need-returns
-unfolding placeOf liveTxns
 returns c =
     let p = c .before .place-of in
     let r = c .named-row in

@@ -11,9 +11,9 @@ use borrow.Author.Tests.{not-true, not-false}
 use Rattle.model.specs.declared.Entry as machine
 use Rattle.model.specs.declared.Answer.the-variants as A
 use Rattle.model.specs.Types.{Entry, Live, Station}
-use Rattle.model.specs.Listed.{listedLive, listedEntry, listed}
-use Rattle.model.specs.Limits.{entryPlaces}
-use Rattle.model.specs.Kinds.{narrowKind, storeSize}
+use Rattle.model.specs.Listed.{kindOf, listedLive, listedEntry, listed}
+use Rattle.model.specs.Limits.{entryPlaces, writePlaces}
+use Rattle.model.specs.Kinds.{Kind, KindFits, storeSize}
 use Rattle.model.specs.Lives.{readsOf}
 use Rattle.model.specs.Entries.{keysOf, wrote, recordOf}
 use Rattle.model.specs.Stations.{liveAt, entryAt, setLive}
@@ -21,8 +21,9 @@ use Rattle.model.specs.Records.{valueIn, carriesVersion, recordAt}
 use Rattle.model.specs.Reading.{Choice, version, choose}
 use Rattle.model.specs.Effects.{says}
 use Rattle.model.specs.Get.{get, choiceOf, withRead, versionAt, noRoom}
-use Rattle.model.proofs.ListedLaws.{zeroLive, lives-found, zeroEntry, listed-any, listed-length}
+use Rattle.model.proofs.ListedLaws.{kind-fits, zeroLive, lives-found, zeroEntry, listed-any, listed-length}
 use Rattle.model.proofs.GetLaws.{version-entry}
+use Rattle.model.proofs.SoundFacts.{wrote-held, held-below}
 use Rattle.model.proofs.SoundLaws.{Used, write-limit, read-limit, reads-ascending}
 use Rattle.reading.specs.Choosing.{chosenAs, IsReader}
 use Rattle.stations.proofs.Callers.{entry-count}
@@ -34,10 +35,13 @@ use Rattle.storing.proofs.get.Tie as tie
 
 -- past rows 1, 2, 3, 4, 8 and 9: the transaction is live and open at place i
 abbrev start : tie.Else2 → tie.Start
-start c = c .before .before .before .before .before .before
+start c = c .before .before .before .before .before .before .before
 
-size : (c : tie.Else2) → length (start c .args .store .now) ≡ storeSize narrowKind
-size c = c .before .before .before .before .if1 .left
+abbrev κ : tie.Else2 → Kind
+κ c = kindOf (start c .args .t1 .kind)
+
+size : (c : tie.Else2) → length (start c .args .store .now) ≡ storeSize (κ c)
+size c = let e = c .before .before .before .before in e .if1 .left ∙ e .before .store-size .ensures
 
 abbrev st : tie.Else2 → Station
 st c = listed (start c .args .t1)
@@ -75,11 +79,14 @@ comes c =
     let a = e .before .before .open-at .ensures in
     get-open _ _ _ _ (size e) _ (start e .pre) _ (a .0) (e .if2 .left) _ (a .1) _ (here c)
 
-used : (c : tie.After-l) → Used narrowKind (st (c .before) .entries) (l c)
+used : (c : tie.After-l) → Used (κ (c .before)) (st (c .before) .entries) (l c)
 used c = subst (Used _ _) (sym (here c)) (place-used _ _ _ _ (found (c .before)))
 
-writes : (c : tie.After-l) → l c .«write_count» ≤ 8
-writes c = write-limit narrowKind (l c) (used c .sets)
+fits : (c : tie.Else2) → KindFits (κ c)
+fits c = kind-fits (start c .args .t1 .kind)
+
+writes : (c : tie.After-l) → l c .«write_count» ≤ writePlaces
+writes c = let f = fits (c .before) in omega (arith, write-limit (κ (c .before)) (l c) (used c .sets), f .writes-fit)
 
 numbered : (c : tie.After-l) → l c .txn ≢ 0
 numbered c = subst (λ (x : Live). x .txn ≢ 0) (sym (here c)) (place-numbered _ _ _ _ (found (c .before)))
@@ -117,6 +124,10 @@ entry c =
     let f = version-entry (st e) (l (hᵥ c)) (k e) (d c) (choice c) in
     (omega (arith, f .0, z, listed-length (start e .args .t1 .entries)), f .1)
 
+-- it is held, so it is in a slot of the kind
+below : (c : tie.After-chosen2) → d c < κ (hᵥ c .before) .slots
+below c = let e = hᵥ c .before in held-below (st e) (found e .right) (d c) (wrote-held (st e) (found e .right) (d c) (k e) (entry c .1))
+
 -- that entry, as the machine has it
 abbrev found-entry : tie.After-chosen2 → machine.Entry
 found-entry c = getD (start (hᵥ c .before) .args .t1 .entries) (d c) zeroEntry
@@ -141,21 +152,22 @@ carried : (c : tie.After-read-version) → carriesVersion (versionAt (st (hᵥ (
 unfolding versionAt
 carried c =
     let e = hᵥ (vᵣ c) .before in
-    ap (λ (x : Entry). carriesVersion (recordAt narrowKind (s e) (d (vᵣ c)) (recordOf x (k e))) (k e) (x .id)) (entry-is (vᵣ c)) ∙ sym (c .read-version .ensures .0)
+    ap (λ (x : Entry). carriesVersion (recordAt (κ e) (s e) (d (vᵣ c)) (recordOf x (k e))) (k e) (x .id)) (entry-is (vᵣ c)) ∙ sym (c .read-version .ensures .0)
 
 value-read : (c : tie.After-read-version) → c .read-version .result .value ≡ valueIn (versionAt (st (hᵥ (vᵣ c) .before)) (s (hᵥ (vᵣ c) .before)) (k (hᵥ (vᵣ c) .before)) (d (vᵣ c)))
 unfolding versionAt
 value-read c =
     let e = hᵥ (vᵣ c) .before in
-    c .read-version .ensures .1 ∙ sym (ap (λ (x : Entry). valueIn (recordAt narrowKind (s e) (d (vᵣ c)) (recordOf x (k e)))) (entry-is (vᵣ c)))
+    c .read-version .ensures .1 ∙ sym (ap (λ (x : Entry). valueIn (recordAt (κ e) (s e) (d (vᵣ c)) (recordOf x (k e)))) (entry-is (vᵣ c)))
 
 refused-requires : tie.Need-refused-requires
 refused-requires c κs = tt
 
 returns : tie.Need-returns
 returns c =
-    let a = c .before .before .before .args in
-    as-effect _ _ _ _ (get-1 (listed (a .t1)) (a .store .now) (a .txn) (a .key) (c .before .if1 .taken)) (c .refused .ensures)
+    let z = c .before .before in
+    let a = z .before .before .args in
+    as-effect _ _ _ _ (get-1 (listed (a .t1)) (a .store .now) (a .txn) (a .key) (λ q. c .before .if1 .taken (q ∙ sym (z .store-size .ensures)))) (c .refused .ensures)
 
 open-at-requires : tie.Need-open-at-requires
 open-at-requires c κs = tt
@@ -164,7 +176,10 @@ refused-requires-2 : tie.Need-refused-requires-2
 refused-requires-2 c κs = tt
 
 returns-2 : tie.Need-returns-2
-returns-2 c = as-effect _ _ _ _ (get-refused _ _ _ _ (c .before .before .before .before .before .if1 .left) _ (c .before .before .before .before .before .before .before .pre) _ (c .before .before .before .open-at .ensures .0) (c .before .if2 .taken)) (c .refused2 .ensures)
+returns-2 c =
+    let e = c .before .before .before .before .before in
+    let z = e .before in
+    as-effect _ _ _ _ (get-refused _ _ _ _ (e .if1 .left ∙ z .store-size .ensures) _ (z .before .before .pre) _ (c .before .before .before .open-at .ensures .0) (c .before .if2 .taken)) (c .refused2 .ensures)
 
 mul-l : tie.Need-mul-l
 mul-l c = omega (arith, found c .low)
@@ -229,7 +244,7 @@ cast-d c = search needs
 no-read-room-requires : tie.Need-no-read-room-requires
 no-read-room-requires c κs =
     let h = hᵥ (c .before) in
-    read-limit narrowKind (l h) (used h .sets)
+    read-limit (κ (h .before)) (l h) (used h .sets)
 
 refused-requires-3 : tie.Need-refused-requires-3
 refused-requires-3 c κs = tt
@@ -251,7 +266,7 @@ read-version-requires : tie.Need-read-version-requires
 read-version-requires c κs =
     let f = c .before .before .before .before .before in
     let e = hᵥ f .before in
-    (size e, (entry f .0, (subst (λ (x : Entry). length (keysOf x) ≤ 8) (entry-is f) (entry-count (st e) (found e .right) (d f)), subst (λ (x : Entry). wrote x (k e) ≡ true) (entry-is f) (entry f .1))))
+    (size e, (below f, (subst (λ (x : Entry). length (keysOf x) ≤ κ e .writeLimit) (entry-is f) (entry-count (st e) (found e .right) (d f)), subst (λ (x : Entry). wrote x (k e) ≡ true) (entry-is f) (entry f .1))))
 
 refused-requires-4 : tie.Need-refused-requires-4
 refused-requires-4 c κs = tt
@@ -269,7 +284,7 @@ unfolding noRoom
 with-read-requires c κs =
     let g = c .before .before .before .before .before in
     let u = used (hᵥ (v₄ g)) in
-    ((read-limit narrowKind _ (u .sets), reads-ascending narrowKind _ (u .sets)), (u .zeros, room g))
+    ((read-limit _ _ (u .sets), reads-ascending _ _ (u .sets)), (u .zeros, room g))
 
 live-changed-requires : tie.Need-live-changed-requires
 live-changed-requires c κs = found (hᵥ (v₄ (c .before .before .before .before .before .before)) .before) .low
@@ -292,6 +307,7 @@ pub get-spec : {M : Type 1} → statement M
 get-spec =
     tie.close
     (tie.spec
+    (λ c κs. tt)
     refused-requires
     returns
     open-at-requires

@@ -1,20 +1,21 @@
 -- `storing::step` meets its contract.
-use Prim.Native.Nat.{ℕ, _≤_}
+use Prim.Native.Nat.{ℕ, _<_, _≤_}
 use mathlib.Core.Path.{_≡_, sym, ap, _∙_}
 use mathlib.Core.List.{List}
 use lib.ListN.{length, getD, length-map}
 use native.Mathlib.Omega.{arith}
 use borrow.Author.Needs.{needs}
-use Rattle.model.specs.Kinds.{narrowKind, storeSize}
+use Rattle.model.specs.Kinds.{Kind, storeSize}
 use Rattle.model.specs.Types.{Entry, Live, Station}
+use Rattle.model.specs.Limits.{entryPlaces}
 use Rattle.model.specs.KeySets.{keySet}
-use Rattle.model.specs.Listed.{listedLive, listedEntry, listed}
+use Rattle.model.specs.Listed.{kindOf, listedLive, listedEntry, listed}
 use Rattle.model.specs.Lives.{writesOf, writeCount, writeKey, isClosing, withPhase}
 use Rattle.model.specs.Entries.{keysOf, entryFor}
 use Rattle.model.specs.declared.Phase.the-variants.{Closing}
 use Rattle.model.specs.Step.{step}
 use Rattle.model.specs.Stations.{liveAt}
-use Rattle.model.proofs.ListedLaws.{zeroLive, lives-found}
+use Rattle.model.proofs.ListedLaws.{kind-fits, zeroLive, lives-found}
 use Rattle.model.proofs.SoundFacts.{IsClosing, closing-facts}
 use Rattle.model.proofs.SoundLaws.{write-limit, writes-length}
 use Rattle.stations.proofs.Changes.{as-outcome}
@@ -27,10 +28,13 @@ use Rattle.storing.proofs.step.Tie as tie
 
 -- past rows 1, 2, 3 and 8: the transaction is live at place i
 abbrev start : tie.Else2 → tie.Start
-start c = c .before .before .before .before .before .before
+start c = c .before .before .before .before .before .before .before
 
-size : (c : tie.Else2) → length (start c .args .store .now) ≡ storeSize narrowKind
-size c = c .before .before .before .before .if1 .left
+abbrev κ : tie.Else2 → Kind
+κ c = kindOf (start c .args .t1 .kind)
+
+size : (c : tie.Else2) → length (start c .args .store .now) ≡ storeSize (κ c)
+size c = let e = c .before .before .before .before in e .if1 .left ∙ e .before .store-size .ensures
 
 abbrev st : tie.Else2 → Station
 st c = listed (start c .args .t1)
@@ -83,6 +87,9 @@ closing c = ap (λ (x : Live). x .phase) (here (e₂ c)) ∙ c .phase .given .1
 facts : (c : tie.After-phase) → IsClosing (st (e₂ c)) (liveAt (st (e₂ c)) (i (e₂ c))) (d c) (clock c) (n c)
 facts c = closing-facts (st (e₂ c)) (found (e₂ c) .right) (i (e₂ c)) (d c) (clock c) (n c) (closing c)
 
+slot-there : (c : tie.After-phase) → d c < entryPlaces
+slot-there c = let f = kind-fits (start (e₂ c) .args .t1 .kind) in omega (arith, facts c .low, f .slots-fit)
+
 -- at the test for the last step
 abbrev p : tie.After-write-count → tie.After-phase
 p c = c .before .before .before
@@ -91,11 +98,11 @@ p c = c .before .before .before
 counted : (c : tie.After-write-count) → c .write-count .result ≡ writeCount (liveAt (st (e₂ (p c))) (i (e₂ (p c))))
 counted c = c .write-count .ensures ∙ sym (ap writeCount (here (e₂ (p c))))
 
-limit : (c : tie.After-phase) → writeCount (liveAt (st (e₂ c)) (i (e₂ c))) ≤ 8
-limit c = let l = liveAt (st (e₂ c)) (i (e₂ c)) in omega (arith, write-limit narrowKind l (facts c .used .sets), writes-length l)
+limit : (c : tie.After-phase) → writeCount (liveAt (st (e₂ c)) (i (e₂ c))) ≤ κ (e₂ c) .writeLimit
+limit c = let l = liveAt (st (e₂ c)) (i (e₂ c)) in omega (arith, write-limit (κ (e₂ c)) l (facts c .used .sets), writes-length l)
 
 -- its entry has as many
-few : (c : tie.After-write-count) → length (keySet (c .before .entry-for .result .keys)) ≤ 8
+few : (c : tie.After-write-count) → length (keySet (c .before .entry-for .result .keys)) ≤ κ (e₂ (p c)) .writeLimit
 unfolding entryFor
 few c =
     let x = l (e₂ (p c)) in
@@ -106,9 +113,10 @@ refused-requires c κs = tt
 
 returns : tie.Need-returns
 returns c =
-    let a = c .before .before .before .args in
+    let y = c .before .before in
+    let a = y .before .before .args in
     let z = a .store .now in
-    handed _ _ _ _ _ z (step-1 (listed (a .t1)) z (a .txn) (c .before .if1 .taken)) (c .refused .ensures)
+    handed _ _ _ _ _ z (step-1 (listed (a .t1)) z (a .txn) (λ q. c .before .if1 .taken (q ∙ sym (y .store-size .ensures)))) (c .refused .ensures)
 
 named-at-requires : tie.Need-named-at-requires
 named-at-requires c κs = tt
@@ -117,7 +125,11 @@ refused-requires-2 : tie.Need-refused-requires-2
 refused-requires-2 c κs = tt
 
 returns-2 : tie.Need-returns-2
-returns-2 c = handed _ _ _ _ _ (c .before .before .before .before .before .before .before .args .store .now) (step-refused _ _ _ (c .before .before .before .before .before .if1 .left) _ (c .before .before .before .before .before .before .before .pre) _ (c .before .before .before .named-at .ensures .0) (c .before .if2 .taken)) (c .refused2 .ensures)
+returns-2 c =
+    let e = c .before .before .before .before .before in
+    let y = e .before in
+    let b = y .before .before in
+    handed _ _ _ _ _ (b .args .store .now) (step-refused _ _ _ (e .if1 .left ∙ y .store-size .ensures) _ (b .pre) _ (c .before .before .before .named-at .ensures .0) (c .before .if2 .taken)) (c .refused2 .ensures)
 
 mul-l : tie.Need-mul-l
 mul-l c = omega (arith, found c .low)
@@ -156,10 +168,10 @@ returns-4 c =
     let m = k .before .entry-for in
     handed _ _ _ _ _ (s e)
     (step-done (st e) (s e) (t e) (i e) (comes e) (d f) (clock f) (n f) (closing f) (listedLive (c .no-live .result)) (listedEntry (m .result)) (omega (arith, c .before .before .if3 .taken, counted k)) (m .ensures ∙ sym (ap entryFor (here e))) (c .no-live .ensures))
-    (is-done (start e .args .t1) _ _ _ _ (m .result) (found e .low) (facts f .low))
+    (is-done (start e .args .t1) _ _ _ _ (m .result) (found e .low) (slot-there f))
 
-add-t28 : tie.Need-add-t28
-add-t28 c = omega (arith, c .if3 .left, counted (c .before), limit (p (c .before)))
+add-t30 : tie.Need-add-t30
+add-t30 c = let f = kind-fits (start (e₂ (p (c .before))) .args .t1 .kind) in omega (arith, c .if3 .left, counted (c .before), limit (p (c .before)), f .writes-fit)
 
 with-phase-requires : tie.Need-with-phase-requires
 with-phase-requires c κs = tt
@@ -185,14 +197,15 @@ returns-5 c =
     let e = e₂ f in
     let m = k .before .entry-for in
     let w = c .before .before .before .store-record in
-    let q = step-record (st e) (s e) (t e) (i e) (comes e) (d f) (clock f) (n f) (closing f) (w .result) (listedLive (o .with-phase .result)) (listedEntry (m .result)) (w .last .0) (omega (arith, h .if3 .left, counted k)) (m .ensures ∙ sym (ap entryFor (here e))) (o .with-phase .ensures ∙ sym (ap (withPhase _) (here e)))
-    (w .ensures .0 ∙ sym (ap (λ (x : Live). recordAnswer x (d f) (n f)) (here e))) (w .ensures .1 ∙ sym (ap (λ (x : Live). recordStored narrowKind x (listedEntry (m .result)) (d f) (n f) (s e)) (here e))) in
+    let q = step-record (st e) (s e) (t e) (i e) (comes e) (d f) (clock f) (n f) (closing f) (w .result) (listedLive (o .with-phase .result)) (listedEntry (m .result)) (w .last .1 .0) (omega (arith, h .if3 .left, counted k)) (m .ensures ∙ sym (ap entryFor (here e))) (o .with-phase .ensures ∙ sym (ap (withPhase _) (here e)))
+    (w .ensures .0 ∙ sym (ap (λ (x : Live). recordAnswer x (d f) (n f)) (here e))) (w .ensures .1 ∙ sym (ap (λ (x : Live). recordStored (κ e) x (listedEntry (m .result)) (d f) (n f) (s e)) (here e))) in
     (as-outcome _ _ _ _ (q .0) (c .live-changed .ensures), q .1)
 
 pub step-spec : {M : Type 1} → statement M
 step-spec =
     tie.close
     (tie.spec
+    (λ c κs. tt)
     refused-requires
     returns
     named-at-requires
@@ -208,7 +221,7 @@ step-spec =
     write-count-requires
     no-live-requires
     returns-4
-    add-t28
+    add-t30
     with-phase-requires
     store-record-requires
     live-changed-requires

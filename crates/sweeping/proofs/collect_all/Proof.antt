@@ -1,5 +1,5 @@
 -- `sweeping::collect_all` meets its contract.
-use Prim.Native.Nat.{ℕ, _*_, _-_, _<_, _≤_}
+use Prim.Native.Nat.{ℕ, _-_, _<_, _≤_}
 use mathlib.Core.Path.{_≡_, sym, ap, ap₂, subst, _∙_}
 use mathlib.Core.Bool.{false}
 use mathlib.Core.List.{List, []}
@@ -12,18 +12,18 @@ use borrow.Author.Tests.{not-true, not-false, ltb-true, ltb-false, lt-ltb}
 use Rattle.model.specs.declared as machine
 use Rattle.model.specs.Types.{Entry, Station}
 use Rattle.model.specs.Lists.{_and_}
-use Rattle.model.specs.Kinds.{narrowKind, slotSize}
+use Rattle.model.specs.Kinds.{Kind, storeSize}
 use Rattle.model.specs.KeySets.{keySet}
-use Rattle.model.specs.Listed.{listedEntry, listed}
+use Rattle.model.specs.Listed.{kindOf, listedEntry, listed}
 use Rattle.model.specs.Entries.{keysOf, carriesEntry}
 use Rattle.model.specs.Stations.{entryAt}
 use Rattle.model.specs.Records.{recordAt}
 use Rattle.model.specs.Sweep.{collections}
 use Rattle.model.proofs.Tests.{and-left, and-right, and-second}
-use Rattle.model.proofs.RecordLaws.{slot-start, record-part}
+use Rattle.model.proofs.RecordLaws.{record-part}
 use Rattle.model.proofs.ListedLaws.{zeroEntry, listed-any, listed-length}
 use Rattle.stations.proofs.Callers.{entry-count}
-use Rattle.sweeping.proofs.SweepLoop.{last-low, Sweeping, sweeping-start, sweeping-next, sweeping-as, record-ends, none-ends, limit-ends, swept}
+use Rattle.sweeping.proofs.SweepLoop.{last-low, last-below, Sweeping, sweeping-start, sweeping-next, sweeping-as, record-ends, none-ends, limit-ends, swept}
 use Rattle.sweeping.proofs.collect_all.Statement.{statement}
 use Rattle.sweeping.proofs.collect_all.Tie as tie
 
@@ -57,6 +57,10 @@ element-copy-out-s c = omega (arith, going c .0, c .before .before .loop .inv .s
 wide-requires : tie.Need-wide-requires Inv-loop μ-loop
 wide-requires c κs = search needs
 
+-- the store is as long as it was
+same-size : (t : tie.At-loop Inv-loop μ-loop) → length (t .loop .store) ≡ length (t .before .before .args .store .now)
+same-size t = let p = t .loop .inv in p .size ∙ ap storeSize (p .kind) ∙ sym (t .before .before .pre .0)
+
 -- the slot at hand
 abbrev turn : tie.After-wide Inv-loop μ-loop → tie.At-loop Inv-loop μ-loop
 turn c = c .before .before .before .before
@@ -67,6 +71,13 @@ low c =
     let u = last-low _ (p .right) (p .long) _ _ (p .slots-left) (going (c .before .before) .0) in
     omega (arith, u, c .wide .ensures)
 
+-- it is held, so it is one of the kind's
+below : (c : tie.After-wide Inv-loop μ-loop) → c .wide .result < kindOf (turn c .loop .next .kind) .slots
+below c =
+    let p = turn c .loop .inv in
+    let u = last-below _ (p .right) (p .long) _ _ (p .slots-left) (going (c .before .before) .0) in
+    omega (arith, u, c .wide .ensures)
+
 -- its entry; as the definitions have it; and that it has few keys
 abbrev element : tie.After-wide Inv-loop μ-loop → machine.Entry.Entry
 element c = getD (turn c .loop .next .entries) (c .wide .result) zeroEntry
@@ -75,8 +86,11 @@ is-entry : (c : tie.After-wide Inv-loop μ-loop) → entryAt (listed (turn c .lo
 unfolding entryAt
 is-entry c = listed-any (turn c .loop .next .entries) (c .wide .result)
 
-few : (c : tie.After-wide Inv-loop μ-loop) → length (keySet (element c .keys)) ≤ narrowKind .writeLimit
-few c = subst (λ (e : Entry). length (keysOf e) ≤ narrowKind .writeLimit) (is-entry c) (entry-count (listed (turn c .loop .next)) (turn c .loop .inv .right) (c .wide .result))
+abbrev κ : tie.After-wide Inv-loop μ-loop → Kind
+κ c = kindOf (turn c .loop .next .kind)
+
+few : (c : tie.After-wide Inv-loop μ-loop) → length (keySet (element c .keys)) ≤ κ c .writeLimit
+few c = subst (λ (e : Entry). length (keysOf e) ≤ κ c .writeLimit) (is-entry c) (entry-count (listed (turn c .loop .next)) (turn c .loop .inv .right) (c .wide .result))
 
 mul-e : tie.Need-mul-e Inv-loop μ-loop
 mul-e c = omega (arith, low c)
@@ -84,11 +98,11 @@ mul-e c = omega (arith, low c)
 element-copy-out-e : tie.Need-element-copy-out-e Inv-loop μ-loop
 element-copy-out-e c = low c
 
-mul-at : tie.Need-mul-at Inv-loop μ-loop
-mul-at c = omega (arith, low (c .before))
+record-place-requires : tie.Need-record-place-requires Inv-loop μ-loop
+record-place-requires c κs = (below (c .before), omega arith)
 
 add-carries-entry : tie.Need-add-carries-entry Inv-loop μ-loop
-add-carries-entry c = omega (arith, low (c .before))
+add-carries-entry c = search needs
 
 sub-carries-entry : tie.Need-sub-carries-entry Inv-loop μ-loop
 sub-carries-entry c = search needs
@@ -97,28 +111,29 @@ part-carries-entry-start : tie.Need-part-carries-entry-start Inv-loop μ-loop
 part-carries-entry-start c = search needs
 
 part-carries-entry-end : tie.Need-part-carries-entry-end Inv-loop μ-loop
-part-carries-entry-end c = let w = c .before .before in omega (arith, low w, turn w .loop .inv .size)
+part-carries-entry-end c = let w = c .before .before .before in omega (arith, c .before .record-place .ensures .1, turn w .loop .inv .size)
 
 carries-entry-requires : tie.Need-carries-entry-requires Inv-loop μ-loop
-carries-entry-requires c κs = (search needs, few (c .before .before .before))
-
-same-length : tie.Need-same-length Inv-loop μ-loop
-same-length c = search needs
+carries-entry-requires c κs = (search needs, few (c .before .before .before .before))
 
 -- whether its commit record carries it
 abbrev wide-at : tie.After-carries-entry Inv-loop μ-loop → tie.After-wide Inv-loop μ-loop
-wide-at c = c .before .before .before .before
+wide-at c = c .before .before .before .before .before
 
 abbrev slot : tie.After-wide Inv-loop μ-loop → ℕ
 slot c = getD (turn c .before .before .args .t3 .slots) (turn c .loop .left - 1) 0
 
 carried : (c : tie.After-carries-entry Inv-loop μ-loop)
-    → carriesEntry narrowKind (recordAt narrowKind (turn (wide-at c) .loop .store) (slot (wide-at c)) 0) (entryAt (listed (turn (wide-at c) .loop .next)) (slot (wide-at c))) ≡ c .carries-entry .result
+    → carriesEntry (κ (wide-at c)) (recordAt (κ (wide-at c)) (turn (wide-at c) .loop .store) (slot (wide-at c)) 0) (entryAt (listed (turn (wide-at c) .loop .next)) (slot (wide-at c))) ≡ c .carries-entry .result
 carried c =
     let w = wide-at c .wide in
     let t = turn (wide-at c) in
-    ap (λ (d : ℕ). carriesEntry narrowKind (recordAt narrowKind (t .loop .store) d 0) (entryAt (listed (t .loop .next)) d)) (sym (w .ensures))
-    ∙ (ap₂ (λ (x : List ℕ) (e : Entry). carriesEntry narrowKind x e) (sym (record-part narrowKind (t .loop .store) (w .result) 0 (slotSize narrowKind * w .result) (omega (arith, slot-start narrowKind (wide-at c .wide .result))))) (is-entry (wide-at c)) ∙ sym (c .carries-entry .ensures))
+    let r = c .before .before .before .record-place in
+    ap (λ (d : ℕ). carriesEntry (κ (wide-at c)) (recordAt (κ (wide-at c)) (t .loop .store) d 0) (entryAt (listed (t .loop .next)) d)) (sym (w .ensures))
+    ∙ (ap₂ (λ (x : List ℕ) (e : Entry). carriesEntry (κ (wide-at c)) x e) (sym (record-part (κ (wide-at c)) (t .loop .store) (w .result) 0 (r .result) (r .ensures .0))) (is-entry (wide-at c)) ∙ sym (c .carries-entry .ensures))
+
+same-length : tie.Need-same-length Inv-loop μ-loop
+same-length c = same-size (turn (wide-at (c .before)))
 
 returns : tie.Need-returns Inv-loop μ-loop
 returns c =
@@ -129,7 +144,7 @@ returns c =
     (record-ends _ _ _ _ _ _ _ _ (t .loop .inv) (going (w .before .before) .0) (carried (c .before) ∙ not-true _ (c .if2 .taken)))
 
 store-zero-requires : tie.Need-store-zero-requires Inv-loop μ-loop
-store-zero-requires c κs = let w = wide-at (c .before .before) in (turn w .loop .inv .size, low w)
+store-zero-requires c κs = let w = wide-at (c .before .before) in (turn w .loop .inv .size, below w)
 
 no-entry-requires : tie.Need-no-entry-requires Inv-loop μ-loop
 no-entry-requires c κs = search needs
@@ -159,10 +174,10 @@ loop-again c =
     let t = turn w in
     sweeping-as _ _ _ (t .loop .next) (t .loop .store) _ _ _ _
     (sweeping-next _ _ _ _ _ _ _ _ (t .loop .inv) (going (w .before .before) .0) (going (w .before .before) .1) (carried (after c) ∙ not-false _ (c .before .before .before .before .before .if2 .left)))
-    (w .wide .result) (w .wide .ensures) (c .no-entry .result) (c .no-entry .ensures) (c .before .before .before .store-zero .last .0) (c .before .before .before .store-zero .ensures)
+    (w .wide .result) (w .wide .ensures) (c .no-entry .result) (c .no-entry .ensures) (c .before .before .before .store-zero .last .1 .0) (c .before .before .before .store-zero .ensures)
 
 same-length-2 : tie.Need-same-length-2 Inv-loop μ-loop
-same-length-2 c = search needs
+same-length-2 c = same-size (c .before .before)
 
 -- nothing goes on
 ended : {limit : ℕ} {st₀ : Station} {s₀ : List ℕ} {st : Station} {s : List ℕ} {count n : ℕ} {xs : List ℕ} → Sweeping limit st₀ s₀ st s count n xs → Dec (n ≡ 0) → (ltb 0 n and ltb count limit) ≡ false → collections (limit - count) st s ≡ []
@@ -188,7 +203,7 @@ collect-all-spec =
     wide-requires
     mul-e
     element-copy-out-e
-    mul-at
+    record-place-requires
     add-carries-entry
     sub-carries-entry
     part-carries-entry-start

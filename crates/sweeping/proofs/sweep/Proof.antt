@@ -5,8 +5,8 @@ use mathlib.Core.Bool.{true}
 use lib.ListN.{length}
 use borrow.Author.Needs.{needs}
 use Rattle.model.specs.Limits.{sweepLimit}
-use Rattle.model.specs.Kinds.{narrowKind, storeSize}
-use Rattle.model.specs.Listed.{listed}
+use Rattle.model.specs.Kinds.{storeSize}
+use Rattle.model.specs.Listed.{kindOf, listed}
 use Rattle.model.specs.Sound.{sound}
 use Rattle.sweeping.proofs.SweepRows.{sweep-refused, sweep-allowed}
 use Rattle.sweeping.proofs.sweep.Statement.{statement}
@@ -22,14 +22,14 @@ returns c = let s = c .before .before .before in sweep-refused _ _ _ _ (s .pre) 
 abbrev start : tie.Else1 → tie.Start
 start c = c .before .before .before
 
-allowed : (c : tie.Else1) → (length (start c .args .store .now) ≡ storeSize narrowKind) × (sound (listed (start c .args .station)) ≡ true) × (0 < start c .args .limit) × (start c .args .limit ≤ sweepLimit)
+allowed : (c : tie.Else1) → (length (start c .args .store .now) ≡ storeSize (kindOf (start c .args .station .kind))) × (sound (listed (start c .args .station)) ≡ true) × (0 < start c .args .limit) × (start c .args .limit ≤ sweepLimit)
 allowed c = sweep-allowed (listed (start c .args .station)) (start c .args .store .now) (start c .args .limit) (start c .args .tested) (start c .pre) _ (c .before .sweep-row .ensures) (c .if1 .left)
 
 to-collect-requires : tie.Need-to-collect-requires
-to-collect-requires c κs = allowed (c .before .before) .1
+to-collect-requires c κs = tt
 
 collect-all-requires : tie.Need-collect-all-requires
-collect-all-requires c κs = let a = allowed (c .before .before .before .before) in (a .0, ((a .1, a .2, a .3), c .before .to-collect .ensures))
+collect-all-requires c κs = let a = allowed (c .before .before .before .before) in (a .0, ((a .1, a .2, a .3), c .before .to-collect .ensures _ (a .1)))
 
 same-length : tie.Need-same-length
 same-length c = search needs

@@ -27,13 +27,13 @@ sifted-requires : tie.Need-sifted-requires
 sifted-requires c κs = let o = c .before .before .before .newest-first .ensures in (o .fits, λ i u. o .marked i u .0)
 
 returns : tie.Need-returns
-returns c =
+returns c κ r =
     let s = c .before .before .before .before .before .before .before .before .before .before .before in
     let order = c .before .before .before .before .newest-first in
     let l : length (listedEntries (s .args .entries)) ≡ 64 = listed-length (s .args .entries) ∙ s .good .1 .0 .1 .0 .1 in
     let x : length (order .result .slots) ≡ 64 = search needs in
     to-collect _ _ _ _ _ _ _
-    (record { right = s .pre; long = l; held = c .before .before .before .before .before .before .before .before .held-of .ensures; clocks = c .before .before .before .before .before .before .before .before .before .before .clocks-of .ensures; txns = c .before .before .before .before .before .before .before .before .before .txns-of .ensures; rows = x; order = order .ensures; read-by = c .before .read-of .ensures })
+    (record { right = r; long = l; held = c .before .before .before .before .before .before .before .before .held-of .ensures; clocks = c .before .before .before .before .before .before .before .before .before .before .clocks-of .ensures; txns = c .before .before .before .before .before .before .before .before .before .txns-of .ensures; rows = x; order = order .ensures; read-by = c .before .read-of .ensures })
     _ _ (c .sifted .ensures)
 
 pub to-collect-spec : {M : Type 1} → statement M

@@ -9,15 +9,15 @@ use borrow.Author.Tests.{eq-eqb, ne-eqb}
 use Rattle.model.specs.Lists.{member}
 use Rattle.model.specs.Limits.{lastClock}
 use Rattle.model.specs.Listed.{listedLives, listedEntries}
-use Rattle.model.specs.Clocks.{clocks, clockAbove}
+use Rattle.model.specs.Clocks.{clockAbove}
 use Rattle.model.proofs.ClockLaws.{greatest-is}
-use Rattle.stations.specs.Found.{stationOf}
+use Rattle.stations.specs.Found.{clocksIn}
 use Rattle.transactions.specs.Committing.{clockFor}
 use Rattle.transactions.proofs.clock_for.Statement.{statement}
 use Rattle.transactions.proofs.clock_for.Tie as tie
 
 -- the last clock is taken where the greatest is the last
-last-taken : (c : tie.After-greatest-clock) → eqb (c .greatest-clock .result) lastClock ≡ member lastClock (clocks (stationOf (listedLives (c .before .before .args .live)) (listedEntries (c .before .before .args .entries))))
+last-taken : (c : tie.After-greatest-clock) → eqb (c .greatest-clock .result) lastClock ≡ member lastClock (clocksIn (listedLives (c .before .before .args .live)) (listedEntries (c .before .before .args .entries)))
 last-taken c =
     let e = c .greatest-clock .ensures in
     let o : c .greatest-clock .result ≤ lastClock = search needs in

@@ -3,13 +3,13 @@ use Prim.Native.Nat.{ℕ}
 use mathlib.Core.Path.{_≡_, sym, ap, _∙_}
 use lib.ListN.{length, length-map}
 use borrow.Author.Needs.{needs}
-use native.Mathlib.Omega.{arith}
 use Rattle.model.specs.declared.Answer.the-variants as A
 use Rattle.model.specs.Types.{Entry}
 use Rattle.model.specs.Listed.{listedLive, listed}
 use Rattle.model.specs.Entries.{noEntry}
+use Rattle.model.specs.Clocks.{clocks}
 use Rattle.model.specs.Effects.{says}
-use Rattle.model.proofs.ListedLaws.{listed-any, listed-length}
+use Rattle.model.proofs.ListedLaws.{listed-any, listed-length, kind-fits}
 use Rattle.model.specs.Lives.{writeCount}
 use Rattle.transactions.specs.Committing.{slotFor, clockFor, commitAnswer}
 use Rattle.stations.proofs.Changes.{as-effect}
@@ -95,14 +95,15 @@ slot-for-requires c κs = search needs
 slot-at : (c : tie.After-slot-for) → c .slot-for .result ≡ slotFor (writeCount (listedLive (c .before .before .before .before .live-at .result))) (listed (c .before .before .before .before .before .before .before .before .before .before .before .before .args .t1))
 slot-at c = c .slot-for .ensures ∙ ap (λ (n : ℕ). slotFor n (listed (c .before .before .before .before .before .before .before .before .before .before .before .before .args .t1))) (c .before .write-count .ensures)
 
-clock-at : (c : tie.After-clock-for) → c .clock-for .result ≡ clockFor (writeCount (listedLive (c .before .before .before .before .before .before .live-at .result))) (c .before .before .before .before .before .before .before .before .before .before .before .before .before .before .args .clock) (listed (c .before .before .before .before .before .before .before .before .before .before .before .before .before .before .args .t1))
-clock-at c = c .clock-for .ensures ∙ ap (λ (n : ℕ). clockFor n (c .before .before .before .before .before .before .before .before .before .before .before .before .before .before .args .clock) (listed (c .before .before .before .before .before .before .before .before .before .before .before .before .before .before .args .t1))) (c .before .before .before .write-count .ensures)
+clock-at : (c : tie.After-clock-for) → c .clock-for .result ≡ clockFor (writeCount (listedLive (c .before .before .before .before .before .before .live-at .result))) (c .before .before .before .before .before .before .before .before .before .before .before .before .before .before .args .clock) (clocks (listed (c .before .before .before .before .before .before .before .before .before .before .before .before .before .before .args .t1)))
+unfolding clocks
+clock-at c = c .clock-for .ensures ∙ ap (λ (n : ℕ). clockFor n (c .before .before .before .before .before .before .before .before .before .before .before .before .before .before .args .clock) (clocks (listed (c .before .before .before .before .before .before .before .before .before .before .before .before .before .before .args .t1)))) (c .before .before .before .write-count .ensures)
 
 refused-requires-3 : tie.Need-refused-requires-3
 refused-requires-3 c κs = search needs
 
 returns-4 : tie.Need-returns-4
-returns-4 c = as-effect _ _ _ _ (commit-13 (is-open-at (c .before .before .before .before)) (omega arith) _ (slot-at (c .before .before)) (c .before .if4 .taken)) (c .refused3 .ensures)
+returns-4 c = as-effect _ _ _ _ (commit-13 (is-open-at (c .before .before .before .before)) (kind-fits _ .slots-fit) _ (slot-at (c .before .before)) (c .before .if4 .taken)) (c .refused3 .ensures)
 
 clock-for-requires : tie.Need-clock-for-requires
 clock-for-requires c κs = search needs
@@ -113,7 +114,7 @@ refused-requires-4 c κs = search needs
 returns-5 : tie.Need-returns-5
 returns-5 c =
     as-effect _ _ _ _
-    (commit-21 (is-open-at (c .before .before .before .before .before .before)) (omega arith) _ (slot-at (c .before .before .before .before)) (c .before .before .before .if4 .left) _ (clock-at (c .before .before)) (c .before .if5 .taken))
+    (commit-21 (is-open-at (c .before .before .before .before .before .before)) (kind-fits _ .slots-fit) _ (slot-at (c .before .before .before .before)) (c .before .before .before .if4 .left) _ (clock-at (c .before .before)) (c .before .if5 .taken))
     (c .refused4 .ensures)
 
 cast-d : tie.Need-cast-d
@@ -134,7 +135,7 @@ returns-6 : tie.Need-returns-6
 returns-6 c =
     as-effect _ _ _ _
     (placed _ _ _ _ _ _ _ (c .before .commit-answer .ensures ∙ ap (λ (n : ℕ). commitAnswer n (c .before .before .before .before .before .before .slot-for .result)) (c .before .before .before .before .before .before .before .write-count .ensures)) (c .before .before .after-commit .ensures)
-    (commit-done (is-open-at (c .before .before .before .before .before .before .before .before)) (omega arith) _ (slot-at (c .before .before .before .before .before .before)) (c .before .before .before .before .before .if4 .left) _ (clock-at (c .before .before .before .before)) (c .before .before .before .if5 .left)))
+    (commit-done (is-open-at (c .before .before .before .before .before .before .before .before)) (kind-fits _ .slots-fit) _ (slot-at (c .before .before .before .before .before .before)) (c .before .before .before .before .before .if4 .left) _ (clock-at (c .before .before .before .before)) (c .before .before .before .if5 .left)))
     (c .live-changed .ensures)
 
 pub commit-spec : {M : Type 1} → statement M

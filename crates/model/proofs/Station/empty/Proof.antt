@@ -1,13 +1,14 @@
+use borrow.Author.Needs.{needs}
+use Rattle.model.specs.Listed.{kindOf}
 use Rattle.model.proofs.Station.empty.Statement.{statement}
 use Rattle.model.proofs.Station.empty.Tie as tie
-use mathlib.Core.Path.{refl}
-use Rattle.model.specs.KeySets.{keySet, keysBelow, withLowest}
-use Rattle.model.specs.Listed.{valued}
-use Rattle.model.specs.Stations.{emptyStation}
+
+empty-of-requires : tie.Need-empty-of-requires
+empty-of-requires c κs = search needs
 
 returns : tie.Need-returns
-unfolding emptyStation valued keySet keysBelow withLowest
-returns c = refl
+unfolding kindOf
+returns c = c .empty-of .ensures
 
 pub empty-spec : {M : Type 1} → statement M
-empty-spec = tie.close (tie.spec returns)
+empty-spec = tie.close (tie.spec empty-of-requires returns)

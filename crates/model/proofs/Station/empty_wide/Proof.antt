@@ -1,0 +1,14 @@
+use borrow.Author.Needs.{needs}
+use Rattle.model.specs.Listed.{kindOf}
+use Rattle.model.proofs.Station.empty_wide.Statement.{statement}
+use Rattle.model.proofs.Station.empty_wide.Tie as tie
+
+empty-of-requires : tie.Need-empty-of-requires
+empty-of-requires c κs = search needs
+
+returns : tie.Need-returns
+unfolding kindOf
+returns c = c .empty-of .ensures
+
+pub empty-wide-spec : {M : Type 1} → statement M
+empty-wide-spec = tie.close (tie.spec empty-of-requires returns)

@@ -1,0 +1,3 @@
+pub mod SlotMade
+pub mod MoveLoop
+pub mod MoveAnswers
