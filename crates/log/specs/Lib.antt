@@ -1,0 +1,6 @@
+pub mod Lines
+pub mod Verdicts
+pub mod Logs
+pub mod Claims
+pub mod Written
+pub mod Parts
