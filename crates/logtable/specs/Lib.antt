@@ -1,0 +1,4 @@
+pub mod Tables
+pub mod Findings
+pub mod Parts
+pub mod Holds
