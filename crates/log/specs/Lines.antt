@@ -10,8 +10,7 @@ use Rattle.model.specs.Lists.{_and_, same}
 use Rattle.model.specs.Limits.{keys, txnRange, numberRange}
 use Rattle.decimal.specs.Digits.{numberBelow}
 use Rattle.decimal.specs.Fields.{field, afterField}
-use Rattle.sheet.specs.Words.{comma}
-use Rattle.sheet.specs.Lines.{lineLimit}
+use Rattle.lines.specs.Lines.{comma, lineLimit}
 
 -- "`write` names ticket and key; `commit` names ticket and clock; `read` names reader, key and the version's clock and author": its id
 pub data Line : Type 0 where

@@ -3,22 +3,13 @@ use Prim.Native.Nat.{ℕ, zero, suc, _+_}
 use mathlib.Core.List.{List, [], _∷_, map}
 use mathlib.Core.Option.{Option, some, none}
 use lib.ListN.{length}
-use Rattle.sheet.specs.Sheets.{firstLine, otherLines}
+use Rattle.lines.specs.Lines.{firstLine, otherLines, linesIn}
 use Rattle.log.specs.declared.Finding.{Finding}
 use Rattle.log.specs.declared.Finding.the-variants as F
 use Rattle.log.specs.declared.Verdict.{Verdict}
 use Rattle.log.specs.declared.Verdict.the-variants.{Clean, Bad, Refused}
 use Rattle.log.specs.Lines.{Line, lineIn}
 use Rattle.log.specs.Verdicts.{findingOf}
-
--- the lines of an input, as the run sheet has them; there are at most as many as bytes
-unfoldable pub linesFrom : ℕ → List ℕ → List (List ℕ)
-linesFrom zero bs = []
-linesFrom (suc more) [] = []
-linesFrom (suc more) (b ∷ bs) = firstLine (b ∷ bs) ∷ linesFrom more (otherLines (b ∷ bs))
-
-unfoldable pub linesIn : List ℕ → List (List ℕ)
-linesIn bs = linesFrom (length bs) bs
 
 -- what a finding says of line n
 unfoldable pub findingAt : ℕ → Finding → Verdict

@@ -5,7 +5,7 @@ use mathlib.Core.List.{List, [], _∷_, _++_}
 use Rattle.model.specs.declared.Id.{Id}
 use Rattle.model.specs.Limits.{keys, txnRange, numberRange}
 use Rattle.decimal.specs.Digits.{digits}
-use Rattle.sheet.specs.Words.{comma, newline}
+use Rattle.lines.specs.Lines.{comma, newline}
 use Rattle.log.specs.Lines.{Line, write, commit, read, LineKind, isWrite, isCommit, isRead, kindBytes}
 
 -- "Lines: kind,ticket,key,clock,author."

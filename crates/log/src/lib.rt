@@ -2,8 +2,8 @@
 use decimal::Number;
 use decimal::field_end;
 use decimal::number_in;
+use lines::same_bytes;
 use model::Id;
-use sheet::same_bytes;
 ghost use mathlib.Core.Path.{_≡_};
 ghost use mathlib.Core.Option.{some};
 ghost use Rattle.log.specs.Lines.{kindIn, ofFields, second, third, fourth, fifth, lineIn};

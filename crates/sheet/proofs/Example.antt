@@ -32,7 +32,8 @@ use Rattle.decimal.specs.Digits.{digitsOf, digits, isDigit, numberFrom, isDecim
 use Rattle.decimal.specs.Fields.{field, afterField}
 use Rattle.sheet.specs.Words.{verbBytes, wordOf, header}
 use Rattle.sheet.specs.Lines.{verbIn, ifUnused, callIn, ofFields, fourth, third, second, lineCall}
-use Rattle.sheet.specs.Sheets.{firstLine, otherLines, newDesk, lineEffect, afterLine, printed, lineOutput, linesOutput, sheetOf}
+use Rattle.lines.specs.Lines.{firstLine, otherLines}
+use Rattle.sheet.specs.Sheets.{newDesk, lineEffect, afterLine, printed, lineOutput, linesOutput, sheetOf}
 
 pub exampleInput : List ℕ
 exampleInput = 115 ∷ 116 ∷ 97 ∷ 114 ∷ 116 ∷ 44 ∷ 53 ∷ 44 ∷ 48 ∷ 44 ∷ 48 ∷ 10 ∷ 112 ∷ 117 ∷ 116 ∷ 44 ∷ 53 ∷ 44 ∷ 50 ∷ 44 ∷ 52 ∷ 48 ∷ 10 ∷ 112 ∷ 117 ∷ 116 ∷ 44 ∷ 53 ∷ 44 ∷ 49 ∷ 44 ∷ 55 ∷ 10 ∷ 103 ∷ 101 ∷ 116 ∷ 44 ∷ 53 ∷ 44 ∷ 50 ∷ 44 ∷ 48 ∷ 10 ∷ 99 ∷ 111 ∷ 109 ∷ 109 ∷ 105 ∷ 116 ∷ 44 ∷ 53 ∷ 44 ∷ 48 ∷ 44 ∷ 49 ∷ 48 ∷ 48 ∷ 10 ∷ 115 ∷ 116 ∷ 101 ∷ 112 ∷ 44 ∷ 53 ∷ 44 ∷ 48 ∷ 44 ∷ 48 ∷ 10 ∷ 115 ∷ 116 ∷ 101 ∷ 112 ∷ 44 ∷ 53 ∷ 44 ∷ 48 ∷ 44 ∷ 48 ∷ 10 ∷ 115 ∷ 116 ∷ 101 ∷ 112 ∷ 44 ∷ 53 ∷ 44 ∷ 48 ∷ 44 ∷ 48 ∷ 10 ∷ 99 ∷ 117 ∷ 116 ∷ 44 ∷ 48 ∷ 44 ∷ 48 ∷ 44 ∷ 48 ∷ 10 ∷ 115 ∷ 116 ∷ 97 ∷ 114 ∷ 116 ∷ 44 ∷ 54 ∷ 44 ∷ 48 ∷ 44 ∷ 48 ∷ 10 ∷ 103 ∷ 101 ∷ 116 ∷ 44 ∷ 54 ∷ 44 ∷ 50 ∷ 44 ∷ 48 ∷ 10 ∷ 103 ∷ 101 ∷ 116 ∷ 44 ∷ 54 ∷ 44 ∷ 57 ∷ 44 ∷ 48 ∷ 10 ∷ 99 ∷ 111 ∷ 109 ∷ 109 ∷ 105 ∷ 116 ∷ 44 ∷ 53 ∷ 44 ∷ 48 ∷ 44 ∷ 50 ∷ 48 ∷ 48 ∷ 10 ∷ 99 ∷ 111 ∷ 108 ∷ 108 ∷ 101 ∷ 99 ∷ 116 ∷ 44 ∷ 48 ∷ 44 ∷ 54 ∷ 51 ∷ 44 ∷ 48 ∷ 10 ∷ 97 ∷ 98 ∷ 111 ∷ 114 ∷ 116 ∷ 44 ∷ 54 ∷ 44 ∷ 48 ∷ 44 ∷ 48 ∷ 10 ∷ []

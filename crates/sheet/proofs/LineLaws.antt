@@ -19,8 +19,9 @@ use Rattle.decimal.specs.Fields.{field, afterField}
 use Rattle.decimal.proofs.FieldLaws.{field-taken, field-whole, after-none, after-some, rest-part}
 use Rattle.decimal.proofs.ReadLaws.{read-ended}
 use Rattle.sheet.specs.declared.Command.the-variants as C
-use Rattle.sheet.specs.Words.{Verb, isCut, comma}
-use Rattle.sheet.specs.Lines.{lineLimit, verbIn, ifUnused, callIn, ofFields, fourth, third, second, lineCall}
+use Rattle.lines.specs.Lines.{comma, lineLimit}
+use Rattle.sheet.specs.Words.{Verb, isCut}
+use Rattle.sheet.specs.Lines.{verbIn, ifUnused, callIn, ofFields, fourth, third, second, lineCall}
 use Rattle.sheet.specs.Commands.{commandOf}
 use Rattle.sheet.specs.Parts.{onlyIf}
 

@@ -11,8 +11,9 @@ use Rattle.model.specs.Calls.{Call, Start, Get, Commit, Step, Abort, Collect, S
 use Rattle.model.proofs.RefusalLaws.{cond-rule}
 use Rattle.decimal.specs.Digits.{numberBelow}
 use Rattle.decimal.specs.Fields.{field, afterField}
-use Rattle.sheet.specs.Words.{Verb, isStart, isPut, isGet, isCommit, isStep, isAbort, isCollect, isCut, comma}
-use Rattle.sheet.specs.Lines.{lineLimit, verbIn, ifUnused, callIn, ofFields, fourth, third, second, lineCall}
+use Rattle.lines.specs.Lines.{comma, lineLimit}
+use Rattle.sheet.specs.Words.{Verb, isStart, isPut, isGet, isCommit, isStep, isAbort, isCollect, isCut}
+use Rattle.sheet.specs.Lines.{verbIn, ifUnused, callIn, ofFields, fourth, third, second, lineCall}
 
 asks : Option Call → Bool
 asks none = false

@@ -10,11 +10,8 @@ use Rattle.model.specs.Limits.{txnRange, numberRange, byteRange}
 use Rattle.model.specs.Calls.{Call, Start, Put, Get, Commit, Step, Abort, Collect, Scan}
 use Rattle.decimal.specs.Digits.{numberBelow}
 use Rattle.decimal.specs.Fields.{field, afterField}
-use Rattle.sheet.specs.Words.{Verb, isStart, isPut, isGet, isCommit, isStep, isAbort, isCollect, isCut, verbBytes, comma}
-
--- "A line has at most 64 bytes before its newline"
-abbrev pub lineLimit : ℕ
-lineLimit = 64
+use Rattle.lines.specs.Lines.{comma, lineLimit}
+use Rattle.sheet.specs.Words.{Verb, isStart, isPut, isGet, isCommit, isStep, isAbort, isCollect, isCut, verbBytes}
 
 -- the verb whose name the bytes are
 unfoldable pub verbIn : List ℕ → Option Verb

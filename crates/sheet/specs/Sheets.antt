@@ -1,9 +1,7 @@
 -- 01 'The run sheet': the whole output as a function of the input's bytes alone.
 use Prim.Native.Nat.{ℕ, zero, suc, _+_}
-use mathlib.Core.Bool.{cond}
 use mathlib.Core.List.{List, [], _∷_, _++_}
 use mathlib.Core.Option.{Option, some, none}
-use lib.Dec.{eqb}
 use lib.ListN.{length, replicate}
 use Rattle.model.specs.Kinds.{narrowKind, storeSize}
 use Rattle.model.specs.Types.{Station}
@@ -14,18 +12,9 @@ use Rattle.model.specs.Effects.{Effect, stored, says}
 use Rattle.model.specs.Calls.{Call, does}
 use Rattle.model.specs.Answers.{valuesOf}
 use Rattle.decimal.specs.Digits.{digits}
-use Rattle.sheet.specs.Words.{wordOf, comma, newline, header}
+use Rattle.lines.specs.Lines.{comma, newline, firstLine, otherLines}
+use Rattle.sheet.specs.Words.{wordOf, header}
 use Rattle.sheet.specs.Lines.{lineCall}
-
--- ── lines: "the last newline may be missing"; nothing after the last newline is no line ──
--- the bytes before the first newline; those after it
-unfoldable pub firstLine : List ℕ → List ℕ
-firstLine [] = []
-firstLine (b ∷ bs) = cond (eqb b newline) [] (b ∷ firstLine bs)
-
-unfoldable pub otherLines : List ℕ → List ℕ
-otherLines [] = []
-otherLines (b ∷ bs) = cond (eqb b newline) bs (otherLines bs)
 
 -- ── the desk between two lines: the station, the store and the number of the next line ──
 pub record Desk : Type 0 where

@@ -48,12 +48,6 @@ wordOf (A.Refused n d) = 114 ∷ 101 ∷ 102 ∷ 117 ∷ 115 ∷ 101 ∷ 100 ∷
 wordOf (A.Swept n) = 115 ∷ 119 ∷ 101 ∷ 112 ∷ 116 ∷ []
 wordOf (A.Moved n) = 109 ∷ 111 ∷ 118 ∷ 101 ∷ 100 ∷ []
 
-abbrev pub comma : ℕ
-comma = 44
-
-abbrev pub newline : ℕ
-newline = 10
-
 -- "line,answer,a,b,c"
 unfoldable pub header : List ℕ
 header = 108 ∷ 105 ∷ 110 ∷ 101 ∷ 44 ∷ 97 ∷ 110 ∷ 115 ∷ 119 ∷ 101 ∷ 114 ∷ 44 ∷ 97 ∷ 44 ∷ 98 ∷ 44 ∷ 99 ∷ 10 ∷ []

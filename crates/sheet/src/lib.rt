@@ -4,6 +4,7 @@ use decimal::field_end;
 use decimal::number_in;
 use decimal::write_bytes;
 use decimal::write_number;
+use lines::same_bytes;
 use model::Answer;
 ghost use mathlib.Core.Path.{_≡_};
 ghost use Prim.Native.Nat.{_+_, _≤_};
@@ -12,7 +13,7 @@ ghost use mathlib.Core.Option.{some};
 ghost use lib.Dec.{eqb};
 ghost use lib.ListN.{length, take, drop};
 ghost use Rattle.model.specs.Answers.{valuesOf};
-ghost use Rattle.model.specs.Lists.{_and_, same};
+ghost use Rattle.model.specs.Lists.{_and_};
 ghost use Rattle.decimal.specs.Written.{written};
 ghost use Rattle.sheet.specs.Words.{wordOf, header};
 ghost use Rattle.sheet.specs.Lines.{verbIn, ofFields, second, third, fourth, lineCall};
@@ -72,23 +73,6 @@ pub struct Values {
     pub a: u64,
     pub b: u64,
     pub c: u64,
-}
-
-// The same bytes in the same order.
-pub fn same_bytes(a: &[u8], b: &[u8]) -> bool
-    ensures { λ r. ⌜ r ≡ same (now (a .entry)) (now (b .entry)) ⌝ }
-{
-    if a.len() != b.len() {
-        return false;
-    }
-    let mut i = 0;
-    while i < a.len() {
-        if a[i] != b[i] {
-            return false;
-        }
-        i += 1;
-    }
-    true
 }
 
 // The verb that a line's first field names.

@@ -1,5 +1,5 @@
 -- A block fed line by line.
-use Prim.Native.Nat.{ℕ, suc, _+_, _-_, _<_, _≤_}
+use Prim.Native.Nat.{ℕ, _+_, _-_, _≤_}
 use mathlib.Core.Path.{_≡_, refl, sym, ap, ap₂, _∙_}
 use mathlib.Core.Bool.{Bool, true, false}
 use mathlib.Core.List.{List, [], _∷_, _++_, append-nil, append-assoc}
@@ -7,14 +7,15 @@ use lib.Dec.{eqb}
 use lib.ListN.{length, take, drop, length-drop, drop-of-length-le}
 use lib.Seq.{take-all, take-append-le, drop-append-le, take-append-add, drop-append-add, drop-drop, length-take-le}
 use native.Mathlib.Omega.{arith}
-use borrow.Author.Tests.{eqb-true}
 use borrow.Rule.Slice.PartMut.{putMid}
 use Rattle.model.specs.declared.Station.{Station}
-use Rattle.sheet.specs.Words.{newline}
-use Rattle.sheet.specs.Sheets.{Desk, firstLine, afterLine, lineOutput}
-use Rattle.stream.specs.Streams.{Stream, joined, afterByte, byteOutput, afterBytes, bytesOutput}
-use Rattle.stream.specs.Parts.{deskOf, streamOf, joinedWith}
-use Rattle.stream.proofs.JoinLaws.{line-none, line-yes, line-no}
+use Rattle.lines.specs.Lines.{firstLine, newline}
+use Rattle.lines.specs.Kept.{joined, joinedWith}
+use Rattle.sheet.specs.Sheets.{Desk, afterLine, lineOutput}
+use Rattle.stream.specs.Streams.{Stream, afterByte, byteOutput, afterBytes, bytesOutput}
+use Rattle.stream.specs.Parts.{deskOf, streamOf}
+use Rattle.lines.proofs.JoinLaws.{line-none, line-yes, line-no}
+use Rattle.lines.proofs.StopLaws.{rest}
 
 abbrev pub at : Desk → List ℕ → Stream
 at k l = record { desk = k; line = l }
@@ -57,36 +58,14 @@ line-output (b ∷ bs) k l = go (eqb b newline) refl (line-output bs k (joined l
     go true e ih = rw (line-yes b bs e)
     go false e ih = rw (line-no b bs e) (ap₂ _++_ (byte-output b k l e) (ap (bytesOutput bs) (byte-after b k l e)) ∙ ih)
 
--- a line that does not reach the block's end is ended by a newline
-line-stops : (bs : List ℕ) → length (firstLine bs) < length bs → drop (length (firstLine bs)) bs ≡ newline ∷ drop (suc (length (firstLine bs))) bs
-line-stops [] h = absurd (omega arith)
-line-stops (b ∷ bs) h = go (eqb b newline) refl (line-stops bs)
-  where
-    go : (t : Bool) → eqb b newline ≡ t → (length (firstLine bs) < length bs → drop (length (firstLine bs)) bs ≡ newline ∷ drop (suc (length (firstLine bs))) bs)
-        → drop (length (firstLine (b ∷ bs))) (b ∷ bs) ≡ newline ∷ drop (suc (length (firstLine (b ∷ bs)))) (b ∷ bs)
-    go true e ih = rw (line-yes b bs e) (ap (λ (x : ℕ). x ∷ bs) (eqb-true b newline e))
-    go false e ih =
-        let h′ : suc (length (firstLine bs)) < suc (length bs) = rw (line-no b bs e) at h in
-        rw (line-no b bs e) (ih (omega arith))
-
 -- ── the bytes of a line in a block, from a place up to their end ──
 module _ (input : List ℕ) (from end : ℕ) (e : end ≡ from + length (firstLine (drop from input))) where
-  rest : drop (length (firstLine (drop from input))) (drop from input) ≡ drop end input
-  rest = drop-drop (length (firstLine (drop from input))) from input ∙ ap (λ (n : ℕ). drop n input) (sym e)
-
-  -- a byte there is a newline
-  pub stops : from ≤ length input → end < length input → drop end input ≡ newline ∷ drop (end + 1) input
-  stops o h =
-      let m : from + suc (length (firstLine (drop from input))) ≡ end + 1 = omega arith in
-      sym rest ∙ line-stops (drop from input) (simp length-drop (omega arith))
-      ∙ ap (λ (bs : List ℕ). newline ∷ bs) (drop-drop (suc (length (firstLine (drop from input)))) from input ∙ ap (λ (n : ℕ). drop n input) m)
-
   module _ (k : Desk) (l l′ : List ℕ) (j : l′ ≡ joinedWith l (firstLine (drop from input))) where
     to-after : afterBytes (drop from input) (at k l) ≡ afterBytes (drop end input) (at k l′)
-    to-after = line-after (drop from input) k l ∙ ap₂ (λ (bs m : List ℕ). afterBytes bs (at k m)) rest (sym j)
+    to-after = line-after (drop from input) k l ∙ ap₂ (λ (bs m : List ℕ). afterBytes bs (at k m)) (rest input from end e) (sym j)
 
     to-output : bytesOutput (drop from input) (at k l) ≡ bytesOutput (drop end input) (at k l′)
-    to-output = line-output (drop from input) k l ∙ ap₂ (λ (bs m : List ℕ). bytesOutput bs (at k m)) rest (sym j)
+    to-output = line-output (drop from input) k l ∙ ap₂ (λ (bs m : List ℕ). bytesOutput bs (at k m)) (rest input from end e) (sym j)
 
 -- a newline at a place of a block
 module _ (input : List ℕ) (end : ℕ) (k : Desk) (l : List ℕ) (e : drop end input ≡ newline ∷ drop (end + 1) input) where

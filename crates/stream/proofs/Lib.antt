@@ -1,4 +1,3 @@
-pub mod JoinLaws
 pub mod BlockLaws
 pub mod RunLaws
 pub mod ReadsLaws

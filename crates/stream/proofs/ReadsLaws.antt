@@ -14,12 +14,13 @@ use Rattle.model.specs.Kinds.{narrowKind, storeSize}
 use Rattle.model.specs.declared.Station.{Station}
 use Rattle.model.specs.Listed.{listed}
 use Rattle.model.specs.Stations.{emptyStation}
-use Rattle.sheet.specs.Words.{newline, header}
+use Rattle.lines.specs.Lines.{firstLine, newline, otherLines}
+use Rattle.sheet.specs.Words.{header}
 use Rattle.sheet.specs.Lines.{lineCall}
-use Rattle.sheet.specs.Sheets.{Desk, newDesk, firstLine, otherLines, afterLine, lineOutput, linesOutput, sheetOf}
-use Rattle.stream.specs.Streams.{Stream, newStream, joined, afterByte, byteOutput, afterBytes, bytesOutput, lastLine, endOutput, readsOutput, outputOfReads}
+use Rattle.sheet.specs.Sheets.{Desk, newDesk, afterLine, lineOutput, linesOutput, sheetOf}
+use Rattle.stream.specs.Streams.{Stream, newStream, afterByte, byteOutput, afterBytes, bytesOutput, lastLine, endOutput, readsOutput, outputOfReads}
 use Rattle.stream.specs.Parts.{deskOf, streamOf}
-use Rattle.stream.proofs.JoinLaws.{line-none, line-yes, line-no}
+use Rattle.lines.proofs.PlainLaws.{Plain, plain-joined, kept-joined, first-plain, others-plain, first-last, others-last}
 use Rattle.stream.proofs.BlockLaws.{at, newline-after, newline-output, byte-after, byte-output}
 
 -- ── a longer line is malformed by its first 65 bytes ──
@@ -41,51 +42,6 @@ kept-after l k = rw (kept-call l)
 kept-output : (l : List ℕ) (k : Desk) → lineOutput (take 65 l) k ≡ lineOutput l k
 unfolding lineOutput
 kept-output l k = rw (kept-call l)
-
--- a byte joins what is kept as it joins the whole
-taken-joined : (n : ℕ) (l : List ℕ) (b : ℕ) → take n (take n l ++ (b ∷ [])) ≡ take n (l ++ (b ∷ []))
-taken-joined zero l b = refl
-taken-joined (suc n) [] b = refl
-taken-joined (suc n) (x ∷ xs) b = ap (λ (l : List ℕ). x ∷ l) (taken-joined n xs b)
-
-kept-joined : (l : List ℕ) (b : ℕ) → joined (take 65 l) b ≡ take 65 (l ++ (b ∷ []))
-unfolding joined
-kept-joined l b = taken-joined 65 l b
-
--- ── bytes without a newline ──
-abbrev Plain : List ℕ → Type 0
-Plain [] = Unit {0}
-Plain (b ∷ bs) = (eqb b newline ≡ false) × Plain bs
-
-plain-joined : (p : List ℕ) (b : ℕ) → Plain p → eqb b newline ≡ false → Plain (p ++ (b ∷ []))
-plain-joined [] b h e = (e, tt)
-plain-joined (x ∷ xs) b h e = (h .0, plain-joined xs b (h .1) e)
-
-others-yes : (b : ℕ) (bs : List ℕ) → eqb b newline ≡ true → otherLines (b ∷ bs) ≡ bs
-unfolding otherLines
-others-yes b bs h = rw h
-
-others-no : (b : ℕ) (bs : List ℕ) → eqb b newline ≡ false → otherLines (b ∷ bs) ≡ otherLines bs
-unfolding otherLines
-others-no b bs h = rw h
-
--- such a line, with a newline after it or at the input's end
-first-plain : (p : List ℕ) (b : ℕ) (bs : List ℕ) → Plain p → eqb b newline ≡ true → firstLine (p ++ b ∷ bs) ≡ p
-first-plain [] b bs h e = line-yes b bs e
-first-plain (x ∷ xs) b bs h e = line-no x (xs ++ b ∷ bs) (h .0) ∙ ap (λ (l : List ℕ). x ∷ l) (first-plain xs b bs (h .1) e)
-
-others-plain : (p : List ℕ) (b : ℕ) (bs : List ℕ) → Plain p → eqb b newline ≡ true → otherLines (p ++ b ∷ bs) ≡ bs
-others-plain [] b bs h e = others-yes b bs e
-others-plain (x ∷ xs) b bs h e = others-no x (xs ++ b ∷ bs) (h .0) ∙ others-plain xs b bs (h .1) e
-
-first-last : (p : List ℕ) → Plain p → firstLine p ≡ p
-first-last [] h = line-none
-first-last (x ∷ xs) h = line-no x xs (h .0) ∙ ap (λ (l : List ℕ). x ∷ l) (first-last xs (h .1))
-
-others-last : (p : List ℕ) → Plain p → otherLines p ≡ []
-unfolding otherLines
-others-last [] h = refl
-others-last (x ∷ xs) h = others-no x xs (h .0) ∙ others-last xs (h .1)
 
 -- ── the sheet's lines, one at a time ──
 lines-none : (n : ℕ) (k : Desk) → linesOutput n [] k ≡ []

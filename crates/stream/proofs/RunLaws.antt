@@ -19,7 +19,7 @@ use Rattle.sheet.specs.Sheets.{Desk, lineEffect, afterLine, printed, lineOutput
 use Rattle.desk.specs.declared.Request.{Request}
 use Rattle.desk.specs.Acts.{callOf, asksScan, acted, kept}
 use Rattle.desk.proofs.ActLaws.{acted-is, kept-is, acted-tested}
-use Rattle.sheet.specs.Words.{newline}
+use Rattle.lines.specs.Lines.{newline}
 use Rattle.stream.specs.Streams.{byteOutput, bytesOutput, lastLine, endOutput}
 use Rattle.stream.specs.Parts.{deskOf, streamOf}
 

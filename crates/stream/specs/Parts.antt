@@ -1,11 +1,11 @@
 -- The stream as the code holds it, and what its smaller functions come to.
 use Prim.Native.Nat.{ℕ}
-use mathlib.Core.List.{List, [], _∷_}
+use mathlib.Core.List.{List}
 use lib.ListN.{take}
 use Rattle.model.specs.declared.Station.{Station}
 use Rattle.model.specs.Listed.{listed}
 use Rattle.sheet.specs.Sheets.{Desk}
-use Rattle.stream.specs.Streams.{Stream, joined}
+use Rattle.stream.specs.Streams.{Stream}
 
 unfoldable pub deskOf : Station → List ℕ → ℕ → Desk
 deskOf station store number = record { station = listed station; store = store; line = number }
@@ -13,8 +13,3 @@ deskOf station store number = record { station = listed station; store = store; 
 -- the line is the first len bytes of the part that is kept
 unfoldable pub streamOf : Station → List ℕ → ℕ → List ℕ → ℕ → Stream
 streamOf station store number part len = record { desk = deskOf station store number; line = take len part }
-
--- a line with more bytes joined to it
-unfoldable pub joinedWith : List ℕ → List ℕ → List ℕ
-joinedWith l [] = l
-joinedWith l (b ∷ bs) = joinedWith (joined l b) bs

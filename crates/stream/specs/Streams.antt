@@ -1,11 +1,11 @@
 -- 01 'The run sheet', as the program meets it: the input comes in reads, cut anywhere, and the output is made piece by piece.
-use Prim.Native.Nat.{ℕ, _+_}
+use Prim.Native.Nat.{ℕ}
 use mathlib.Core.Bool.{cond}
 use mathlib.Core.List.{List, [], _∷_, _++_}
 use lib.Dec.{eqb}
-use lib.ListN.{take}
-use Rattle.sheet.specs.Words.{newline, header}
-use Rattle.sheet.specs.Lines.{lineLimit}
+use Rattle.lines.specs.Kept.{joined}
+use Rattle.lines.specs.Lines.{newline}
+use Rattle.sheet.specs.Words.{header}
 use Rattle.sheet.specs.Sheets.{Desk, newDesk, afterLine, lineOutput}
 
 -- the desk in the middle of a line, with the bytes of that line so far
@@ -15,13 +15,6 @@ pub record Stream : Type 0 where
 
 unfoldable pub newStream : Stream
 newStream = record { desk = newDesk; line = [] }
-
--- "A line has at most 64 bytes before its newline .. A longer .. line is one refused line": of a longer one 65 bytes are kept
-abbrev pub keptBytes : ℕ
-keptBytes = lineLimit + 1
-
-unfoldable pub joined : List ℕ → ℕ → List ℕ
-joined l b = take keptBytes (l ++ (b ∷ []))
 
 -- ── one byte: a newline runs the line and begins the next, any other byte joins the line ──
 unfoldable pub afterByte : ℕ → Stream → Stream

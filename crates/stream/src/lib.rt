@@ -5,6 +5,7 @@ use calls::Station;
 use desk::Request;
 use desk::act;
 use desk::tested_after;
+use lines::fill;
 use sheet::parse_line;
 use sheet::print_line;
 use soundness::is_sound;
@@ -13,13 +14,12 @@ ghost use Prim.Native.Nat.{_+_, _*_, _^_, _≤_, _<_};
 ghost use lib.ListN.{length, take, drop};
 ghost use Rattle.model.specs.Listed.{listed, listedOutcome};
 ghost use Rattle.model.specs.Sound.{sound};
-ghost use Rattle.sheet.specs.Sheets.{firstLine, afterLine, lineOutput};
+ghost use Rattle.lines.specs.Lines.{firstLine};
+ghost use Rattle.lines.specs.Kept.{joined, joinedWith};
+ghost use Rattle.sheet.specs.Sheets.{afterLine, lineOutput};
 ghost use Rattle.desk.specs.Acts.{acted, kept};
-ghost use Rattle.stream.specs.Streams.{joined, afterBytes, bytesOutput, endOutput};
-ghost use Rattle.stream.specs.Parts.{deskOf, streamOf, joinedWith};
-
-// The bytes that are kept of a line: one more than a line may have, which tells a longer one.
-const KEPT: usize = 65;
+ghost use Rattle.stream.specs.Streams.{afterBytes, bytesOutput, endOutput};
+ghost use Rattle.stream.specs.Parts.{deskOf, streamOf};
 
 // The station after a line, what the soundness test says of it, and the bytes of the line's output.
 struct Ran {
@@ -28,48 +28,12 @@ struct Ran {
     pub used: usize,
 }
 
-// How many bytes are kept of the line, and where its bytes in the block end.
-struct Filled {
-    pub len: usize,
-    pub end: usize,
-}
-
 // The station after a block, the bytes kept of the line that has begun, the next line's number, and the bytes of output.
 pub struct Fed {
     pub station: Station,
     pub len: usize,
     pub number: u64,
     pub used: usize,
-}
-
-// A byte joins the line; how many bytes are then kept.
-fn join(part: &mut [u8], len: usize, byte: u8) -> usize
-    requires { ⌜ (length (now part) ≡ 65) × (len ≤ 65) ⌝ }
-    ensures { λ r. ⌜ (r ≤ 65) × (take r (now (part .exit)) ≡ joined (take len (now (part .entry))) byte) ⌝ }
-{
-    if len >= KEPT {
-        return len;
-    }
-    part[len] = byte;
-    len + 1
-}
-
-// The bytes of a block from a place up to a newline, or to the block's end, join the line.
-fn fill(part: &mut [u8], len: usize, input: &[u8], start: usize) -> Filled
-    requires { ⌜ (length (now part) ≡ 65) × (len ≤ 65) × (start ≤ length (now input)) ⌝ }
-    ensures { λ r. ⌜ (r .len ≤ 65) × (r .end ≡ start + length (firstLine (drop start (now (input .entry))))) × (take (r .len) (now (part .exit)) ≡ joinedWith (take len (now (part .entry))) (firstLine (drop start (now (input .entry))))) ⌝ }
-{
-    let mut n = len;
-    let mut i = start;
-    while i < input.len() {
-        let b = input[i];
-        if b == b'\n' {
-            return Filled { len: n, end: i };
-        }
-        n = join(part, n, b);
-        i += 1;
-    }
-    Filled { len: n, end: i }
 }
 
 // The one call that is lent the station: it writes the new one over it.

@@ -5,7 +5,7 @@ use borrow.Author.Needs.{needs}
 use native.Mathlib.Omega.{arith}
 use Rattle.model.specs.Limits.{byteRange}
 use Rattle.decimal.specs.Fields.{field}
-use Rattle.sheet.specs.Words.{comma}
+use Rattle.lines.specs.Lines.{comma}
 use Rattle.sheet.specs.Commands.{commandOf}
 use Rattle.sheet.specs.Parts.{verbOf}
 use Rattle.decimal.proofs.ReadLaws.{unread, read-below, read-as}

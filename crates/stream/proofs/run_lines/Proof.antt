@@ -9,11 +9,12 @@ use borrow.Rule.Slice.PartMut.{same-len-mid}
 use native.Mathlib.Omega.{arith}
 use Rattle.model.specs.Listed.{listed}
 use Rattle.model.specs.Sound.{sound}
-use Rattle.sheet.specs.Words.{newline}
+use Rattle.lines.specs.Lines.{newline}
 use Rattle.stream.specs.Streams.{afterBytes, bytesOutput}
 use Rattle.stream.specs.Parts.{streamOf}
-use Rattle.stream.proofs.JoinLaws.{line-within}
-use Rattle.stream.proofs.BlockLaws.{Passed, stops, passed-none, passed-all, passed-fill, passed-line, first-fill}
+use Rattle.lines.proofs.JoinLaws.{line-within}
+use Rattle.lines.proofs.StopLaws.{stops}
+use Rattle.stream.proofs.BlockLaws.{Passed, passed-none, passed-all, passed-fill, passed-line, first-fill}
 use Rattle.stream.proofs.run_lines.Statement.{statement}
 use Rattle.stream.proofs.run_lines.Tie as tie
 

@@ -1,9 +1,9 @@
--- `stream::join` meets its contract.
+-- `lines::join` meets its contract.
 use borrow.Author.Needs.{needs}
 use native.Mathlib.Omega.{arith}
-use Rattle.stream.proofs.JoinLaws.{joined-full, joined-more}
-use Rattle.stream.proofs.join.Statement.{statement}
-use Rattle.stream.proofs.join.Tie as tie
+use Rattle.lines.proofs.JoinLaws.{joined-full, joined-more}
+use Rattle.lines.proofs.join.Statement.{statement}
+use Rattle.lines.proofs.join.Tie as tie
 
 returns : tie.Need-returns
 returns c =

@@ -8,7 +8,7 @@ use lib.Dec.{eqb}
 use lib.ListN.{length, drop, getD, drop-of-length-le}
 use borrow.Author.Tests.{eq-eqb, ne-eqb}
 use Rattle.model.specs.Lists.{same}
-use Rattle.decimal.proofs.FieldLaws.{rest-next}
+use Rattle.lines.proofs.JoinLaws.{rest-next}
 
 same-yes : (x y : ℕ) (xs ys : List ℕ) → eqb x y ≡ true → same (x ∷ xs) (y ∷ ys) ≡ same xs ys
 unfolding same

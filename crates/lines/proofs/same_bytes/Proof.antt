@@ -1,13 +1,13 @@
--- `sheet::same_bytes` meets its contract.
+-- `lines::same_bytes` meets its contract.
 use Prim.Native.Nat.{_-_, _≤_}
 use mathlib.Core.Path.{_≡_, refl, sym, _∙_}
 use lib.ListN.{length, drop}
 use borrow.Author.Needs.{needs}
 use native.Mathlib.Omega.{arith}
 use Rattle.model.specs.Lists.{same}
-use Rattle.sheet.proofs.SameLaws.{same-long, same-next, same-not, same-end}
-use Rattle.sheet.proofs.same_bytes.Statement.{statement}
-use Rattle.sheet.proofs.same_bytes.Tie as tie
+use Rattle.lines.proofs.SameLaws.{same-long, same-next, same-not, same-end}
+use Rattle.lines.proofs.same_bytes.Statement.{statement}
+use Rattle.lines.proofs.same_bytes.Tie as tie
 
 abbrev Inv-loop : tie.InvT-loop
 Inv-loop a b i₀ i = (i ≤ length a) × (length a ≡ length b) × (same a b ≡ same (drop i a) (drop i b))

@@ -10,10 +10,8 @@ use lib.Seq.{take-all, drop-cons, take-append-le, take-suc-set, length-take-le}
 use native.Mathlib.Omega.{arith}
 use native.Mathlib.Numerals.{add-one}
 use borrow.Author.Tests.{eq-eqb, ne-eqb}
-use Rattle.sheet.specs.Words.{newline}
-use Rattle.sheet.specs.Sheets.{firstLine}
-use Rattle.stream.specs.Streams.{joined}
-use Rattle.stream.specs.Parts.{joinedWith}
+use Rattle.lines.specs.Lines.{firstLine, newline}
+use Rattle.lines.specs.Kept.{joined, joinedWith}
 
 -- ── one byte ──
 pub joined-full : (p : List ℕ) (n b : ℕ) → length p ≡ 65 → n ≤ 65 → 65 ≤ n → take n p ≡ joined (take n p) b

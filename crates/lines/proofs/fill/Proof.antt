@@ -1,14 +1,14 @@
--- `stream::fill` meets its contract.
+-- `lines::fill` meets its contract.
 use Prim.Native.Nat.{_+_, _-_, _≤_}
 use mathlib.Core.Path.{_≡_, refl, _∙_}
 use lib.ListN.{length, take, drop}
 use borrow.Author.Needs.{needs}
 use native.Mathlib.Omega.{arith}
-use Rattle.sheet.specs.Sheets.{firstLine}
-use Rattle.stream.specs.Parts.{joinedWith}
-use Rattle.stream.proofs.JoinLaws.{Left, left-more, left-none, line-here, line-end}
-use Rattle.stream.proofs.fill.Statement.{statement}
-use Rattle.stream.proofs.fill.Tie as tie
+use Rattle.lines.specs.Lines.{firstLine}
+use Rattle.lines.specs.Kept.{joinedWith}
+use Rattle.lines.proofs.JoinLaws.{Left, left-more, left-none, line-here, line-end}
+use Rattle.lines.proofs.fill.Statement.{statement}
+use Rattle.lines.proofs.fill.Tie as tie
 
 abbrev Inv-loop : tie.InvT-loop
 Inv-loop part₀ len input start n₀ i₀ part n i =

@@ -1,0 +1,4 @@
+pub mod SameLaws
+pub mod JoinLaws
+pub mod PlainLaws
+pub mod StopLaws
