@@ -5,6 +5,7 @@ use mathlib.Core.Bool.{true, false}
 use mathlib.Core.List.{List, [], _∷_, _++_}
 use lib.Dec.{eqb}
 use lib.ListN.{take}
+use Rattle.model.specs.Ranges.{Every}
 use Rattle.lines.specs.Lines.{newline, firstLine, otherLines}
 use Rattle.lines.specs.Kept.{joined}
 use Rattle.lines.proofs.JoinLaws.{line-none, line-yes, line-no}
@@ -21,8 +22,7 @@ kept-joined l b = taken-joined 65 l b
 
 -- ── bytes without a newline ──
 abbrev pub Plain : List ℕ → Type 0
-Plain [] = Unit {0}
-Plain (b ∷ bs) = (eqb b newline ≡ false) × Plain bs
+Plain bs = Every (λ b. eqb b newline ≡ false) bs
 
 pub plain-joined : (p : List ℕ) (b : ℕ) → Plain p → eqb b newline ≡ false → Plain (p ++ (b ∷ []))
 plain-joined [] b h e = (e, tt)

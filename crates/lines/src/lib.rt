@@ -32,6 +32,21 @@ pub fn same_bytes(a: &[u8], b: &[u8]) -> bool
     true
 }
 
+// The place of the first newline from a place on; the length where there is none.
+pub fn line_end(input: &[u8], start: usize) -> usize
+    requires { ⌜ start ≤ length (now input) ⌝ }
+    ensures { λ r. ⌜ r ≡ start + length (firstLine (drop start (now (input .entry)))) ⌝ }
+{
+    let mut i = start;
+    while i < input.len() {
+        if input[i] == b'\n' {
+            return i;
+        }
+        i += 1;
+    }
+    i
+}
+
 // A byte joins the line; how many bytes are then kept.
 fn join(part: &mut [u8], len: usize, byte: u8) -> usize
     requires { ⌜ (length (now part) ≡ 65) × (len ≤ 65) ⌝ }

@@ -1,0 +1,4 @@
+pub mod LineLaws
+pub mod LineRanges
+pub mod EndedLaws
+pub mod WrittenLaws
