@@ -2,3 +2,12 @@ pub mod LineLaws
 pub mod LineRanges
 pub mod EndedLaws
 pub mod WrittenLaws
+pub mod PrintedLaws
+pub mod GatheredLaws
+pub mod FineLaws
+pub mod FirstBad
+pub mod CleanLines
+pub mod CleanMeans
+pub mod VerdictTable
+pub mod BadTable
+pub mod LimitTable

@@ -44,6 +44,11 @@ unfoldable pub AllFine : List Line → Type 0
 AllFine [] = Unit {0}
 AllFine (l ∷ ls) = (findingOf ls l ≡ Fine) × AllFine ls
 
+-- lines from the first to the last, put below those of ls: the last first
+unfoldable pub onto : List Line → List Line → List Line
+onto ls [] = ls
+onto ls (x ∷ xs) = onto (x ∷ ls) xs
+
 -- what holds of all the lines of a clean log, the last first ──
 pub record CleanLog (ls : List Line) : Type 0 where
   -- each read is of a transaction that committed above it, under that id, and wrote the key; and the reader did not write the key before

@@ -2,12 +2,17 @@
 use decimal::Number;
 use decimal::field_end;
 use decimal::number_in;
+use decimal::write_bytes;
+use decimal::write_number;
 use lines::same_bytes;
 use model::Id;
 ghost use mathlib.Core.Path.{_≡_};
+ghost use Prim.Native.Nat.{_≤_};
 ghost use mathlib.Core.Option.{some};
+ghost use lib.ListN.{length, take};
 ghost use Rattle.log.specs.Lines.{kindIn, ofFields, second, third, fourth, fifth, lineIn};
 ghost use Rattle.log.specs.Parts.{kindOf, parsedOf};
+ghost use Rattle.log.specs.Printed.{verdictPrinted};
 
 // The bytes of a line, at most.
 const LINE: usize = 64;
@@ -177,4 +182,25 @@ pub fn parse_log_line(line: &[u8]) -> Parsed
         return Parsed::Malformed;
     }
     after_kind(kind_in(&line[..at]), &line[at + 1..])
+}
+
+// A verdict's line; how many bytes it has.
+pub fn print_verdict(out: &mut [u8], verdict: Verdict) -> usize
+    requires { ⌜ 64 ≤ length (now out) ⌝ }
+    ensures { λ n. ⌜ (n ≤ 64) × (take n (now (out .exit)) ≡ verdictPrinted verdict) × (length (now (out .exit)) ≡ length (now (out .entry))) ⌝ }
+{
+    match verdict {
+        Verdict::Clean => {
+            return write_bytes(out, 0, b"clean\n");
+        }
+        Verdict::Bad(n) => {
+            let line = write_bytes(out, 0, b"bad,");
+            return write_number(out, line, n, b'\n');
+        }
+        Verdict::Refused(c, n) => {
+            let row = write_bytes(out, 0, b"refused,");
+            let line = write_number(out, row, c as u64, b',');
+            return write_number(out, line, n, b'\n');
+        }
+    }
 }

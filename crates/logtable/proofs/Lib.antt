@@ -1,0 +1,5 @@
+pub mod SeatLaws
+pub mod KeyLaws
+pub mod ReadSteps
+pub mod ClashRows
+pub mod FoundLaws

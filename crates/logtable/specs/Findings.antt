@@ -9,7 +9,7 @@ use Rattle.model.specs.Ids.{older}
 use Rattle.model.specs.KeySets.{keySet}
 use Rattle.log.specs.declared.Finding.{Finding}
 use Rattle.log.specs.declared.Finding.the-variants.{Fine, Over, Bad}
-use Rattle.logtable.specs.Tables.{places, txnAt, clockAt, writtenAt, readAt, readsAt, keyOf, authorOf, idAt}
+use Rattle.logtable.specs.Tables.{places, clockAt, writtenAt, readAt, readsAt, keyOf, authorOf, idAt}
 
 -- a key that is not in a set which has so many
 unfoldable pub fullFor : ℕ → ℕ → ℕ → Bool

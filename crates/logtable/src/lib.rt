@@ -6,12 +6,12 @@ use keysets::with_key;
 use log::Finding;
 use model::Id;
 ghost use mathlib.Core.Path.{_≡_};
-ghost use mathlib.Core.Bool.{cond};
 ghost use Prim.Native.Nat.{_<_};
 ghost use lib.ListN.{length};
 ghost use Rattle.model.specs.Limits.{keys};
-ghost use Rattle.log.specs.declared.Finding.the-variants.{Fine};
-ghost use Rattle.logtable.specs.Tables.{tableSize, places, placeOf, seatOf, keyOf, authorOf, afterWrite, afterCommit, afterRead, readCount};
+ghost use Rattle.model.specs.Lists.{_and_, member};
+ghost use Rattle.model.specs.KeySets.{keySet};
+ghost use Rattle.logtable.specs.Tables.{tableSize, places, placeOf, seatOf, writtenAt, keyOf, authorOf, afterWrite, afterCommit, afterRead, readCount};
 ghost use Rattle.logtable.specs.Findings.{fullFor, olderAt, clash, clashes, isUnknown, writeFound, commitFound, readFound};
 ghost use Rattle.logtable.specs.Parts.{ifFine};
 
@@ -149,6 +149,17 @@ fn older_at(table: &[u64], a: usize, b: usize) -> bool
     table[a] < table[b]
 }
 
+// The first place wrote the key, and the id of the second is older.
+fn overwrites(table: &[u64], place: usize, key: u8, other: usize) -> bool
+    requires { ⌜ (length (now table) ≡ tableSize) × (place < places) × (other < places) ⌝ }
+    ensures { λ r. ⌜ r ≡ (member key (keySet (writtenAt (now (table .entry)) place)) and olderAt (now (table .entry)) other place) ⌝ }
+{
+    if !has_key(table[WRITTEN + place], key) {
+        return false;
+    }
+    older_at(table, other, place)
+}
+
 // An earlier read, of the key and the author that the word says, does not stand together with one of this key and author.
 fn clash(table: &[u64], key: u8, author: usize, word: u64) -> bool
     requires { ⌜ (length (now table) ≡ tableSize) × (key < keys) × (author < places) ⌝ }
@@ -157,19 +168,12 @@ fn clash(table: &[u64], key: u8, author: usize, word: u64) -> bool
     let other_key = (word % 64) as u8;
     let other = (word / 64 % 64) as usize;
     if other_key == key {
-        if other != author {
-            return true;
-        }
+        return other != author;
     }
-    if has_key(table[WRITTEN + author], other_key) {
-        if older_at(table, other, author) {
-            return true;
-        }
+    if overwrites(table, author, other_key, other) {
+        return true;
     }
-    if !has_key(table[WRITTEN + other], key) {
-        return false;
-    }
-    older_at(table, author, other)
+    overwrites(table, other, key, author)
 }
 
 // How many reads a place has, 16 at most.
