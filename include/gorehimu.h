@@ -129,13 +129,16 @@ enum gorehimu_kind {
     GOREHIMU_DROPPED = 12,  /* abort */
     GOREHIMU_COLLECTED = 13,/* collect: b and c the clock and the transaction whose entry is gone */
     GOREHIMU_FOUND = 14,    /* scan: a how many transactions the store holds */
-    GOREHIMU_REFUSED = 15,  /* a the number below, b the slot with 18. Store and station are as they were; after a scan the station is empty */
+    GOREHIMU_REFUSED = 15,  /* a the number below, b the slot with 18, the line of a log. Store and station are as they were; after a scan the station is
+                             * empty */
     GOREHIMU_SWEPT = 16,    /* sweep: a how many entries are gone, the limit or fewer: no other may be collected, or the commit record of the next
                              * is not the station's (a collect of it is refused with 17) */
-    GOREHIMU_MOVED = 17     /* a move: a how many committed slots of the source are in the target */
+    GOREHIMU_MOVED = 17,    /* a move: a how many committed slots of the source are in the target */
+    GOREHIMU_CLEAN = 18,    /* a log: no line is bad */
+    GOREHIMU_BAD = 19       /* a log: a its first bad line, counted from 1 */
 };
 
-/* Why a request or a move is refused. 19 comes before all others; of the rest, where several apply, the lowest. */
+/* Why a request, a move or a line of a log is refused. 19 comes before all others; of the rest, where several apply, the lowest. */
 enum gorehimu_refusal {
     GOREHIMU_STORE_LENGTH = 1,      /* get, step, collect, sweep, scan: the store has not the bytes of the image's kind, GOREHIMU_STORE or
                                      * GOREHIMU_WIDE_STORE; moves: one of the two stores has not those of its kind */
@@ -157,11 +160,13 @@ enum gorehimu_refusal {
     GOREHIMU_RECORD_CHANGED = 17,   /* get, collect: the record in the store is not the station's: the store was changed from outside */
     GOREHIMU_DAMAGED = 18,          /* scan, and a move of its source: slot b, and none below it, breaks the format's rules or has the transaction of a
                                      * lower slot. A commit record of the other kind breaks them */
-    GOREHIMU_MALFORMED = 19,        /* no request: an unknown verb, or a byte that must be 0 is not */
+    GOREHIMU_MALFORMED = 19,        /* no request: an unknown verb, or a byte that must be 0 is not; a log: a line is not of the form, or a field not in
+                                     * its range */
     GOREHIMU_LIMIT_RANGE = 20,      /* sweep: the limit is 0 or above 64, of either kind */
     GOREHIMU_NO_CLOCK = 21,         /* commit: the write set is not empty, and an entry or closing transaction has the last clock, 2^64 - 1: none is left */
     GOREHIMU_TOO_MANY_SLOTS = 22,   /* move out: more than 32 slots are committed: collect some, or sweep, and move then */
     GOREHIMU_TOO_MANY_KEYS = 23     /* move back: a write set has more than 8 keys: put them anew in smaller transactions, collect it, and move then */
+    GOREHIMU_LOG_LIMITS = 28        /* a log: a 65th ticket that writes or reads, a 9th key written or a 17th key read by one ticket */
 };
 
 /* Each function returns 0; or 1, with nothing written, where a length is wrong: image_len must be GOREHIMU_IMAGE, a request
@@ -197,6 +202,23 @@ uint32_t gorehimu_run(uint8_t *image, size_t image_len, uint8_t *store, size_t s
  * answer_len is wrong, and only there. */
 uint32_t gorehimu_move_out(const uint8_t *narrow, size_t narrow_len, uint8_t *wide, size_t wide_len, uint8_t *answer, size_t answer_len);
 uint32_t gorehimu_move_back(const uint8_t *wide, size_t wide_len, uint8_t *narrow, size_t narrow_len, uint8_t *answer, size_t answer_len);
+
+/* The verdict on another shop's log: whether its readers saw read atomic isolation. It needs no image and no store. The log is lines of text, each
+ * ended by a newline, which the last may lack, of at most 64 bytes, five fields parted by commas: kind,ticket,key,clock,author.
+ *
+ *   write,5,2,0,0       ticket 5 writes key 2
+ *   commit,5,0,100,0    ticket 5 commits, with clock 100
+ *   read,6,2,100,5      ticket 6 reads key 2, in the version of clock 100 by ticket 5
+ *
+ * Numbers are decimal without needless zeros: tickets 1 to 2^32 - 1, keys 0 to 63, clocks 1 to 2^64 - 1; fields that a kind does not name are 0.
+ *
+ * Lines go in turn, and the first that is refused or bad is the whole answer: clean; bad, the line in a; or refused with 19 or 28 in a and the line in
+ * b. On one line 19 comes before 28, and 28 before bad. Bad is a write, a read or a second commit by a committed ticket; a commit with no write; and a
+ * read whose author has no commit line above with that clock or wrote not the key above, whose reader wrote the key above, that breaks the reader's
+ * Atomic Readset (of two versions read, the older is of a key that the newer one's ticket wrote too), or that takes a key at a second version.
+ *
+ * A log of no bytes is clean. It returns 1 where answer_len is wrong, and only there. */
+uint32_t gorehimu_check_log(const uint8_t *log, size_t log_len, uint8_t *answer, size_t answer_len);
 
 /* ---- the bytes of a request, of an answer and of a store, for C ----
  *
@@ -234,6 +256,13 @@ static inline uint32_t gorehimu_write_request(uint8_t *p, uint64_t verb, uint64_
 static inline struct gorehimu_answer gorehimu_read_answer(const uint8_t *p) {
     struct gorehimu_answer a = {gorehimu_number(p, 8), gorehimu_number(p + 8, 8), gorehimu_number(p + 16, 8), gorehimu_number(p + 24, 8)};
     return a;
+}
+
+/* The verdict on a log of so many bytes. */
+static inline struct gorehimu_answer gorehimu_log_verdict(const void *log, size_t log_len) {
+    uint8_t answer[GOREHIMU_ANSWER];
+    gorehimu_check_log((const uint8_t *)log, log_len, answer, sizeof answer);
+    return gorehimu_read_answer(answer);
 }
 
 /* One request over a store of so many bytes and an image of its length. Where gorehimu_write_request refuses its fields, the answer is refused with

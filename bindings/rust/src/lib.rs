@@ -19,8 +19,14 @@
 //!
 //! A [`Desk`] has a narrow store, of 64 slots, and a transaction writes at most 8 keys; a [`WideDesk`] has a wide one, of 32 slots and 13,056 bytes, and a
 //! transaction writes at most 16. [`WideDesk::moved_from`] and [`Desk::moved_from`] go from one to the other.
+//!
+//! [`check_log`] judges another shop's log by the same rule that this store keeps.
 
 #![warn(missing_docs)]
+
+mod log;
+
+pub use log::{check_log, Verdict};
 
 /// The bytes of a store, a narrow one: 64 slots of 9 records.
 pub const STORE: usize = 13824;
@@ -117,6 +123,7 @@ mod raw {
             answer: *mut u8,
             answer_len: usize,
         ) -> u32;
+        pub fn gorehimu_check_log(log: *const u8, log_len: usize, answer: *mut u8, answer_len: usize) -> u32;
     }
 
     pub type Move = unsafe extern "C" fn(*const u8, usize, *mut u8, usize, *mut u8, usize) -> u32;

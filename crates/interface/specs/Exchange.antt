@@ -80,8 +80,11 @@ answerKind (A.Refused n d) = 15
 answerKind (A.Swept n) = 16
 answerKind (A.Moved n) = 17
 
+unfoldable pub fourBytes : ℕ → ℕ → ℕ → ℕ → List ℕ
+fourBytes kind a b c = bytes 8 kind ++ (bytes 8 a ++ (bytes 8 b ++ bytes 8 c))
+
 unfoldable pub answerBytes : Answer → List ℕ
-answerBytes x = bytes 8 (answerKind x) ++ (bytes 8 (valuesOf x .a) ++ (bytes 8 (valuesOf x .b) ++ bytes 8 (valuesOf x .c)))
+answerBytes x = fourBytes (answerKind x) (valuesOf x .a) (valuesOf x .b) (valuesOf x .c)
 
 -- ── between two requests: the station with whether the image is to be its own, and the store ──
 pub record Held : Type 0 where

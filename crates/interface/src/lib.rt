@@ -10,6 +10,8 @@ use desk::decide;
 use image::IMAGE;
 use image::read_image;
 use image::write_image;
+use log::Verdict;
+use logcheck::check_log;
 use model::empty_of;
 use moving::move_between;
 use records::id_in;
@@ -38,15 +40,24 @@ ghost use Rattle.model.specs.Scan.{scan};
 ghost use Rattle.model.specs.Moves.{move, moveOut, moveBack};
 ghost use Rattle.sheet.specs.Commands.{commandOf};
 ghost use Rattle.sheet.specs.Parts.{verbOf};
+ghost use Rattle.log.specs.Logs.{verdictOf};
 ghost use Rattle.image.specs.Layout.{imageSize};
 ghost use Rattle.image.specs.Images.{stationIn, isImage};
-ghost use Rattle.interface.specs.Exchange.{requestSize, answerSize, verbNumbered, requestCall, answerKind, answerBytes, unsoundStation, heldIn, requestEffect, afterRequest, afterRequests, answersTo, imageOf, imageAfter, requestsIn, afterRun, answersIn, fits, fitsOne};
+ghost use Rattle.interface.specs.Exchange.{requestSize, answerSize, verbNumbered, requestCall, answerKind, fourBytes, answerBytes, unsoundStation, heldIn, requestEffect, afterRequest, afterRequests, answersTo, imageOf, imageAfter, requestsIn, afterRun, answersIn, fits, fitsOne};
+ghost use Rattle.interface.specs.Verdicts.{verdictBytes};
 ghost use Rattle.interface.specs.Parts.{heldOf};
 
 // The bytes of a request and of an answer.
 const REQUEST: usize = 16;
 
 const ANSWER: usize = 32;
+
+// The kinds of a log's answers.
+const REFUSED: u64 = 15;
+
+const CLEAN: u64 = 18;
+
+const BAD: u64 = 19;
 
 // The verb that a sheet has not.
 const SWEEP: u8 = 9;
@@ -133,6 +144,17 @@ fn answer_kind(answer: Answer) -> u64
     }
 }
 
+// An answer's four numbers over the part lent.
+fn write_four(out: &mut [u8], kind: u64, a: u64, b: u64, c: u64)
+    requires { ⌜ length (now out) ≡ answerSize ⌝ }
+    ensures { λ _. ⌜ now (out .exit) ≡ fourBytes kind a b c ⌝ }
+{
+    write_number(&mut out[0..8], kind);
+    write_number(&mut out[8..16], a);
+    write_number(&mut out[16..24], b);
+    write_number(&mut out[24..32], c);
+}
+
 // An answer's bytes over the part lent.
 pub fn write_answer(out: &mut [u8], answer: Answer)
     requires { ⌜ length (now out) ≡ answerSize ⌝ }
@@ -140,10 +162,7 @@ pub fn write_answer(out: &mut [u8], answer: Answer)
 {
     let kind = answer_kind(answer);
     let v = values_in(answer);
-    write_number(&mut out[0..8], kind);
-    write_number(&mut out[8..16], v.a);
-    write_number(&mut out[16..24], v.b);
-    write_number(&mut out[24..32], v.c);
+    write_four(out, kind, v.a, v.b, v.c);
 }
 
 // A scan answered: the station is sound, and the image is to be its own.
@@ -445,4 +464,36 @@ pub extern "C" fn gorehimu_move_back(wide: &[u8], narrow: &mut [u8], answer: &mu
     ensures { λ _. ⌜ now (answer .exit) ≡ cond (eqb (length (now (answer .entry))) answerSize) (answerBytes (moveBack (now (wide .entry)) (now (narrow .entry)) .answer)) (now (answer .entry)) ⌝ }
 {
     answer_move(Kind::Wide, Kind::Narrow, wide, narrow, answer)
+}
+
+// A verdict's bytes over the part lent.
+fn write_verdict(out: &mut [u8], verdict: Verdict)
+    requires { ⌜ length (now out) ≡ answerSize ⌝ }
+    ensures { λ _. ⌜ now (out .exit) ≡ verdictBytes verdict ⌝ }
+{
+    match verdict {
+        Verdict::Clean => {
+            write_four(out, CLEAN, 0, 0, 0);
+        }
+        Verdict::Bad(n) => {
+            write_four(out, BAD, n, 0, 0);
+        }
+        Verdict::Refused(c, n) => {
+            write_four(out, REFUSED, c as u64, n, 0);
+        }
+    }
+}
+
+// The verdict on another shop's log: 0. Where the answer's length is wrong: 1, and nothing is written.
+#[no_mangle]
+pub extern "C" fn gorehimu_check_log(log: &[u8], answer: &mut [u8]) -> u32
+    ensures { λ r. ⌜ r ≡ cond (eqb (length (now (answer .entry))) answerSize) 0 1 ⌝ }
+    ensures { λ _. ⌜ now (answer .exit) ≡ cond (eqb (length (now (answer .entry))) answerSize) (verdictBytes (verdictOf (now (log .entry)))) (now (answer .entry)) ⌝ }
+{
+    if answer.len() != ANSWER {
+        return 1;
+    }
+    let verdict = check_log(log);
+    write_verdict(answer, verdict);
+    0
 }
