@@ -1,13 +1,12 @@
 -- A verdict's line, written part by part.
 use Prim.Native.Nat.{ℕ, _+_, _≤_}
-use mathlib.Core.Path.{_≡_, ap, _∙_}
+use mathlib.Core.Path.{_≡_, _∙_}
 use mathlib.Core.List.{List, [], _∷_, _++_, append-assoc}
 use lib.ListN.{length, take}
 use native.Mathlib.Omega.{arith}
 use Rattle.decimal.specs.Digits.{digits}
 use Rattle.decimal.specs.Written.{written}
 use Rattle.decimal.proofs.WrittenLaws.{Wrote, Field, wrote-field, wrote-more, wrote-all}
-use Rattle.log.specs.declared.Verdict.{Verdict}
 
 -- what a function that prints a line ensures
 abbrev pub Prints : List ℕ → List ℕ → ℕ → List ℕ → Type 0

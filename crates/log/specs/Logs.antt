@@ -1,9 +1,8 @@
 -- 02 §10: the verdict on a log, as a function of its bytes. "Answer clean, or the first bad line."
-use Prim.Native.Nat.{ℕ, zero, suc, _+_}
+use Prim.Native.Nat.{ℕ, _+_}
 use mathlib.Core.List.{List, [], _∷_, map}
 use mathlib.Core.Option.{Option, some, none}
-use lib.ListN.{length}
-use Rattle.lines.specs.Lines.{firstLine, otherLines, linesIn}
+use Rattle.lines.specs.Lines.{linesIn}
 use Rattle.log.specs.declared.Finding.{Finding}
 use Rattle.log.specs.declared.Finding.the-variants as F
 use Rattle.log.specs.declared.Verdict.{Verdict}

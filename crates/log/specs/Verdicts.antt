@@ -1,6 +1,6 @@
 -- 02 §10: what is wrong with a line, by the lines above it. "The verdict goes by the paper's definitions, not our search."
 use Prim.Native.Nat.{ℕ}
-use mathlib.Core.Bool.{Bool, true, false, not, cond}
+use mathlib.Core.Bool.{Bool, false, not, cond}
 use mathlib.Core.List.{List, [], _∷_, _++_, map}
 use lib.Dec.{eqb, leb}
 use lib.ListN.{length}

@@ -2,7 +2,6 @@
 use Prim.Native.Nat.{ℕ, _<_}
 use mathlib.Core.Logic.{_≢_}
 use mathlib.Core.List.{List, [], _∷_, _++_}
-use Rattle.model.specs.declared.Id.{Id}
 use Rattle.model.specs.Limits.{keys, txnRange, numberRange}
 use Rattle.decimal.specs.Digits.{digits}
 use Rattle.lines.specs.Lines.{comma, newline}

@@ -1,0 +1,9 @@
+pub mod Lines
+pub mod Agrees
+pub mod Findings
+pub mod Rows
+pub mod Counting
+pub mod Limits
+pub mod TransactionLines
+pub mod Answering
+pub mod OursClean

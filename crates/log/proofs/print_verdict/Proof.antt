@@ -1,6 +1,4 @@
 -- `log::print_verdict` meets its contract.
-use mathlib.Core.Path.{_≡_, ap, _∙_}
-use lib.ListN.{take, length}
 use borrow.Author.Needs.{needs}
 use native.Mathlib.Omega.{arith}
 use Rattle.log.specs.Printed.{verdictPrinted}
