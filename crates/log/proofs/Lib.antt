@@ -8,6 +8,6 @@ pub mod FineLaws
 pub mod FirstBad
 pub mod CleanLines
 pub mod CleanMeans
-pub mod VerdictTable
-pub mod BadTable
-pub mod LimitTable
+pub mod BenchLogs
+pub mod BenchBad
+pub mod BenchLimits

@@ -9,7 +9,7 @@ use Rattle.log.specs.declared.Verdict.the-variants.{Clean, Bad, Refused}
 use Rattle.log.specs.Lines.{Line, write, commit, read}
 use Rattle.log.specs.Verdicts.{findingOf}
 use Rattle.log.specs.Logs.{verdictFrom}
-use Rattle.log.proofs.BadTable.{Case, judged, expected, id}
+use Rattle.log.proofs.BenchBad.{Case, judged, expected, id}
 
 -- ticket t writes n keys from k on
 pub writing : ℕ → ℕ → ℕ → List Line
