@@ -4,6 +4,7 @@ pub mod EndedLaws
 pub mod WrittenLaws
 pub mod PrintedLaws
 pub mod GatheredLaws
+pub mod OnceLaws
 pub mod FineLaws
 pub mod FirstBad
 pub mod CleanLines

@@ -13,6 +13,7 @@ use Rattle.model.proofs.Tests.{same-test}
 use Rattle.model.proofs.ListLaws.{member-yes, member-no}
 use Rattle.log.specs.Verdicts.{once}
 use Rattle.log.proofs.GatheredLaws.{member-mem, mem-member}
+use Rattle.log.proofs.OnceLaws.{once-seen, once-new}
 
 -- all but n
 unfoldable others : ℕ → List ℕ → List ℕ
@@ -26,14 +27,6 @@ others-own n x xs e = rw e
 others-other : (n x : ℕ) (xs : List ℕ) → eqb n x ≡ false → others n (x ∷ xs) ≡ x ∷ others n xs
 unfolding others
 others-other n x xs e = rw e
-
-once-seen : (n : ℕ) (ns : List ℕ) → member n ns ≡ true → once (n ∷ ns) ≡ once ns
-unfolding once
-once-seen n ns h = rw h
-
-pub once-new : (n : ℕ) (ns : List ℕ) → member n ns ≡ false → length (once (n ∷ ns)) ≡ suc (length (once ns))
-unfolding once
-once-new n ns h = rw h
 
 others-mem : (n : ℕ) (ns : List ℕ) (m : ℕ) → List·Memᴰ m ns → m ≢ n → List·Memᴰ m (others n ns)
 unfolding others

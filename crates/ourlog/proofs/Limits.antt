@@ -18,7 +18,8 @@ use Rattle.log.proofs.GatheredLaws.{mem-gathered, gathered-mem, written-own, re
 use Rattle.ourlog.specs.OurLog.{KeepsLimits}
 use Rattle.ourlog.proofs.Lines.{NoneBad}
 use Rattle.ourlog.proofs.Findings.{refuted}
-use Rattle.ourlog.proofs.Counting.{once-new, once-most}
+use Rattle.log.proofs.OnceLaws.{once-new}
+use Rattle.ourlog.proofs.Counting.{once-most}
 
 -- one more of a part is not too many, where the whole is not
 within : (most n : ℕ) (ns ws : List ℕ) → ((m : ℕ) → List·Memᴰ m (n ∷ ns) → List·Memᴰ m ws) → length (once ws) ≤ most → oneTooMany most n ns ≡ false
