@@ -84,8 +84,9 @@ fn answer(ended: Ended) -> Stop {
     let Stop::Found = stop else {
         return stop;
     };
+    let verdict = ended.verdict;
     let mut out = [0u8; OUT];
-    let n = print_verdict(&mut out, ended.verdict);
+    let n = print_verdict(&mut out, verdict);
     if io::write_all(STDOUT_FILENO, &out[..n]) {
         return Stop::Found;
     }

@@ -10,7 +10,7 @@ use Rattle.model.specs.Bytes.{bytes, number, idIn}
 use Rattle.model.specs.Calls.{Put, Commit, Collect, Scan, Sweep}
 use Rattle.model.specs.Answers.{valuesOf}
 use Rattle.sheet.specs.Lines.{ifUnused, callIn, ofFields}
-use Rattle.interface.specs.Exchange.{verbNumbered, asked, requestCall, answerKind, answerBytes}
+use Rattle.interface.specs.Exchange.{verbNumbered, asked, requestCall, answerKind, fourBytes, answerBytes}
 
 -- verb, key, two zeros, transaction, number: both of them of two bytes
 abbrev pub request : ℕ → ℕ → ℕ → ℕ → List ℕ
@@ -56,14 +56,14 @@ key-unused = refl
 
 -- a version: kind 4, its value, its clock and its transaction; a damaged slot: kind 15, 18 and the slot
 pub version-answered : answerBytes (A.Version 300 (record { clock = 3; txn = 258 })) ≡ (4 ∷ replicate 7 0) ++ ((44 ∷ 1 ∷ replicate 6 0) ++ ((3 ∷ replicate 7 0) ++ (2 ∷ 1 ∷ replicate 6 0)))
-unfolding answerBytes answerKind valuesOf bytes
+unfolding answerBytes fourBytes answerKind valuesOf bytes
 version-answered = refl
 
 pub slot-answered : answerBytes (A.Refused 18 63) ≡ (15 ∷ replicate 7 0) ++ ((18 ∷ replicate 7 0) ++ ((63 ∷ replicate 7 0) ++ replicate 8 0))
-unfolding answerBytes answerKind valuesOf bytes
+unfolding answerBytes fourBytes answerKind valuesOf bytes
 slot-answered = refl
 
 -- a sweep of 40: kind 16 and the count
 pub sweep-answered : answerBytes (A.Swept 40) ≡ (16 ∷ replicate 7 0) ++ ((40 ∷ replicate 7 0) ++ (replicate 8 0 ++ replicate 8 0))
-unfolding answerBytes answerKind valuesOf bytes
+unfolding answerBytes fourBytes answerKind valuesOf bytes
 sweep-answered = refl

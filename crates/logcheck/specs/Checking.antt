@@ -42,6 +42,11 @@ unfoldable pub afterBytes : List ℕ → Checking → Checking
 afterBytes [] s = s
 afterBytes (b ∷ bs) s = afterBytes bs (byteChecked (s .verdict) b s)
 
+-- block after block, what is kept of each handed to the next
+unfoldable pub afterBlocks : List (List ℕ) → Checking → Checking
+afterBlocks [] s = s
+afterBlocks (r ∷ rs) s = afterBlocks rs (afterBytes r s)
+
 -- the end: "the last newline may be missing", so a line that has begun is checked
 unfoldable pub lastChecked : List ℕ → Checking → Verdict
 lastChecked [] s = Clean

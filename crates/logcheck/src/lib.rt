@@ -127,7 +127,7 @@ pub fn check_block(
             len: n,
         };
     }
-    let verdict = judge_line(table, &part[0..n], above + 1);
+    let verdict = judge_line(table, &part[..n], above + 1);
     let Verdict::Clean = verdict else {
         return Checked {
             verdict,
@@ -146,7 +146,7 @@ pub fn check_end(table: &mut [u64], part: &[u8], len: usize, above: u64) -> Verd
     if len == 0 {
         return Verdict::Clean;
     }
-    judge_line(table, &part[0..len], above + 1)
+    judge_line(table, &part[..len], above + 1)
 }
 
 // The verdict on a log, whatever its bytes are.
