@@ -34,7 +34,7 @@ static void reprint(uint64_t ticket, uint64_t clock) {
 
 static void told(const char *whose, const char *log, size_t len) {
     struct gorehimu_answer r = gorehimu_log_verdict(log, len);
-    printf("%s:\n%.*s", whose, (int)len, log);
+    printf("%s:\n%.*s%s", whose, (int)len, log, len > 0 && log[len - 1] == '\n' ? "" : "\n");
     if (r.kind == GOREHIMU_CLEAN) printf("clean\n");
     if (r.kind == GOREHIMU_BAD) printf("bad,%llu\n", (unsigned long long)r.a);
     if (r.kind == GOREHIMU_REFUSED) printf("refused,%llu,%llu\n", (unsigned long long)r.a, (unsigned long long)r.b);

@@ -165,7 +165,7 @@ enum gorehimu_refusal {
     GOREHIMU_LIMIT_RANGE = 20,      /* sweep: the limit is 0 or above 64, of either kind */
     GOREHIMU_NO_CLOCK = 21,         /* commit: the write set is not empty, and an entry or closing transaction has the last clock, 2^64 - 1: none is left */
     GOREHIMU_TOO_MANY_SLOTS = 22,   /* move out: more than 32 slots are committed: collect some, or sweep, and move then */
-    GOREHIMU_TOO_MANY_KEYS = 23     /* move back: a write set has more than 8 keys: put them anew in smaller transactions, collect it, and move then */
+    GOREHIMU_TOO_MANY_KEYS = 23,    /* move back: a write set has more than 8 keys: put them anew in smaller transactions, collect it, and move then */
     GOREHIMU_LOG_LIMITS = 28        /* a log: a 65th ticket that writes or reads, a 9th key written or a 17th key read by one ticket */
 };
 

@@ -32,7 +32,7 @@ impl Noting {
 }
 
 fn told(whose: &str, log: &str) {
-    println!("{whose}:\n{log}{}", check_log(log.as_bytes()));
+    println!("{whose}:\n{}\n{}", log.trim_end(), check_log(log.as_bytes()));
 }
 
 fn main() {
