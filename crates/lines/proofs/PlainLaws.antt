@@ -1,26 +1,13 @@
 -- Bytes without a newline: a line, with a newline after it or at the end.
-use Prim.Native.Nat.{ℕ, zero, suc}
+use Prim.Native.Nat.{ℕ}
 use mathlib.Core.Path.{_≡_, refl, ap, _∙_}
 use mathlib.Core.Bool.{true, false}
 use mathlib.Core.List.{List, [], _∷_, _++_}
 use lib.Dec.{eqb}
-use lib.ListN.{take}
 use Rattle.model.specs.Ranges.{Every}
 use Rattle.lines.specs.Lines.{newline, firstLine, otherLines}
-use Rattle.lines.specs.Kept.{joined}
 use Rattle.lines.proofs.JoinLaws.{line-none, line-yes, line-no}
 
--- a byte joins what is kept as it joins the whole
-taken-joined : (n : ℕ) (l : List ℕ) (b : ℕ) → take n (take n l ++ (b ∷ [])) ≡ take n (l ++ (b ∷ []))
-taken-joined zero l b = refl
-taken-joined (suc n) [] b = refl
-taken-joined (suc n) (x ∷ xs) b = ap (λ (l : List ℕ). x ∷ l) (taken-joined n xs b)
-
-pub kept-joined : (l : List ℕ) (b : ℕ) → joined (take 65 l) b ≡ take 65 (l ++ (b ∷ []))
-unfolding joined
-kept-joined l b = taken-joined 65 l b
-
--- ── bytes without a newline ──
 abbrev pub Plain : List ℕ → Type 0
 Plain bs = Every (λ b. eqb b newline ≡ false) bs
 

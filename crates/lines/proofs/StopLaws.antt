@@ -4,12 +4,21 @@ use mathlib.Core.Path.{_≡_, refl, sym, ap, _∙_}
 use mathlib.Core.Bool.{Bool, true, false}
 use mathlib.Core.List.{List, [], _∷_}
 use lib.Dec.{eqb}
-use lib.ListN.{length, drop, length-drop}
+use lib.ListN.{length, take, drop, length-drop}
 use lib.Seq.{drop-drop}
 use native.Mathlib.Omega.{arith}
 use borrow.Author.Tests.{eqb-true}
 use Rattle.lines.specs.Lines.{newline, firstLine}
-use Rattle.lines.proofs.JoinLaws.{line-yes, line-no}
+use Rattle.lines.proofs.JoinLaws.{line-none, line-yes, line-no}
+
+-- those before the first newline, as a part of all
+pub first-taken : (bs : List ℕ) → firstLine bs ≡ take (length (firstLine bs)) bs
+first-taken [] = rw line-none
+first-taken (b ∷ bs) = go (eqb b newline) refl (first-taken bs)
+  where
+    go : (t : Bool) → eqb b newline ≡ t → firstLine bs ≡ take (length (firstLine bs)) bs → firstLine (b ∷ bs) ≡ take (length (firstLine (b ∷ bs))) (b ∷ bs)
+    go true e ih = rw (line-yes b bs e)
+    go false e ih = rw (line-no b bs e) (ap (λ (l : List ℕ). b ∷ l) ih)
 
 -- a line that does not reach the block's end is ended by a newline
 line-stops : (bs : List ℕ) → length (firstLine bs) < length bs → drop (length (firstLine bs)) bs ≡ newline ∷ drop (suc (length (firstLine bs))) bs

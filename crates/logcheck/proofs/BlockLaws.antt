@@ -10,9 +10,10 @@ use Rattle.log.specs.declared.Verdict.the-variants.{Clean}
 use Rattle.lines.specs.Lines.{firstLine, newline}
 use Rattle.lines.specs.Kept.{joined, joinedWith}
 use Rattle.lines.proofs.JoinLaws.{line-none, line-yes, line-no}
-use Rattle.lines.proofs.StopLaws.{rest, stops}
+use Rattle.lines.proofs.KeptLaws.{kept-all}
+use Rattle.lines.proofs.StopLaws.{first-taken, rest, stops}
 use Rattle.logcheck.specs.Checking.{Checking, lineChecked, byteChecked, afterBytes}
-use Rattle.logcheck.proofs.KeptLaws.{kept-checked, kept-all}
+use Rattle.logcheck.proofs.KeptLaws.{kept-checked}
 
 abbrev pub at : List ℕ → ℕ → List ℕ → Checking
 at T n l = record { verdict = Clean; table = T; above = n; line = l }
@@ -42,15 +43,6 @@ line-after (b ∷ bs) T n l = go (eqb b newline) refl (line-after bs T n (joined
         → afterBytes (b ∷ bs) (at T n l) ≡ afterBytes (drop (length (firstLine (b ∷ bs))) (b ∷ bs)) (at T n (joinedWith l (firstLine (b ∷ bs))))
     go true e ih = rw (line-yes b bs e)
     go false e ih = rw (line-no b bs e) (ap (afterBytes bs) (byte-checked b T n l e) ∙ ih)
-
--- those before the first newline, as a part of all
-first-taken : (bs : List ℕ) → firstLine bs ≡ take (length (firstLine bs)) bs
-first-taken [] = rw line-none
-first-taken (b ∷ bs) = go (eqb b newline) refl (first-taken bs)
-  where
-    go : (t : Bool) → eqb b newline ≡ t → firstLine bs ≡ take (length (firstLine bs)) bs → firstLine (b ∷ bs) ≡ take (length (firstLine (b ∷ bs))) (b ∷ bs)
-    go true e ih = rw (line-yes b bs e)
-    go false e ih = rw (line-no b bs e) (ap (λ (l : List ℕ). b ∷ l) ih)
 
 -- ── the bytes of a line in a block, from a place up to their end ──
 module _ (input : List ℕ) (from end : ℕ) (e : end ≡ from + length (firstLine (drop from input))) (T : List ℕ) (n : ℕ) where

@@ -15,7 +15,8 @@ use Rattle.logtable.specs.Tables.{tableSize}
 use Rattle.logtable.specs.Holds.{Holds}
 use Rattle.logtable.proofs.HoldsNone.{holds-none}
 use Rattle.lines.specs.Lines.{newline, linesIn}
-use Rattle.lines.proofs.PlainLaws.{Plain, plain-joined, kept-joined, first-last, others-last}
+use Rattle.lines.proofs.KeptLaws.{kept-joined}
+use Rattle.lines.proofs.PlainLaws.{Plain, plain-joined, first-last, others-last}
 use Rattle.lines.proofs.LinesLaws.{lines-none, lines-more, lines-ended}
 use Rattle.logcheck.specs.Judged.{verdictBy, tableAfter}
 use Rattle.logcheck.specs.Checking.{Checking, newChecking, checkedWith, lineChecked, afterBytes, lastChecked, endVerdict, verdictAt, afterBlocks}

@@ -5,10 +5,8 @@ use mathlib.Core.Bool.{Bool, true, false}
 use mathlib.Core.List.{List, [], _∷_, _++_, append-nil, append-assoc, flatten}
 use mathlib.Core.Option.{none}
 use lib.Dec.{eqb}
-use lib.ListN.{length, take, replicate, length-append, length-take}
-use lib.Seq.{take-all}
+use lib.ListN.{length, take, replicate, length-append}
 use native.Mathlib.Omega.{arith}
-use native.Mathlib.Decide.{decLt}
 use borrow.Author.Tests.{lt-leb}
 use Rattle.model.specs.Kinds.{narrowKind, storeSize}
 use Rattle.model.specs.declared.Station.{Station}
@@ -20,7 +18,8 @@ use Rattle.sheet.specs.Lines.{lineCall}
 use Rattle.sheet.specs.Sheets.{Desk, newDesk, afterLine, lineOutput, linesOutput, sheetOf}
 use Rattle.stream.specs.Streams.{Stream, newStream, afterByte, byteOutput, afterBytes, bytesOutput, lastLine, endOutput, readsOutput, outputOfReads}
 use Rattle.stream.specs.Parts.{deskOf, streamOf}
-use Rattle.lines.proofs.PlainLaws.{Plain, plain-joined, kept-joined, first-plain, others-plain, first-last, others-last}
+use Rattle.lines.proofs.KeptLaws.{kept-says, kept-joined}
+use Rattle.lines.proofs.PlainLaws.{Plain, plain-joined, first-plain, others-plain, first-last, others-last}
 use Rattle.stream.proofs.BlockLaws.{at, newline-after, newline-output, byte-after, byte-output}
 
 -- ── a longer line is malformed by its first 65 bytes ──
@@ -29,11 +28,7 @@ unfolding lineCall
 long-malformed l h = rw (lt-leb (length l) 64 h)
 
 pub kept-call : (l : List ℕ) → lineCall (take 65 l) ≡ lineCall l
-kept-call l = go (decLt 64 (length l))
-  where
-    go : Dec (64 < length l) → lineCall (take 65 l) ≡ lineCall l
-    go (yes h) = long-malformed (take 65 l) (simp length-take (omega arith)) ∙ sym (long-malformed l h)
-    go (no h) = let o : length l ≤ 65 = omega (arith, h) in ap lineCall (take-all 65 l o)
+kept-call l = kept-says lineCall none long-malformed l
 
 kept-after : (l : List ℕ) (k : Desk) → afterLine (take 65 l) k ≡ afterLine l k
 unfolding afterLine

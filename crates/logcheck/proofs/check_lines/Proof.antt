@@ -12,7 +12,7 @@ use Rattle.logcheck.specs.Checking.{lineChecked, afterBytes}
 use Rattle.logcheck.specs.Parts.{checkingOf}
 use Rattle.logcheck.proofs.BlockLaws.{at, line-begun, line-whole}
 use Rattle.logcheck.proofs.CheckedLaws.{not-clean, line-stops, line-goes}
-use Rattle.logcheck.proofs.KeptLaws.{kept-within}
+use Rattle.lines.proofs.KeptLaws.{kept-within}
 use Rattle.logcheck.proofs.check_lines.Statement.{statement}
 use Rattle.logcheck.proofs.check_lines.Tie as tie
 
