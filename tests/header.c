@@ -1,5 +1,5 @@
 /* The header's helpers, for both kinds of store: nothing is narrowed, records lie where it says, the slots that a sweep cleared come oldest first, an
- * image of another version is refused, and where a length is 0 the pointer may be NULL; the moves. */
+ * image of another version is refused, and where a length is 0 the pointer may be NULL; the moves; the check of a log. */
 #include "gorehimu.h"
 #include <stdio.h>
 
@@ -202,6 +202,30 @@ static void try_moves(void) {
     CHECK(gorehimu_ask(image, n, GOREHIMU_SCAN, 0, 0, 0).kind == GOREHIMU_FOUND && image[0] == 1);
 }
 
+static int said(const char *log, uint64_t kind, uint64_t a, uint64_t b) {
+    struct gorehimu_answer r = gorehimu_log_verdict(log, strlen(log));
+    return r.kind == kind && r.a == a && r.b == b && r.c == 0;
+}
+
+static void try_log(void) {
+    static const char day[] = "write,5,2,0,0\nwrite,5,3,0,0\ncommit,5,0,100,0\nread,6,2,100,5\n";
+    uint8_t answer[GOREHIMU_ANSWER + 1];
+    struct gorehimu_answer none = gorehimu_log_verdict(NULL, 0);
+    CHECK(none.kind == GOREHIMU_CLEAN && none.a == 0 && none.b == 0 && none.c == 0);
+    CHECK(said(day, GOREHIMU_CLEAN, 0, 0));
+    CHECK(said("write,5,2,0,0\nread,6,2,100,5", GOREHIMU_BAD, 2, 0));
+    CHECK(said("write,5,2,0,0\nwrite,5,64,0,0\n", GOREHIMU_REFUSED, GOREHIMU_MALFORMED, 2));
+    CHECK(said("write,5,0,0,0\nwrite,5,1,0,0\nwrite,5,2,0,0\nwrite,5,3,0,0\nwrite,5,4,0,0\nwrite,5,5,0,0\nwrite,5,6,0,0\nwrite,5,7,0,0\nwrite,5,8,0,0",
+               GOREHIMU_REFUSED, GOREHIMU_LOG_LIMITS, 9));
+
+    /* an answer of another length: 1, and nothing is written */
+    memset(answer, 7, sizeof answer);
+    CHECK(gorehimu_check_log((const uint8_t *)day, sizeof day - 1, answer, GOREHIMU_ANSWER - 1) == 1 && answer[0] == 7);
+    CHECK(gorehimu_check_log((const uint8_t *)day, sizeof day - 1, answer, GOREHIMU_ANSWER + 1) == 1 && answer[0] == 7);
+    CHECK(gorehimu_check_log((const uint8_t *)day, sizeof day - 1, NULL, 0) == 1);
+    CHECK(gorehimu_check_log((const uint8_t *)day, sizeof day - 1, answer, GOREHIMU_ANSWER) == 0 && answer[0] == GOREHIMU_CLEAN && answer[GOREHIMU_ANSWER] == 7);
+}
+
 int main(void) {
     static uint8_t image[GOREHIMU_IMAGE], store[GOREHIMU_STORE], bytes[GOREHIMU_REQUEST], answer[GOREHIMU_ANSWER], version_1[4800], version_2[4544];
     const uint64_t most = ~(uint64_t)0;
@@ -241,5 +265,6 @@ int main(void) {
     try_kind(&narrow);
     try_kind(&wide);
     try_moves();
+    try_log();
     return failures != 0;
 }

@@ -1,3 +1,4 @@
+pub mod BenchOurs
 pub mod Lines
 pub mod Agrees
 pub mod Findings
