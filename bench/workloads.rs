@@ -1,14 +1,21 @@
-//! Two whole workloads: the paper's transaction (section 6.1.2: two functions, each one write and two reads) over 64 keys with a Zipf
-//! distribution, one client, and a run sheet of a million lines. For the proved library through its C interface and the proved program, for
-//! the plain Rust version, and for what a shop would use instead, SQLite in memory and Redis on loopback. The same keys in the same order
-//! for each. Built with `--cfg sqlite` where that library is there; Redis is asked at the port that the environment's REDIS_PORT names.
-//! Alternating rounds, the least time of each. Arguments: the proved program, the plain one.
+//! Three whole workloads: the paper's transaction (section 6.1.2: two functions, each one write and two reads) over 64 keys with a Zipf
+//! distribution, one client; a run sheet of a million lines; and another shop's log of a million lines. For the proved library through its C
+//! interface and the proved programs, for the plain Rust versions, and for what a shop would use instead of the store, SQLite in memory and Redis on
+//! loopback. The same keys in the same order for each. Built with `--cfg sqlite` where that library is there; Redis is asked at the port that the
+//! environment's REDIS_PORT names. Alternating rounds, the least time of each. Arguments: the proved program for sheets, the plain one; the proved
+//! program for logs, the plain one.
 
+mod log;
 #[path = "../tests/model.rs"]
 #[allow(dead_code)]
 mod model;
+#[path = "../tests/random.rs"]
+mod random;
 
+use log::Verdict;
 use model::{Answer, Station, STORE};
+use random::Random;
+use std::collections::BTreeMap;
 use std::hint::black_box;
 use std::io::{BufReader, Read, Write};
 use std::net::TcpStream;
@@ -29,6 +36,7 @@ extern "C" {
         answers: *mut u8,
         answers_len: usize,
     ) -> u32;
+    fn gorehimu_check_log(log: *const u8, log_len: usize, answer: *mut u8, answer_len: usize) -> u32;
 }
 
 /// Keys by a Zipf distribution: rank r with a weight of 1 / r^s.
@@ -245,8 +253,71 @@ fn sheet(lines: usize) -> (Vec<u8>, Vec<Job>) {
     (text, jobs)
 }
 
-/// Runs a program over the sheet and hands back what it wrote.
-fn run_sheet(program: &str, path: &str) -> Vec<u8> {
+// ── a log: open writers, authors of eight keys each, readers of sixteen; then their reads and writes again and again, and a last line that is bad ──
+
+struct Shop {
+    writers: u32,
+    authors: u32,
+    readers: u32,
+    /// Of the lines again, one in so many is a write.
+    writes: u64,
+    /// The least transaction and clock.
+    txn: u32,
+    clock: u64,
+}
+
+/// Numbers of a day.
+const TYPICAL: Shop = Shop { writers: 8, authors: 40, readers: 16, writes: 5, txn: 1001, clock: 32400 };
+/// All lines again are reads; the readers, and the two authors whose sixteen keys each of them has read, are the last of the 64; the greatest numbers.
+const WORST: Shop = Shop { writers: 54, authors: 2, readers: 8, writes: u64::MAX, txn: u32::MAX - 63, clock: u64::MAX - 1 };
+
+impl Shop {
+    fn writes(&self) -> Vec<String> {
+        (0..8 * self.writers).map(|n| format!("write,{},{},0,0", self.txn + n / 8, n % 8)).collect()
+    }
+
+    /// What the authors write, and their commits; the newest version of each key.
+    fn authors(&self, lines: &mut Vec<String>) -> BTreeMap<u32, (u64, u32)> {
+        let mut newest = BTreeMap::new();
+        for n in 0..self.authors {
+            let (txn, clock, first) = (self.txn + self.writers + n, self.clock + u64::from(n), 8 * n % 57);
+            for key in first..first + 8 {
+                lines.push(format!("write,{txn},{key},0,0"));
+                newest.insert(key, (clock, txn));
+            }
+            lines.push(format!("commit,{txn},0,{clock},0"));
+        }
+        newest
+    }
+
+    /// Sixteen keys each, at the newest versions.
+    fn reads(&self, r: &mut Random, newest: &BTreeMap<u32, (u64, u32)>) -> Vec<String> {
+        let mut lines = Vec::new();
+        for n in 0..self.readers {
+            let (txn, first) = (self.txn + self.writers + self.authors + n, r.below(newest.len() as u64) as usize);
+            lines.extend(newest.iter().cycle().skip(first).take(16).map(|(key, (clock, author))| format!("read,{txn},{key},{clock},{author}")));
+        }
+        lines
+    }
+
+    fn log(&self, lines: usize) -> Vec<u8> {
+        let (mut r, writes) = (Random(1), self.writes());
+        let mut log = writes.clone();
+        let newest = self.authors(&mut log);
+        let reads = self.reads(&mut r, &newest);
+        log.extend(reads.iter().cloned());
+        while log.len() < lines - 1 {
+            let list = if r.one_in(self.writes) { &writes } else { &reads };
+            log.push(list[r.below(list.len() as u64) as usize].clone());
+        }
+        // a second commit
+        log.push(format!("commit,{},0,{},0", self.txn + self.writers, self.clock));
+        (log.join("\n") + "\n").into_bytes()
+    }
+}
+
+/// Runs a program over an input and hands back what it wrote.
+fn run_program(program: &str, path: &str) -> Vec<u8> {
     let input = std::fs::File::open(path).unwrap();
     let out = std::process::Command::new(program).stdin(input).output().unwrap();
     assert!(out.status.success(), "{program}");
@@ -384,8 +455,8 @@ impl Redis {
     }
 }
 
-/// Microseconds for one transaction, the least of several rounds.
-fn timed(best: &mut f64, n: usize, f: impl FnOnce() -> u64) -> u64 {
+/// Microseconds for one of n, the least of several rounds.
+fn timed<T>(best: &mut f64, n: usize, f: impl FnOnce() -> T) -> T {
     let t = Instant::now();
     let x = black_box(f());
     *best = best.min(t.elapsed().as_secs_f64() * 1e6 / n as f64);
@@ -427,15 +498,8 @@ fn million(programs: &[String], redis: &mut Option<Redis>) {
     std::fs::write(path, text).unwrap();
     let (mut a, mut b, mut c, mut d) = (f64::MAX, f64::MAX, f64::MAX, f64::MAX);
     for _ in 0..3 {
-        let (mut x, mut y) = (Vec::new(), Vec::new());
-        timed(&mut a, 1000, || {
-            x = run_sheet(&programs[0], path);
-            0
-        });
-        timed(&mut b, 1000, || {
-            y = run_sheet(&programs[1], path);
-            0
-        });
+        let x = timed(&mut a, 1000, || run_program(&programs[0], path));
+        let y = timed(&mut b, 1000, || run_program(&programs[1], path));
         assert!(x == y, "the two programs differ");
     }
     #[cfg(sqlite)]
@@ -449,11 +513,48 @@ fn million(programs: &[String], redis: &mut Option<Redis>) {
     println!("| {} transactions | {a:.0} | {b:.0} | {:.2} | {} | {} |", list.len(), a / b, other(c), other(d));
 }
 
+/// What the library says of a log, as the plain version does.
+fn checked(log: &[u8]) -> Verdict {
+    let mut answer = [0; 32];
+    assert_eq!(unsafe { gorehimu_check_log(log.as_ptr(), log.len(), answer.as_mut_ptr(), answer.len()) }, 0);
+    let number = |n: usize| u64::from_le_bytes(answer[8 * n..8 * n + 8].try_into().unwrap());
+    match number(0) {
+        18 => Verdict::Clean,
+        19 => Verdict::Bad(number(1)),
+        _ => Verdict::Refused(number(1) as u8, number(2)),
+    }
+}
+
+/// Milliseconds of the two, which must come to the same.
+fn compare<T: PartialEq>(name: &str, mut proved: impl FnMut() -> T, mut plain: impl FnMut() -> T) {
+    let (mut a, mut b) = (f64::MAX, f64::MAX);
+    for _ in 0..7 {
+        let x = timed(&mut a, 1000, &mut proved);
+        let y = timed(&mut b, 1000, &mut plain);
+        assert!(x == y, "{name}: the two versions differ");
+    }
+    println!("| {name} | {a:.0} | {b:.0} | {:.2} |", a / b);
+}
+
+fn logs(programs: &[String]) {
+    println!("| a log of a million lines | proved, ms | Rust, ms | ratio |");
+    println!("|---|---|---|---|");
+    for (name, shop) in [("typical", TYPICAL), ("worst", WORST)] {
+        let path = format!("target/log-{name}.csv");
+        let text = shop.log(1_000_000);
+        std::fs::write(&path, &text).unwrap();
+        compare(&format!("the program, {name}"), || run_program(&programs[0], &path), || run_program(&programs[1], &path));
+        compare(&format!("the function, {name}"), || checked(black_box(&text)), || log::verdict(black_box(&text)));
+    }
+}
+
 fn main() {
     let programs: Vec<String> = std::env::args().skip(1).collect();
-    assert_eq!(programs.len(), 2, "the proved program, the plain one");
+    assert_eq!(programs.len(), 4, "the proved program for sheets, the plain one; those for logs");
     let mut redis = std::env::var("REDIS_PORT").ok().and_then(|p| Redis::open(&p));
     transactions(&mut redis);
     println!();
-    million(&programs, &mut redis);
+    million(&programs[..2], &mut redis);
+    println!();
+    logs(&programs[2..]);
 }

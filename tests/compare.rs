@@ -2,45 +2,14 @@
 //! The input goes through a pipe in random pieces, so that the reads of the program are cut anywhere.
 //! Arguments: the program, the first seed, how many sheets.
 
-#[path = "sheet.rs"]
+mod hostile;
+mod pipe;
+mod random;
 mod sheet;
 
+use hostile::{disturb, edge, joined, noise};
+use random::Random;
 use std::collections::BTreeMap;
-use std::io::{Read, Write};
-use std::process::{Command, Stdio};
-use std::time::Duration;
-
-/// splitmix64
-struct Random(u64);
-
-impl Random {
-    fn next(&mut self) -> u64 {
-        self.0 = self.0.wrapping_add(0x9e37_79b9_7f4a_7c15);
-        let mut z = self.0;
-        z = (z ^ (z >> 30)).wrapping_mul(0xbf58_476d_1ce4_e5b9);
-        z = (z ^ (z >> 27)).wrapping_mul(0x94d0_49bb_1331_11eb);
-        z ^ (z >> 31)
-    }
-
-    fn below(&mut self, n: u64) -> u64 {
-        self.next() % n
-    }
-
-    fn one_in(&mut self, n: u64) -> bool {
-        self.below(n) == 0
-    }
-
-    fn of<T: Copy>(&mut self, all: &[T]) -> T {
-        all[self.below(all.len() as u64) as usize]
-    }
-}
-
-/// A number near a limit of some field.
-fn edge(r: &mut Random) -> String {
-    let limits = [0u128, 1, 8, 9, 10, 16, 63, 64, 99, 100, 255, 256, 1 << 32, 10_000_000_000_000_000_000, 1 << 63, 1 << 64, 100_000_000_000_000_000_000];
-    let n = r.of(&limits);
-    (n + u128::from(r.below(3))).saturating_sub(1).to_string()
-}
 
 /// A value of any count of digits, every other one at the least or the greatest of its count.
 fn value(r: &mut Random) -> u64 {
@@ -107,27 +76,9 @@ fn near(r: &mut Random) -> Vec<u8> {
     let (t, k, n) = (number(r), number(r), number(r));
     let mut line = format!("{verb},{t},{k},{n}").into_bytes();
     if r.one_in(3) {
-        let at = r.below(line.len() as u64 + 1) as usize;
-        match r.below(3) {
-            0 => line.insert(at, r.of(b",0 1\r\0\xff-+9")),
-            1 if at < line.len() => drop(line.remove(at)),
-            _ if at < line.len() => line[at] = r.next() as u8,
-            _ => {}
-        }
+        disturb(r, &mut line);
     }
     line
-}
-
-/// Bytes of any kind, a line or several.
-fn noise(r: &mut Random) -> Vec<u8> {
-    let len = match r.below(12) {
-        0 => 60 + r.below(10),
-        1 => r.below(70_000),
-        2 => 65_530 + r.below(12),
-        _ => r.below(40),
-    };
-    let plain = r.one_in(2);
-    (0..len).map(|_| if plain { r.of(b"start,0123456789") } else { r.next() as u8 }).collect()
 }
 
 /// A sheet: of one kind, or of all mixed.
@@ -142,41 +93,11 @@ fn make(r: &mut Random) -> Vec<u8> {
                 transaction(r, n, keys, &mut calls);
                 lines.extend(calls.into_iter().map(String::into_bytes));
             }
-            _ if r.one_in(4) => lines.push(noise(r)),
+            _ if r.one_in(4) => lines.push(noise(r, b"start,0123456789")),
             _ => lines.push(near(r)),
         }
     }
-    let mut input = lines.join(&b'\n');
-    if !r.one_in(4) {
-        input.push(b'\n');
-    }
-    input
-}
-
-/// What the program writes for an input that is handed over in the given pieces.
-fn program(path: &str, input: &[u8], pieces: &[usize], pause: bool) -> Vec<u8> {
-    let mut child = Command::new(path).stdin(Stdio::piped()).stdout(Stdio::piped()).spawn().expect("the program starts");
-    let mut stdin = child.stdin.take().expect("a pipe");
-    let mut stdout = child.stdout.take().expect("a pipe");
-    let mut output = Vec::new();
-    std::thread::scope(|s| {
-        s.spawn(move || {
-            let mut rest = input;
-            for n in pieces {
-                let (piece, more) = rest.split_at((*n).min(rest.len()));
-                stdin.write_all(piece).expect("the program reads");
-                if pause {
-                    std::thread::sleep(Duration::from_micros(300));
-                }
-                rest = more;
-            }
-            stdin.write_all(rest).expect("the program reads");
-        });
-        stdout.read_to_end(&mut output).expect("the program writes");
-    });
-    let status = child.wait().expect("the program ends");
-    assert!(status.success(), "the program ended with {status}");
-    output
+    joined(r, &lines)
 }
 
 fn differ(what: &str, input: &[u8], ours: &[u8], theirs: &[u8]) -> ! {
@@ -200,7 +121,7 @@ struct Seen {
 fn compare(what: &str, path: &str, input: &[u8], pieces: &[usize], pause: bool, seen: &mut Seen) {
     let mut theirs = Vec::new();
     sheet::output(input, &mut theirs).expect("memory");
-    let ours = program(path, input, pieces, pause);
+    let ours = pipe::output(path, input, pieces, pause);
     if ours != theirs {
         differ(what, input, &ours, &theirs);
     }
@@ -230,8 +151,7 @@ fn main() {
     for n in seed..seed + count {
         let mut r = Random(n);
         let input = make(&mut r);
-        let most = r.of(&[1, 3, 50, 600, 5000, 100_000]);
-        let pieces: Vec<usize> = (0..r.below(20)).map(|_| 1 + r.below(most) as usize).collect();
+        let pieces = pipe::pieces(&mut r);
         compare(&format!("seed {n}"), path, &input, &pieces, n % 8 == 0, &mut seen);
     }
     let example = std::fs::read("sheets/example.csv").expect("the example");

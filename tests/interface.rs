@@ -1,15 +1,24 @@
 //! The proved library through its C interface, against the model in plain Rust, over narrow and wide stores: random call lists with cuts, retries,
 //! collections, sweeps, full slots and places, equal and backward clocks and the greatest numbers; moves out and back; images and stores with bytes
-//! changed, entries of no key and of too many; wrong lengths and an older version's, null pointers; batches.
+//! changed, entries of no key and of too many; wrong lengths and an older version's, null pointers; batches. And logs, against theirs (log.rs).
 //! Answers, images and stores are compared byte for byte, and every undisturbed history is held to the cut rule after each call, and after each record
 //! of a sweep. Arguments: the first seed, how many histories.
 
 mod book;
+mod hostile;
+mod log;
+mod misshapen;
 #[allow(dead_code)]
 mod model;
+mod partner;
+mod planted;
+mod random;
+mod spoilt;
 
 use book::{Book, Call};
+use log::Verdict;
 use model::*;
+use random::Random;
 use std::collections::BTreeMap;
 
 const IMAGE: usize = 4552;
@@ -43,6 +52,7 @@ extern "C" {
         answers: *mut u8,
         answers_len: usize,
     ) -> u32;
+    fn gorehimu_check_log(log: *const u8, log_len: usize, answer: *mut u8, answer_len: usize) -> u32;
 }
 
 fn run(image: &mut [u8], store: &mut [u8], requests: &[u8], answers: &mut [u8]) -> u32 {
@@ -87,6 +97,10 @@ fn moved(from: Kind, source: &[u8], target: &mut [u8], answer: &mut [u8]) -> u32
         Kind::Wide => gorehimu_move_back,
     };
     unsafe { f(source.as_ptr(), source.len(), target.as_mut_ptr(), target.len(), answer.as_mut_ptr(), answer.len()) }
+}
+
+fn check_log(log: &[u8], answer: &mut [u8]) -> u32 {
+    unsafe { gorehimu_check_log(log.as_ptr(), log.len(), answer.as_mut_ptr(), answer.len()) }
 }
 
 // ── the image, from the header's page ──
@@ -181,9 +195,21 @@ fn kind(a: Answer) -> u64 {
     words.iter().position(|w| *w == a.word()).unwrap() as u64 + 1
 }
 
+fn numbers(all: [u64; 4]) -> Vec<u8> {
+    all.iter().flat_map(|n| n.to_le_bytes()).collect()
+}
+
 fn answer(a: Answer) -> Vec<u8> {
     let (x, y, z) = a.values();
-    [kind(a), x, y, z].iter().flat_map(|n| n.to_le_bytes()).collect()
+    numbers([kind(a), x, y, z])
+}
+
+fn verdict_answer(v: Verdict) -> Vec<u8> {
+    match v {
+        Verdict::Clean => numbers([18, 0, 0, 0]),
+        Verdict::Bad(line) => numbers([19, line, 0, 0]),
+        Verdict::Refused(number, line) => numbers([15, number.into(), line, 0]),
+    }
 }
 
 /// Whether the fields that a call does not use are 0.
@@ -229,26 +255,6 @@ fn by_model(station: &mut Option<Station>, store: &mut [u8], c: Call) -> Answer 
 
 // ── chance ──
 
-struct Chance(u64);
-
-impl Chance {
-    fn next(&mut self) -> u64 {
-        self.0 = self.0.wrapping_add(0x9e37_79b9_7f4a_7c15);
-        let mut z = self.0;
-        z = (z ^ (z >> 30)).wrapping_mul(0xbf58_476d_1ce4_e5b9);
-        z = (z ^ (z >> 27)).wrapping_mul(0x94d0_49bb_1331_11eb);
-        z ^ (z >> 31)
-    }
-
-    fn below(&mut self, n: u64) -> u64 {
-        self.next() % n
-    }
-
-    fn one_in(&mut self, n: u64) -> bool {
-        self.below(n) == 0
-    }
-}
-
 /// How a history is made: few or many keys and transactions, and how often each call comes.
 struct Style {
     txns: u64,
@@ -259,7 +265,7 @@ struct Style {
     last: bool,
 }
 
-fn style(r: &mut Chance) -> Style {
+fn style(r: &mut Random) -> Style {
     let txns = [3, 12, 40, 200, 1000][r.below(5) as usize];
     let keys = [2, 4, 12, 40, 64][r.below(5) as usize];
     // in turn: of everything; writers that fill the slots; readers; writers with many keys; collectors
@@ -275,7 +281,7 @@ fn style(r: &mut Chance) -> Style {
 }
 
 /// One of a list, mostly; else whatever comes.
-fn one_of(r: &mut Chance, list: &[u32], other: u32) -> u32 {
+fn one_of(r: &mut Random, list: &[u32], other: u32) -> u32 {
     if list.is_empty() || r.one_in(5) {
         other
     } else {
@@ -283,7 +289,7 @@ fn one_of(r: &mut Chance, list: &[u32], other: u32) -> u32 {
     }
 }
 
-fn call(r: &mut Chance, z: &Style, image: &[u8], time: u64) -> Call {
+fn call(r: &mut Random, z: &Style, image: &[u8], time: u64) -> Call {
     let total: u64 = z.weights.iter().sum();
     let mut pick = r.below(total);
     let mut verb = 1;
@@ -345,6 +351,7 @@ struct Seen {
     /// Of entries that were refused for their write set: how many keys it had.
     wrong_sets: BTreeMap<u32, u64>,
     calls: u64,
+    logs: u64,
 }
 
 impl Seen {
@@ -358,7 +365,7 @@ impl Seen {
 }
 
 /// So many whole transactions of so many keys each.
-fn transactions(r: &mut Chance, count: usize, keys: u8) -> Vec<Call> {
+fn transactions(r: &mut Random, count: usize, keys: u8) -> Vec<Call> {
     let mut calls = Vec::new();
     for n in 0..count as u32 {
         let (txn, low) = (10_000 + n, r.below(65 - u64::from(keys)) as u8);
@@ -372,7 +379,7 @@ fn transactions(r: &mut Chance, count: usize, keys: u8) -> Vec<Call> {
 }
 
 /// Some whole transactions, most with the kind's greatest write sets, so that histories also begin with many versions or with all slots held.
-fn whole(r: &mut Chance, kind: Kind) -> Vec<Call> {
+fn whole(r: &mut Random, kind: Kind) -> Vec<Call> {
     let all = kind.slots();
     let count = [0, 0, 8, all / 2 - 2, all - 1, all][r.below(6) as usize];
     let keys = if r.one_in(4) { 1 + r.below(8) } else { kind.writes() as u64 };
@@ -521,14 +528,14 @@ fn collects(kind: Kind, before: (Vec<u8>, Vec<u8>), swept: &[u8], count: u8, boo
 }
 
 /// Sweeps of a copy: limits m and n leave what m + n leaves, and their counts add; a commit record that is changed ends a sweep when its turn comes.
-fn sweeps(r: &mut Chance, kind: Kind, image: &[u8], store: &[u8], seen: &mut Seen, what: &str) {
+fn sweeps(r: &mut Random, kind: Kind, image: &[u8], store: &[u8], seen: &mut Seen, what: &str) {
     let mut after = |store: &[u8], limits: &[u64]| {
         let (mut image, mut store) = (image.to_vec(), store.to_vec());
         let calls: Vec<Call> = limits.iter().map(|n| sweep(*n)).collect();
         let count: u64 = compare(&mut image, &mut store, &calls, seen, what).iter().map(|a| a.values().0).sum();
         (count, image, store)
     };
-    let limit = |r: &mut Chance, most: u64| 1 + if r.one_in(2) { r.below(most) } else { r.below(most.min(4)) };
+    let limit = |r: &mut Random, most: u64| 1 + if r.one_in(2) { r.below(most) } else { r.below(most.min(4)) };
     let m = limit(r, 63);
     let n = limit(r, 64 - m);
     assert!(after(store, &[m, n]) == after(store, &[m + n]), "{what}: sweeps of {m} and {n} are not one of {}", m + n);
@@ -543,7 +550,7 @@ fn sweeps(r: &mut Chance, kind: Kind, image: &[u8], store: &[u8], seen: &mut See
 /// A history from the empty station of a kind: calls one by one, the cut rule checked after each, and the same in batches; cuts between record writes,
 /// each followed by a scan; and moves, after which it goes on over the other kind's store.
 fn history(seed: u64, first: Kind, seen: &mut Seen) {
-    let mut r = Chance(seed);
+    let mut r = Random(seed);
     let z = style(&mut r);
     let mut kind = first;
     let mut image = vec![0xaa; IMAGE];
@@ -584,7 +591,7 @@ fn history(seed: u64, first: Kind, seen: &mut Seen) {
 }
 
 /// Power goes, at times in the middle of a sweep: the station is lost, and a scan starts the desk again.
-fn cut(r: &mut Chance, image: &mut Vec<u8>, store: &mut Vec<u8>, book: &mut Book, closings: &mut Closings, seen: &mut Seen, what: &str) {
+fn cut(r: &mut Random, image: &mut Vec<u8>, store: &mut Vec<u8>, book: &mut Book, closings: &mut Closings, seen: &mut Seen, what: &str) {
     let kind = closings.kind;
     if r.one_in(2) {
         let (mut swept_image, mut swept) = (image.clone(), store.clone());
@@ -607,7 +614,7 @@ fn cut(r: &mut Chance, image: &mut Vec<u8>, store: &mut Vec<u8>, book: &mut Book
 }
 
 /// A move by both, into a store of whatever bytes: answer and target agree, the source stays. The target, where the move was not refused.
-fn move_compared(r: &mut Chance, from: Kind, source: &[u8], target_len: usize, seen: &mut Seen, what: &str) -> (Answer, Vec<u8>) {
+fn move_compared(r: &mut Random, from: Kind, source: &[u8], target_len: usize, seen: &mut Seen, what: &str) -> (Answer, Vec<u8>) {
     let before: Vec<u8> = (0..target_len).map(|_| r.next() as u8).collect();
     let (mut target, mut by_model) = (before.clone(), before.clone());
     let a = move_between(from, other(from), source, &mut by_model);
@@ -625,7 +632,7 @@ fn move_compared(r: &mut Chance, from: Kind, source: &[u8], target_len: usize, s
 
 /// A move of a history's store: the cut rule holds of the target with the same book, its pages torn out. Back again, the same set is committed, and
 /// out again come the same bytes.
-fn moves(r: &mut Chance, from: Kind, store: &[u8], book: &Book, seen: &mut Seen, what: &str) -> Option<Vec<u8>> {
+fn moves(r: &mut Random, from: Kind, store: &[u8], book: &Book, seen: &mut Seen, what: &str) -> Option<Vec<u8>> {
     let to = other(from);
     let (a, target) = move_compared(r, from, store, to.store(), seen, what);
     let Answer::Moved(count) = a else { return None };
@@ -644,7 +651,7 @@ fn moves(r: &mut Chance, from: Kind, store: &[u8], book: &Book, seen: &mut Seen,
 /// Stores filled to so many slots with write sets of so many keys: 22 and 23 come exactly where they should. Damaged sources, of which a move is refused
 /// or moves the same as the model; wrong lengths.
 fn fills(seed: u64, seen: &mut Seen) {
-    let mut r = Chance(seed);
+    let mut r = Random(seed);
     for from in [Kind::Narrow, Kind::Wide] {
         let to = other(from);
         for count in [0, 1, 2, 31, 32, 33, 64] {
@@ -684,7 +691,7 @@ fn fills(seed: u64, seen: &mut Seen) {
 }
 
 /// Copies of the image and the store with bytes changed: every call must still agree.
-fn disturb(r: &mut Chance, z: &Style, kind: Kind, image: &[u8], store: &[u8], seen: &mut Seen, what: &str) {
+fn disturb(r: &mut Random, z: &Style, kind: Kind, image: &[u8], store: &[u8], seen: &mut Seen, what: &str) {
     let (mut image, mut store) = (image.to_vec(), store.to_vec());
     for _ in 0..1 + r.below(3) {
         let value = if r.one_in(2) { r.below(4) as u8 } else { r.next() as u8 };
@@ -710,7 +717,7 @@ fn disturb(r: &mut Chance, z: &Style, kind: Kind, image: &[u8], store: &[u8], se
 
 /// The same with another write set in an entry: of no key, of more than its kind's limit or of all, it makes the station one that is not sound, and
 /// every call is refused with 2. Of one to eight keys, or sixteen, it is another entry, which may be sound.
-fn write_sets(r: &mut Chance, kind: Kind, image: &[u8], store: &[u8], seen: &mut Seen, what: &str) {
+fn write_sets(r: &mut Random, kind: Kind, image: &[u8], store: &[u8], seen: &mut Seen, what: &str) {
     let mut station = decode(image).expect("a station");
     let held: Vec<usize> = station.held().map(|(d, _)| d).collect();
     if held.is_empty() {
@@ -737,7 +744,7 @@ fn write_sets(r: &mut Chance, kind: Kind, image: &[u8], store: &[u8], seen: &mut
 /// A sound station that no history makes: any entries, and read sets that need not be atomic, so that the lower bound decides too. Neither clocks nor
 /// numbers go by the slots.
 fn made_up(seed: u64, kind: Kind, seen: &mut Seen) {
-    let mut r = Chance(seed);
+    let mut r = Random(seed);
     let mut station = Station::empty_of(kind);
     let mut store = vec![0; kind.store()];
     let (keys, clocks) = ([3, 6, 20, 64][r.below(4) as usize], [1, 3, 1000, u64::MAX][r.below(4) as usize]);
@@ -840,6 +847,73 @@ fn every_byte(kind: Kind, seen: &mut Seen) {
     }
 }
 
+// ── another shop's log ──
+
+/// A log by both, and the verdict; none but the answer's bytes are written.
+fn judged(log: &[u8], seen: &mut Seen, what: &str) -> Verdict {
+    let v = log::verdict(log);
+    let (before, mut out) = (log.to_vec(), vec![0xaa; ANSWER + 2]);
+    assert_eq!(check_log(log, &mut out[1..ANSWER + 1]), 0, "{what}");
+    assert!(out[1..ANSWER + 1] == verdict_answer(v), "{what}: the answer on a log is not {v}:\n{}", String::from_utf8_lossy(log));
+    assert!(out[0] == 0xaa && out[ANSWER + 1] == 0xaa && log == before, "{what}: a check wrote past its answer");
+    seen.logs += 1;
+    v
+}
+
+/// Planted, mutated, clean, mixed and hostile ones.
+fn some_logs(seed: u64, seen: &mut Seen) {
+    let mut r = Random(seed);
+    for _ in 0..4 {
+        let p = planted::planted(&mut r);
+        let what = format!("seed {seed}, {}", p.what);
+        assert_eq!(judged(&p.log, seen, &what), p.verdict, "{what}");
+        judged(&spoilt::mutated(&mut r, p.log), seen, &what);
+        for log in [partner::clean(&mut r), spoilt::mixed(&mut r), spoilt::hostile(&mut r)] {
+            judged(&log, seen, &what);
+        }
+    }
+}
+
+/// Every prefix: the last line ends anywhere, and has its newline or not.
+fn prefixes(seed: u64, seen: &mut Seen) {
+    let mut r = Random(seed);
+    let log = if r.one_in(2) { partner::clean(&mut r) } else { spoilt::mixed(&mut r) };
+    for end in 0..=log.len().min(2000) {
+        judged(&log[..end], seen, &format!("seed {seed}, the first {end} bytes"));
+    }
+}
+
+/// Every line of three transactions, two keys and two clocks.
+fn few_lines() -> Vec<String> {
+    let mut lines = Vec::new();
+    for (t, x) in (1..=3).flat_map(|t| [(t, 0), (t, 1)]) {
+        lines.push(format!("write,{t},{x},0,0\n"));
+        lines.push(format!("commit,{t},0,{},0\n", x + 1));
+        lines.extend((1..=3).flat_map(|a| [1, 2].map(|c| format!("read,{t},{x},{c},{a}\n"))));
+    }
+    lines
+}
+
+/// A log with each line after it, and where that is clean with each line after that, so many lines deep.
+fn deeper(log: &mut Vec<u8>, lines: &[String], depth: u32, seen: &mut Seen) {
+    let len = log.len();
+    for line in lines {
+        log.extend(line.as_bytes());
+        if judged(log, seen, "every line") == Verdict::Clean && depth > 1 {
+            deeper(log, lines, depth - 1, seen);
+        }
+        log.truncate(len);
+    }
+}
+
+/// From nothing, and from two that wrote both keys and committed at one clock.
+fn every_line(seen: &mut Seen) {
+    let lines = few_lines();
+    deeper(&mut Vec::new(), &lines, 5, seen);
+    let begun = "write,1,0,0,0\nwrite,2,0,0,0\nwrite,2,1,0,0\nwrite,1,1,0,0\ncommit,2,0,1,0\ncommit,1,0,1,0\n";
+    deeper(&mut begun.into(), &lines, 4, seen);
+}
+
 /// Wrong lengths are refused, and nothing is written.
 fn wrong_lengths() {
     let before = (vec![0x55; IMAGE + 8], vec![0x66; STORE], vec![8; 64], vec![0x77; 128]);
@@ -868,6 +942,11 @@ fn wrong_lengths() {
             assert!(target.iter().all(|b| *b == 0x66) && answers.iter().all(|b| *b == 0x77), "a move, an answer of {a} bytes: something was written");
         }
     }
+    for a in [0, 31, 33, 64] {
+        let mut answers = vec![0x77; a];
+        assert_eq!(check_log(b"write,1,2,0,0\n", &mut answers), 1, "a log, an answer of {a} bytes");
+        assert!(answers.iter().all(|b| *b == 0x77), "a log, an answer of {a} bytes: something was written");
+    }
     let (mut image, mut store) = (encode(&Station::empty()), vec![0; STORE]);
     assert_eq!(run(&mut image, &mut store, &[], &mut []), 0, "no request");
 }
@@ -893,8 +972,8 @@ fn older_versions() {
     }
 }
 
-/// Where a length is 0 the pointer may be null: no requests; no store, which the verbs that need one refuse; and, as any wrong length, no image and
-/// no answer.
+/// Where a length is 0 the pointer may be null: no requests; no store, which the verbs that need one refuse; no log, which is clean; and, as any wrong
+/// length, no image and no answer.
 fn nulls() {
     use std::ptr::{null, null_mut};
     let station = encode(&Station::empty());
@@ -908,6 +987,7 @@ fn nulls() {
         assert_eq!(gorehimu_run(null_mut(), 0, null_mut(), 0, null(), 0, null_mut(), 0), 1, "nothing to run over");
         assert_eq!(gorehimu_recover(image.as_mut_ptr(), IMAGE, store.as_ptr(), STORE, null_mut(), 0), 1, "no answer to recover to");
         assert_eq!(gorehimu_move_out(null(), 0, null_mut(), 0, null_mut(), 0), 1, "no answer to move to");
+        assert_eq!(gorehimu_check_log(null(), 0, null_mut(), 0), 1, "no answer to check to");
         assert!(image == station && store.iter().all(|b| *b == 0), "something was written");
 
         let requests = [request(c(1, 7)), request(c(5, 7)), request(sweep(0))].concat();
@@ -917,6 +997,8 @@ fn nulls() {
         assert!(out[..ANSWER] == answer(Answer::Dropped) && image == station, "a call with no store: abort");
         assert_eq!(gorehimu_recover(image.as_mut_ptr(), IMAGE, null(), 0, out.as_mut_ptr(), ANSWER), 0, "a recovery, no store");
         assert!(out[..ANSWER] == answer(Answer::Refused(1, 0)) && image == station, "a recovery with no store");
+        assert_eq!(gorehimu_check_log(null(), 0, out.as_mut_ptr(), ANSWER), 0, "no log");
+        assert!(out[..ANSWER] == verdict_answer(Verdict::Clean), "no log is clean");
         for f in [gorehimu_move_out, gorehimu_move_back] {
             out.fill(0xaa);
             assert_eq!(f(null(), 0, null_mut(), 0, out.as_mut_ptr(), ANSWER), 0, "a move of no store");
@@ -935,13 +1017,16 @@ fn main() {
     for kind in [Kind::Narrow, Kind::Wide] {
         every_byte(kind, &mut seen);
     }
+    every_line(&mut seen);
     for seed in first..first + count {
         // every third begins wide
         let kind = if seed % 3 == 0 { Kind::Wide } else { Kind::Narrow };
         history(seed, kind, &mut seen);
         made_up(seed, kind, &mut seen);
+        some_logs(seed, &mut seen);
         if seed % 20 == 0 {
             fills(seed, &mut seen);
+            prefixes(seed, &mut seen);
         }
     }
     if count >= 300 {
@@ -954,4 +1039,5 @@ fn main() {
         }
     }
     println!("{count} histories, {} calls through the C interface: the library and the model agree, the cut rule holds, and the booking just made is the one read", seen.calls);
+    println!("{} logs through the C interface: the library and the model gave the same verdict", seen.logs);
 }

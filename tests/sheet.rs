@@ -4,9 +4,12 @@
 
 #[path = "model.rs"]
 pub mod model;
+#[path = "text.rs"]
+mod text;
 
 use model::{Answer, Station, STORE};
 use std::io::{Read, Write};
+use text::{decimal, fields, lines};
 
 enum Line {
     Start(u32),
@@ -19,22 +22,9 @@ enum Line {
     Cut,
 }
 
-/// "Numbers are decimal without needless leading zeros"; at most max.
-fn decimal(field: &[u8], max: u64) -> Option<u64> {
-    if field.is_empty() || field.len() > 20 || !field.iter().all(u8::is_ascii_digit) || (field[0] == b'0' && field.len() > 1) {
-        return None;
-    }
-    let n = field.iter().fold(0u128, |n, d| n * 10 + u128::from(d - b'0'));
-    u64::try_from(n).ok().filter(|n| *n <= max)
-}
-
-/// "Input: verb,ticket,key,number"; "unused fields are 0"; "A line has at most 64 bytes before its newline".
+/// "Input: verb,ticket,key,number"; "unused fields are 0".
 fn parse(line: &[u8]) -> Option<Line> {
-    if line.len() > 64 {
-        return None;
-    }
-    let fields: Vec<&[u8]> = line.split(|b| *b == b',').collect();
-    let [verb, t, k, n] = fields[..] else { return None };
+    let [verb, t, k, n] = fields(line)?;
     let (t, k, n) = (decimal(t, u32::MAX.into())? as u32, decimal(k, 255)? as u8, decimal(n, u64::MAX)?);
     let unused = |zero: bool, line: Line| zero.then_some(line);
     match verb {
@@ -54,11 +44,7 @@ fn parse(line: &[u8]) -> Option<Line> {
 pub fn output(input: &[u8], out: &mut impl Write) -> std::io::Result<()> {
     let (mut station, mut store) = (Station::empty(), vec![0; STORE]);
     writeln!(out, "line,answer,a,b,c")?;
-    let mut lines: Vec<&[u8]> = input.split(|b| *b == b'\n').collect();
-    if lines.last().is_some_and(|l| l.is_empty()) {
-        lines.pop();
-    }
-    for (i, line) in lines.into_iter().enumerate() {
+    for (i, line) in lines(input).into_iter().enumerate() {
         let answer = match parse(line) {
             None => Answer::Refused(19, 0),
             Some(Line::Start(t)) => station.start(t),
