@@ -3,30 +3,19 @@ use Prim.Native.Nat.{ℕ, _<_}
 use mathlib.Core.Path.{_≡_, refl, sym, ap, _∙_}
 use mathlib.Core.Logic.{_≢_}
 use mathlib.Core.List.{List, List·Memᴰ}
-use lib.Dec.{eqb}
 use native.Mathlib.Omega.{arith}
-use borrow.Author.Tests.{eq-eqb, eqb-true}
-use Rattle.model.specs.declared.Id.{Id}
 use Rattle.model.specs.Lists.{any, member}
-use Rattle.model.specs.Ids.{sameId}
 use Rattle.model.specs.KeySets.{keySet}
 use Rattle.model.proofs.Tests.{same-test}
-use Rattle.model.proofs.IdLaws.{same-id, id-same}
 use Rattle.log.specs.Lines.{Line}
 use Rattle.log.specs.Verdicts.{readSet, hasWritten}
 use Rattle.log.proofs.GatheredLaws.{any-mem, any-one}
 use Rattle.logtable.specs.Tables.{txnAt, writtenAt, readsAt, keyOf, authorOf, idAt}
 use Rattle.logtable.specs.Findings.{olderAt, clash, clashes}
 use Rattle.logtable.specs.Holds.{Holds, ReadsHeld}
-use Rattle.logtable.proofs.SeatedLaws.{one-place}
 use Rattle.logtable.proofs.PairLaws.{apart}
 
 module _ (T : List ℕ) (ls : List Line) (h : Holds T ls) where
-  -- a used place is told by its id
-  same-place : (a b : ℕ) → a < 64 → b < 64 → txnAt T b ≢ 0 → eqb b a ≡ sameId (idAt T b) (idAt T a)
-  same-place a b o u n = same-test _ _ (λ e. id-same (idAt T b) (idAt T a) (ap (idAt T) (eqb-true b a e)))
-      (λ e. eq-eqb b a (one-place T b a (h .seats .single) u o (ap (λ (i : Id). i .txn) (same-id (idAt T b) (idAt T a) e)) n))
-
   -- a used place's transaction wrote a key
   wrote-at : (a k : ℕ) → a < 64 → k < 64 → txnAt T a ≢ 0 → member k (keySet (writtenAt T a)) ≡ hasWritten ls (txnAt T a) k
   unfolding hasWritten
@@ -35,7 +24,7 @@ module _ (T : List ℕ) (ls : List Line) (h : Holds T ls) where
   module _ (k a : ℕ) (m : k < 64) (o : a < 64) (n : txnAt T a ≢ 0) where
     clash-same : (l b : ℕ) → l < 64 → b < 64 → txnAt T b ≢ 0 → clash T k a l b ≡ apart ls k (idAt T a) (record { key = l; id = idAt T b })
     unfolding clash apart olderAt
-    clash-same l b v u d = rw (same-place a b o u d, wrote-at a l o v n, wrote-at b k u m d)
+    clash-same l b v u d = rw (wrote-at a l o v n, wrote-at b k u m d)
 
     -- all the reads of a place
     pub clashes-same : (p t : ℕ) → ReadsHeld T (readsAt T p) (readSet t ls) → clashes T p k a ≡ any (apart ls k (idAt T a)) (readSet t ls)

@@ -16,7 +16,7 @@ use Rattle.model.proofs.Tests.{and-second, or-left, or-right, not-of-false}
 use Rattle.log.specs.declared.Finding.{Finding}
 use Rattle.log.specs.declared.Finding.the-variants.{Fine, Over, Bad}
 use Rattle.logtable.specs.Tables.{places, clockAt, writtenAt, readAt}
-use Rattle.logtable.specs.Findings.{fullFor, clashes, isUnknown, writeFound, commitFound, readFound}
+use Rattle.logtable.specs.Findings.{fullFor, unfit, isUnknown, writeFound, commitFound, readFound}
 use Rattle.logtable.specs.Parts.{ifFine}
 
 -- ── not fine: the table stays ──
@@ -52,7 +52,7 @@ known-seated T a k c h = leb-false places a (or-left _ _ (or-left _ _ h))
 
 module _ (T : List ℕ) (p a k c : ℕ) (h : readFound T p a k c ≡ Fine) where
   tested : ((leb places p or fullFor 16 (readAt T p) k) ≡ false)
-      × (cond (not (eqb (clockAt T p) 0) or isUnknown T a k c or member k (keySet (writtenAt T p)) or clashes T p k a) Bad Fine ≡ Fine)
+      × (cond (not (eqb (clockAt T p) 0) or isUnknown T a k c or member k (keySet (writtenAt T p)) or unfit T p k a) Bad Fine ≡ Fine)
   unfolding readFound
   tested = passed _ Over _ over-apart h
 

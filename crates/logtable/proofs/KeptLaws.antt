@@ -25,6 +25,7 @@ reads-kept T U xs rs kept h = record {
   said = λ x m. subst (λ (i : Id). List·Memᴰ (record { key = keyOf x; id = i }) rs) (sym (id x m)) (h .said x m);
   authors = λ x m. let a = h .authors x m in
       (λ z. a .0 (sym (ap (λ (i : Id). i .txn) (id x m)) ∙ z), λ z. a .1 (sym (ap (λ (i : Id). i .clock) (id x m)) ∙ z));
+  words = h .words;
 }
   where
     id : (x : ℕ) → List·Memᴰ x xs → idAt U (authorOf x) ≡ idAt T (authorOf x)

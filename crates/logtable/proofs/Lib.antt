@@ -1,7 +1,7 @@
 pub mod SeatLaws
 pub mod KeyLaws
 pub mod ReadSteps
-pub mod ClashRows
+pub mod OlderRows
 pub mod FoundLaws
 pub mod SeatedLaws
 pub mod KeysHeldLaws
@@ -15,6 +15,7 @@ pub mod HoldsWrite
 pub mod HoldsCommit
 pub mod PairLaws
 pub mod ClashLaws
-pub mod ReadFound
 pub mod ReadsHeldLaws
+pub mod AnotherLaws
+pub mod ReadFound
 pub mod HoldsRead

@@ -7,19 +7,17 @@ use mathlib.Core.List.{List, _∷_}
 use lib.Dec.{eqb, leb}
 use borrow.Author.Tests.{leb-false, eqb-true, not-false}
 use Rattle.model.specs.declared.Id.{Id}
-use Rattle.model.specs.Lists.{_or_, any, member}
+use Rattle.model.specs.Lists.{_or_, member}
 use Rattle.model.specs.KeySets.{keySet}
 use Rattle.model.proofs.Tests.{or-left}
 use Rattle.log.specs.Lines.{Line, read}
 use Rattle.log.specs.Verdicts.{writeSet, readSet, keysRead, hasWritten, committedAs, isOver, isAtomic, atAnother, isBad, findingOf}
-use Rattle.log.proofs.CleanMeans.{fine-clean}
 use Rattle.logtable.specs.Tables.{places, txnAt, clockAt, writtenAt, readAt, idAt, seatOf}
-use Rattle.logtable.specs.Findings.{clashes, isUnknown, readFound}
+use Rattle.logtable.specs.Findings.{unfit, isUnknown, readFound}
 use Rattle.logtable.specs.Holds.{Holds}
 use Rattle.logtable.proofs.KeysHeldLaws.{full-same}
 use Rattle.logtable.proofs.SilentLaws.{silent-commits-as}
-use Rattle.logtable.proofs.PairLaws.{apart, apart-same}
-use Rattle.logtable.proofs.ClashLaws.{clashes-same}
+use Rattle.logtable.proofs.AnotherLaws.{unfit-same}
 use Rattle.logtable.proofs.SeatHolds.{seat-over, seat-none, seat-holds, seat-own}
 
 module _ (T : List ℕ) (ls : List Line) (i : Id) (h : Holds T ls) (n : i .txn ≢ 0) (z : i .clock ≢ 0) where
@@ -50,13 +48,13 @@ module _ (T : List ℕ) (ls : List Line) (i : Id) (h : Holds T ls) (n : i .txn �
           let txn : txnAt T (seatOf T (i .txn)) ≡ i .txn = seat-own T ls (i .txn) h n o used in
           (o, (λ j. record { clock = clock j; txn = txn j }), used)
 
-  -- ── the pairs ──
-  pairs-same : (t k : ℕ) → k < 64 → seatOf T t < 64 → t ≢ 0 → committedAs ls i ≡ true
-      → clashes T (seatOf T t) k (seatOf T (i .txn)) ≡ (not (isAtomic ls (record { key = k; id = i } ∷ readSet t ls)) or atAnother k i (readSet t ls))
-  pairs-same t k m o d c =
+  -- ── the other reads ──
+  unfit-here : (t k : ℕ) → k < 64 → seatOf T t < 64 → t ≢ 0 → committedAs ls i ≡ true
+      → unfit T (seatOf T t) k (seatOf T (i .txn)) ≡ (not (isAtomic ls (record { key = k; id = i } ∷ readSet t ls)) or atAnother k i (readSet t ls))
+  unfit-here t k m o d c =
       let a = author-placed c in
-      clashes-same T ls h k (seatOf T (i .txn)) m (a .0) (a .2) (seatOf T t) t (seat-holds T ls t h d o .reads)
-      ∙ (ap (λ (j : Id). any (apart ls k j) (readSet t ls)) (a .1) ∙ apart-same ls k i (readSet t ls) (fine-clean ls (h .fine) .atomic t))
+      unfit-same T ls h k (seatOf T (i .txn)) m (a .0) (a .2) (seatOf T t) t (seat-holds T ls t h d o)
+      ∙ ap (λ (j : Id). not (isAtomic ls (record { key = k; id = j } ∷ readSet t ls)) or atAnother k j (readSet t ls)) (a .1)
 
 -- ── the tests in their order ──
 tests-same : (c u w x a b y z : Bool) → u ≡ (a or b) → (u ≡ false → x ≡ (y or z)) → (c or u or w or x) ≡ (c or a or b or w or y or z)
@@ -69,14 +67,14 @@ tests-same false u false x false false y z e f = rw e (f e)
 
 module _ (T : List ℕ) (ls : List Line) (t k : ℕ) (i : Id) (h : Holds T ls) (d : t ≢ 0) (m : k < 64) (n : i .txn ≢ 0) (z : i .clock ≢ 0) where
   bad-same : seatOf T t < 64
-      → (not (eqb (clockAt T (seatOf T t)) 0) or isUnknown T (seatOf T (i .txn)) k (i .clock) or member k (keySet (writtenAt T (seatOf T t))) or clashes T (seatOf T t) k (seatOf T (i .txn)))
+      → (not (eqb (clockAt T (seatOf T t)) 0) or isUnknown T (seatOf T (i .txn)) k (i .clock) or member k (keySet (writtenAt T (seatOf T t))) or unfit T (seatOf T t) k (seatOf T (i .txn)))
       ≡ isBad ls (read t k i)
   unfolding isBad hasWritten
   bad-same o =
       let s = seat-holds T ls t h d o in
       rw (s .clock .open-still, s .wrote .has k m)
       (tests-same _ _ _ _ _ _ _ _ (unknown-same T ls i h n z k m)
-      (λ e. pairs-same T ls i h n z t k m o d (not-false _ (or-left _ _ (sym (unknown-same T ls i h n z k m) ∙ e)))))
+      (λ e. unfit-here T ls i h n z t k m o d (not-false _ (or-left _ _ (sym (unknown-same T ls i h n z k m) ∙ e)))))
 
   pub read-found : readFound T (seatOf T t) (seatOf T (i .txn)) k (i .clock) ≡ findingOf ls (read t k i)
   unfolding readFound findingOf isOver _or_

@@ -36,6 +36,7 @@ blank-holds T ls p t f b m = record {
     listed = λ r x. absurd (List·Memᴰ·not-nil x);
     said = λ x y. absurd (List·Memᴰ·not-nil y);
     authors = λ x y. absurd (List·Memᴰ·not-nil y);
+    words = λ x y. absurd (List·Memᴰ·not-nil y);
   });
 }
 

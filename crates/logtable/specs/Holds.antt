@@ -13,7 +13,7 @@ use Rattle.model.specs.KeySets.{keySet}
 use Rattle.log.specs.Lines.{Line}
 use Rattle.log.specs.Verdicts.{actors, writeSet, readSet, keysRead, isCommitted, committedAs, once}
 use Rattle.log.specs.Claims.{AllFine}
-use Rattle.logtable.specs.Tables.{places, tableSize, txnAt, clockAt, writtenAt, readAt, readsAt, keyOf, authorOf, idAt}
+use Rattle.logtable.specs.Tables.{places, tableSize, txnAt, clockAt, writtenAt, readAt, readsAt, keyOf, authorOf, readWord, idAt}
 
 -- a clock, 0 before its transaction t commits
 pub record ClockHeld (clock : ℕ) (ls : List Line) (t : ℕ) : Type 0 where
@@ -26,11 +26,12 @@ pub record KeysHeld (n : ℕ) (ks : List ℕ) : Type 0 where
   pub size : length (keySet n) ≡ length (once ks)
   pub fits : n < numberRange
 
--- a read of the lines is one of the table, its author having a place and a clock; and back
+-- a read of the lines is a word of the table, its key and its author's place and no more, the author having a number and a clock; and back
 pub record ReadsHeld (T : List ℕ) (xs : List ℕ) (rs : List Read) : Type 0 where
   pub listed : (r : Read) → List·Memᴰ r rs → (x : ℕ) × List·Memᴰ x xs × (keyOf x ≡ r .key) × (idAt T (authorOf x) ≡ r .id)
   pub said : (x : ℕ) → List·Memᴰ x xs → List·Memᴰ (record { key = keyOf x; id = idAt T (authorOf x) }) rs
   pub authors : (x : ℕ) → List·Memᴰ x xs → (txnAt T (authorOf x) ≢ 0) × (clockAt T (authorOf x) ≢ 0)
+  pub words : (x : ℕ) → List·Memᴰ x xs → x ≡ readWord (keyOf x) (authorOf x)
 
 -- place p has what the lines say of transaction t
 pub record HoldsAt (T : List ℕ) (ls : List Line) (p t : ℕ) : Type 0 where

@@ -12,7 +12,7 @@ ghost use Rattle.model.specs.Limits.{keys};
 ghost use Rattle.model.specs.Lists.{_and_, member};
 ghost use Rattle.model.specs.KeySets.{keySet};
 ghost use Rattle.logtable.specs.Tables.{tableSize, places, placeOf, seatOf, writtenAt, keyOf, authorOf, afterWrite, afterCommit, afterRead, readCount};
-ghost use Rattle.logtable.specs.Findings.{fullFor, olderAt, clash, clashes, isUnknown, writeFound, commitFound, readFound};
+ghost use Rattle.logtable.specs.Findings.{fullFor, olderAt, clash, clashes, isAnother, unfit, isUnknown, writeFound, commitFound, readFound};
 ghost use Rattle.logtable.specs.Parts.{ifFine};
 
 // The numbers of a table.
@@ -160,16 +160,13 @@ fn overwrites(table: &[u64], place: usize, key: u8, other: usize) -> bool
     older_at(table, other, place)
 }
 
-// An earlier read, of the key and the author that the word says, does not stand together with one of this key and author.
+// An earlier read, of the key and the author that the word says, and one of this key and author are no Atomic Readset.
 fn clash(table: &[u64], key: u8, author: usize, word: u64) -> bool
     requires { ⌜ (length (now table) ≡ tableSize) × (key < keys) × (author < places) ⌝ }
     ensures { λ r. ⌜ r ≡ clash (now (table .entry)) key author (keyOf word) (authorOf word) ⌝ }
 {
     let other_key = (word % 64) as u8;
     let other = (word / 64 % 64) as usize;
-    if other_key == key {
-        return other != author;
-    }
     if overwrites(table, author, other_key, other) {
         return true;
     }
@@ -188,7 +185,7 @@ fn read_count(table: &[u64], place: usize) -> usize
     count
 }
 
-// Some read of the place does not stand together with one of this key and author.
+// Some read of the place is no Atomic Readset with one of this key and author.
 fn clashes(table: &[u64], place: usize, key: u8, author: usize) -> bool
     requires { ⌜ (length (now table) ≡ tableSize) × (place < places) × (key < keys) × (author < places) ⌝ }
     ensures { λ r. ⌜ r ≡ clashes (now (table .entry)) place key author ⌝ }
@@ -203,6 +200,35 @@ fn clashes(table: &[u64], place: usize, key: u8, author: usize) -> bool
         i += 1;
     }
     false
+}
+
+// No read of the place is of this key and author. One word is compared with each, and no pair is tested.
+fn is_another(table: &[u64], place: usize, key: u8, author: usize) -> bool
+    requires { ⌜ (length (now table) ≡ tableSize) × (place < places) × (key < keys) × (author < places) ⌝ }
+    ensures { λ r. ⌜ r ≡ isAnother (now (table .entry)) place key author ⌝ }
+{
+    let word = key as u64 + 64 * (author as u64);
+    let start = READS + READS_OF_ONE * place;
+    let count = read_count(table, place);
+    let mut i = 0;
+    while i < count {
+        if table[start + i] == word {
+            return false;
+        }
+        i += 1;
+    }
+    true
+}
+
+// A read of this key and author does not stand together with those of the place.
+fn unfit(table: &[u64], place: usize, key: u8, author: usize) -> bool
+    requires { ⌜ (length (now table) ≡ tableSize) × (place < places) × (key < keys) × (author < places) ⌝ }
+    ensures { λ r. ⌜ r ≡ unfit (now (table .entry)) place key author ⌝ }
+{
+    if has_key(table[READ + place], key) {
+        return is_another(table, place, key, author);
+    }
+    clashes(table, place, key, author)
 }
 
 // The author has no commit with that clock, or did not write the key.
@@ -238,7 +264,7 @@ fn read_found(table: &[u64], place: usize, author: usize, key: u8, clock: u64) -
     if has_key(table[WRITTEN + place], key) {
         return Finding::Bad;
     }
-    if clashes(table, place, key, author) {
+    if unfit(table, place, key, author) {
         return Finding::Bad;
     }
     Finding::Fine

@@ -1,6 +1,6 @@
 -- `logtable::older_at` meets its contract.
 use borrow.Author.Needs.{needs}
-use Rattle.logtable.proofs.ClashRows.{older-by-clock, older-by-txn}
+use Rattle.logtable.proofs.OlderRows.{older-by-clock, older-by-txn}
 use Rattle.logtable.proofs.older_at.Statement.{statement}
 use Rattle.logtable.proofs.older_at.Tie as tie
 

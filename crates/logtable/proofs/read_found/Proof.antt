@@ -7,7 +7,7 @@ use Rattle.model.specs.Lists.{_or_, member}
 use Rattle.model.specs.KeySets.{keySet}
 use Rattle.log.specs.declared.Finding.the-variants.{Fine, Bad}
 use Rattle.logtable.specs.Tables.{writtenAt}
-use Rattle.logtable.specs.Findings.{readFound, isUnknown, clashes}
+use Rattle.logtable.specs.Findings.{readFound, isUnknown, unfit}
 use Rattle.logtable.proofs.FoundLaws.{known-seated}
 use Rattle.logtable.proofs.read_found.Statement.{statement}
 use Rattle.logtable.proofs.read_found.Tie as tie
@@ -16,7 +16,7 @@ use Rattle.logtable.proofs.read_found.Tie as tie
 unfinished : (c : tie.Else3)
     → (let a = c .before .before .before .before .before .before .before .args in
     readFound (a .table .now) (a .place) (a .author) (a .key) (a .clock)
-    ≡ cond (isUnknown (a .table .now) (a .author) (a .key) (a .clock) or member (a .key) (keySet (writtenAt (a .table .now) (a .place))) or clashes (a .table .now) (a .place) (a .key) (a .author)) Bad Fine)
+    ≡ cond (isUnknown (a .table .now) (a .author) (a .key) (a .clock) or member (a .key) (keySet (writtenAt (a .table .now) (a .place))) or unfit (a .table .now) (a .place) (a .key) (a .author)) Bad Fine)
 unfolding readFound _or_
 unfinished c =
     let e = c .before .before in
@@ -82,8 +82,8 @@ returns-5 c =
     let u = c .before .before .before in
     rw (unfinished (u .before .before), sym (u .before .is-unknown .ensures) ∙ u .if4 .left, sym (c .before .has-key .ensures) ∙ c .if5 .taken)
 
-clashes-requires : tie.Need-clashes-requires
-clashes-requires c κs =
+unfit-requires : tie.Need-unfit-requires
+unfit-requires c κs =
     let u = c .before .before .before in
     let e = u .before .before .before .before in
     let s = e .before .before .before .before .before in
@@ -94,14 +94,14 @@ unfolding _or_
 returns-6 c =
     let h = c .before .before in
     let u = h .before .before .before in
-    rw (unfinished (u .before .before), sym (u .before .is-unknown .ensures) ∙ u .if4 .left, sym (h .before .has-key .ensures) ∙ h .if5 .left, sym (c .before .clashes .ensures) ∙ c .if6 .taken)
+    rw (unfinished (u .before .before), sym (u .before .is-unknown .ensures) ∙ u .if4 .left, sym (h .before .has-key .ensures) ∙ h .if5 .left, sym (c .before .unfit .ensures) ∙ c .if6 .taken)
 
 returns-7 : tie.Need-returns-7
 unfolding _or_
 returns-7 c =
     let h = c .before .before in
     let u = h .before .before .before in
-    rw (unfinished (u .before .before), sym (u .before .is-unknown .ensures) ∙ u .if4 .left, sym (h .before .has-key .ensures) ∙ h .if5 .left, sym (c .before .clashes .ensures) ∙ c .if6 .left)
+    rw (unfinished (u .before .before), sym (u .before .is-unknown .ensures) ∙ u .if4 .left, sym (h .before .has-key .ensures) ∙ h .if5 .left, sym (c .before .unfit .ensures) ∙ c .if6 .left)
 
 pub read-found-spec : {M : Type 1} → statement M
 read-found-spec =
@@ -124,6 +124,6 @@ read-found-spec =
     shared-slice-read-has-key
     has-key-requires
     returns-5
-    clashes-requires
+    unfit-requires
     returns-6
     returns-7)
