@@ -214,7 +214,7 @@ uint32_t gorehimu_move_back(const uint8_t *wide, size_t wide_len, uint8_t *narro
  *
  * Lines go in turn, and the first that is refused or bad is the whole answer: clean; bad, the line in a; or refused with 19 or 28 in a and the line in
  * b. On one line 19 comes before 28, and 28 before bad. Bad is a write, a read or a second commit by a committed ticket; a commit with no write; and a
- * read whose author has no commit line above with that clock or wrote not the key above, whose reader wrote the key above, that breaks the reader's
+ * read whose author has no commit line above with that clock or did not write the key above, whose reader wrote the key above, that breaks the reader's
  * Atomic Readset (of two versions read, the older is of a key that the newer one's ticket wrote too), or that takes a key at a second version.
  *
  * A log of no bytes is clean. It returns 1 where answer_len is wrong, and only there. */
