@@ -2,31 +2,17 @@
 //! Standard input to standard output, a line in memory at a time; and as a function of a log's bytes.
 #![allow(dead_code)]
 
+#[path = "../tests/verdict.rs"]
+mod verdict;
+
 use std::collections::HashMap;
-use std::fmt;
 use std::io::{BufRead, BufReader};
+pub use verdict::Verdict;
 
 const TXNS: usize = 64;
 const WRITES: u32 = 8;
 const READS: usize = 16;
 const LINE: usize = 64;
-
-#[derive(Clone, Copy, PartialEq, Eq, Debug)]
-pub enum Verdict {
-    Clean,
-    Bad(u64),
-    Refused(u8, u64),
-}
-
-impl fmt::Display for Verdict {
-    fn fmt(&self, f: &mut fmt::Formatter) -> fmt::Result {
-        match self {
-            Verdict::Clean => write!(f, "clean"),
-            Verdict::Bad(line) => write!(f, "bad,{line}"),
-            Verdict::Refused(number, line) => write!(f, "refused,{number},{line}"),
-        }
-    }
-}
 
 /// What is wrong with a line.
 enum Fault {

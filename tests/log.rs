@@ -4,28 +4,12 @@
 
 #[path = "text.rs"]
 mod text;
+#[path = "verdict.rs"]
+mod verdict;
 
-use std::fmt;
 use std::io::Read as _;
 use text::{decimal, fields, lines};
-
-/// "Answer clean, or the first bad line"; a refusal with its number, and its line.
-#[derive(Clone, Copy, PartialEq, Eq, Debug)]
-pub enum Verdict {
-    Clean,
-    Bad(u64),
-    Refused(u8, u64),
-}
-
-impl fmt::Display for Verdict {
-    fn fmt(&self, f: &mut fmt::Formatter) -> fmt::Result {
-        match self {
-            Verdict::Clean => write!(f, "clean"),
-            Verdict::Bad(line) => write!(f, "bad,{line}"),
-            Verdict::Refused(number, line) => write!(f, "refused,{number},{line}"),
-        }
-    }
-}
+pub use verdict::Verdict;
 
 /// Compared by clock, then number: the fields stand in that order.
 #[derive(Clone, Copy, PartialEq, Eq, PartialOrd, Ord)]
