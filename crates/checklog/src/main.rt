@@ -5,9 +5,9 @@
 use libc::STDERR_FILENO;
 use libc::STDIN_FILENO;
 use libc::STDOUT_FILENO;
+use lines::KEPT;
 use log::Verdict;
 use log::print_verdict;
-use logcheck::KEPT;
 use logcheck::check_block;
 use logcheck::check_end;
 use logtable::TABLE;

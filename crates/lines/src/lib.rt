@@ -7,7 +7,7 @@ ghost use Rattle.lines.specs.Lines.{firstLine};
 ghost use Rattle.lines.specs.Kept.{joined, joinedWith};
 
 // The bytes that are kept of a line: one more than a line may have, which tells a longer one.
-const KEPT: usize = 65;
+pub const KEPT: usize = 65;
 
 // How many bytes are kept of the line, and where its bytes in the block end.
 pub struct Filled {

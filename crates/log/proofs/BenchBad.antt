@@ -10,7 +10,7 @@ use Rattle.log.specs.declared.Finding.the-variants as F
 use Rattle.log.specs.declared.Verdict.{Verdict}
 use Rattle.log.specs.declared.Verdict.the-variants.{Clean, Bad}
 use Rattle.log.specs.Lines.{Line, write, commit, read}
-use Rattle.log.specs.Verdicts.{gathered, actorIn, writtenIn, readIn, committedIn, actors, writeSet, readSet, keysRead, hasWritten, isCommitted, committedAs, once, oneTooMany, isOver, isAtomic, atAnother, isBad, findingOf}
+use Rattle.log.specs.Verdicts.{gathered, actorIn, writtenIn, readIn, commitIn, actors, writeSet, readSet, keysRead, hasWritten, isCommitted, committedAs, once, oneTooMany, isOver, isAtomic, atAnother, isBad, findingOf}
 use Rattle.log.specs.Logs.{findingAt, lineVerdict, orElse, withLine, verdictFrom}
 
 -- a log of lines that are of the form
@@ -19,7 +19,7 @@ Case = List Line × Verdict
 
 -- its verdict, computed by the definitions
 unfoldable pub judged : Case → Verdict
-unfolding verdictFrom withLine orElse lineVerdict findingAt findingOf isBad isOver isAtomic atAnother oneTooMany once committedAs isCommitted hasWritten keysRead readSet writeSet actors gathered committedIn readIn writtenIn actorIn all any member _and_ _or_ older sameId
+unfolding verdictFrom withLine orElse lineVerdict findingAt findingOf isBad isOver isAtomic atAnother oneTooMany once committedAs isCommitted hasWritten keysRead readSet writeSet actors gathered commitIn readIn writtenIn actorIn all any member _and_ _or_ older sameId
 judged x = verdictFrom [] 1 (map some (x .0))
 
 unfoldable pub expected : Case → Verdict

@@ -10,7 +10,7 @@ use Rattle.lines.specs.Lines.{firstLine, otherLines}
 use Rattle.log.specs.declared.Verdict.{Verdict}
 use Rattle.log.specs.declared.Verdict.the-variants.{Clean, Bad, Refused}
 use Rattle.log.specs.Lines.{kindBytes, kindIn, lineIf, lineNamed, ofFields, fifth, fourth, third, second, lineIn}
-use Rattle.log.specs.Verdicts.{gathered, actorIn, writtenIn, readIn, committedIn, actors, writeSet, readSet, keysRead, hasWritten, isCommitted, committedAs, once, oneTooMany, isOver, isAtomic, atAnother, isBad, findingOf}
+use Rattle.log.specs.Verdicts.{gathered, actorIn, writtenIn, readIn, commitIn, actors, writeSet, readSet, keysRead, hasWritten, isCommitted, committedAs, once, oneTooMany, isOver, isAtomic, atAnother, isBad, findingOf}
 use Rattle.lines.specs.Lines.{linesFrom, linesIn}
 use Rattle.log.specs.Logs.{findingAt, lineVerdict, orElse, withLine, verdictFrom, verdictOf}
 
@@ -83,5 +83,5 @@ logs =
 
 -- The claim: each log has the verdict that stands beside it.
 pub logs-hold : map (λ (x : List ℕ × Verdict). verdictOf (x .0)) logs ≡ map (λ (x : List ℕ × Verdict). x .1) logs
-unfolding logs verdictOf linesIn linesFrom firstLine otherLines lineIn second third fourth fifth ofFields lineNamed lineIf kindIn kindBytes same field afterField numberBelow isDecimal numberFrom isDigit all any member _and_ _or_ older sameId verdictFrom withLine orElse lineVerdict findingAt findingOf isBad isOver isAtomic atAnother oneTooMany once committedAs isCommitted hasWritten keysRead readSet writeSet actors gathered committedIn readIn writtenIn actorIn
+unfolding logs verdictOf linesIn linesFrom firstLine otherLines lineIn second third fourth fifth ofFields lineNamed lineIf kindIn kindBytes same field afterField numberBelow isDecimal numberFrom isDigit all any member _and_ _or_ older sameId verdictFrom withLine orElse lineVerdict findingAt findingOf isBad isOver isAtomic atAnother oneTooMany once committedAs isCommitted hasWritten keysRead readSet writeSet actors gathered commitIn readIn writtenIn actorIn
 logs-hold = refl

@@ -17,7 +17,7 @@ use Rattle.model.proofs.ListLaws.{any-no}
 use Rattle.model.proofs.IdLaws.{older-irrefl}
 use Rattle.log.specs.declared.Verdict.the-variants.{Clean}
 use Rattle.log.specs.Lines.{Line, write, commit, read, lineIn}
-use Rattle.log.specs.Verdicts.{gathered, writtenIn, readIn, committedIn, writeSet, readSet, hasWritten, isCommitted, committedAs, isBad}
+use Rattle.log.specs.Verdicts.{gathered, writtenIn, readIn, commitIn, writeSet, readSet, hasWritten, isCommitted, committedAs, isBad}
 use Rattle.lines.specs.Lines.{linesIn}
 use Rattle.log.specs.Logs.{verdictOf}
 use Rattle.log.specs.Claims.{above, AllFine, CleanLog}
@@ -29,7 +29,7 @@ use Rattle.log.proofs.CleanLines.{clean-fine}
 -- a line that is fine below the commit of a ticket is another's
 others-line : (ls : List Line) (l : Line) (t : ℕ) → isBad ls l ≡ false → isCommitted ls t ≡ true
     → (below : List Line) → (isCommitted (l ∷ below) t ≡ isCommitted below t) × (writtenIn t l ≡ []) × (readIn t l ≡ [])
-unfolding isBad isCommitted gathered committedIn writtenIn readIn
+unfolding isBad isCommitted gathered commitIn writtenIn readIn
 others-line ls l t h c = go l h
   where
     other : (u : ℕ) → isCommitted ls u ≡ false → eqb t u ≡ false

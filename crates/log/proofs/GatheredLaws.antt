@@ -13,7 +13,7 @@ use Rattle.model.specs.Ids.{sameId}
 use Rattle.model.proofs.ListLaws.{any-none}
 use Rattle.model.proofs.IdLaws.{same-id, id-same}
 use Rattle.log.specs.Lines.{Line, write, commit, read}
-use Rattle.log.specs.Verdicts.{gathered, actorIn, writtenIn, readIn, committedIn, actors, writeSet, readSet, hasWritten, isCommitted, committedAs}
+use Rattle.log.specs.Verdicts.{gathered, actorIn, writtenIn, readIn, commitIn, actors, writeSet, readSet, hasWritten, isCommitted, committedAs}
 
 -- ── searches and membership ──
 module _ {A : Type 0} (p : A → Bool) where
@@ -152,21 +152,21 @@ unfolding readSet gathered
 read-cases l ls t r m = ⊎-elim (λ h. inl (read-line t r l h)) (λ h. inr h) (List·Memᴰ·append-cases (readIn t l) m)
 
 -- ── commits ──
-pub committed-line : (i : Id) (l : Line) → List·Memᴰ i (committedIn l) → l ≡ commit (i .txn) (i .clock)
-unfolding committedIn
+pub committed-line : (i : Id) (l : Line) → List·Memᴰ i (commitIn l) → l ≡ commit (i .txn) (i .clock)
+unfolding commitIn
 committed-line i (write u j) m = absurd (List·Memᴰ·not-nil m)
 committed-line i (commit u c) m =
     let q = List·Memᴰ·eq-of-singleton m in
     cc (ap (λ (x : Id). x .txn) q, ap (λ (x : Id). x .clock) q)
 committed-line i (read u j k) m = absurd (List·Memᴰ·not-nil m)
 
-pub has-committed : (ls : List Line) (t c : ℕ) → List·Memᴰ (commit t c) ls → List·Memᴰ (record { clock = c; txn = t }) (gathered committedIn ls)
-unfolding committedIn
-has-committed ls t c m = mem-gathered committedIn ls (commit t c) _ m (List·Memᴰ·head refl)
+pub has-committed : (ls : List Line) (t c : ℕ) → List·Memᴰ (commit t c) ls → List·Memᴰ (record { clock = c; txn = t }) (gathered commitIn ls)
+unfolding commitIn
+has-committed ls t c m = mem-gathered commitIn ls (commit t c) _ m (List·Memᴰ·head refl)
 
-pub commit-above : (ls : List Line) (i : Id) → List·Memᴰ i (gathered committedIn ls) → List·Memᴰ (commit (i .txn) (i .clock)) ls
+pub commit-above : (ls : List Line) (i : Id) → List·Memᴰ i (gathered commitIn ls) → List·Memᴰ (commit (i .txn) (i .clock)) ls
 commit-above ls i m =
-    let q = gathered-mem committedIn ls i m in
+    let q = gathered-mem commitIn ls i m in
     subst (λ (l : Line). List·Memᴰ l ls) (committed-line i (q .0) (q .2)) (q .1)
 
 pub committed-as : (ls : List Line) (i : Id) → List·Memᴰ (commit (i .txn) (i .clock)) ls → committedAs ls i ≡ true
@@ -177,7 +177,7 @@ pub as-committed : (ls : List Line) (i : Id) → committedAs ls i ≡ true → L
 unfolding committedAs
 as-committed ls i h =
     let r = any-one (sameId i) _ h in
-    commit-above ls i (subst (λ (j : Id). List·Memᴰ j (gathered committedIn ls)) (sym (same-id i (r .0) (r .2))) (r .1))
+    commit-above ls i (subst (λ (j : Id). List·Memᴰ j (gathered commitIn ls)) (sym (same-id i (r .0) (r .2))) (r .1))
 
 pub is-committed : (ls : List Line) (t c : ℕ) → List·Memᴰ (commit t c) ls → isCommitted ls t ≡ true
 unfolding isCommitted

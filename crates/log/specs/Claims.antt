@@ -49,7 +49,7 @@ unfoldable pub onto : List Line → List Line → List Line
 onto ls [] = ls
 onto ls (x ∷ xs) = onto (x ∷ ls) xs
 
--- what holds of all the lines of a clean log, the last first ──
+-- what holds of all the lines of a clean log, the last first
 pub record CleanLog (ls : List Line) : Type 0 where
   -- each read is of a transaction that committed above it, under that id, and wrote the key; and the reader did not write the key before
   pub reads : (below above : List Line) (t k : ℕ) (i : Id) → ls ≡ below ++ (read t k i ∷ above)

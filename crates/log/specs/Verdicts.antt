@@ -37,10 +37,10 @@ readIn t (commit u c) = []
 readIn t (read u k i) = cond (eqb t u) (record { key = k; id = i } ∷ []) []
 
 -- the id that is committed
-unfoldable pub committedIn : Line → List Id
-committedIn (write t k) = []
-committedIn (commit t c) = record { clock = c; txn = t } ∷ []
-committedIn (read t k i) = []
+unfoldable pub commitIn : Line → List Id
+commitIn (write t k) = []
+commitIn (commit t c) = record { clock = c; txn = t } ∷ []
+commitIn (read t k i) = []
 
 -- the tickets that write or read; the write set and the read set of a ticket
 unfoldable pub actors : List Line → List ℕ
@@ -60,10 +60,10 @@ unfoldable pub hasWritten : List Line → ℕ → ℕ → Bool
 hasWritten ls t k = member k (writeSet t ls)
 
 unfoldable pub isCommitted : List Line → ℕ → Bool
-isCommitted ls t = any (λ (i : Id). eqb t (i .txn)) (gathered committedIn ls)
+isCommitted ls t = any (λ (i : Id). eqb t (i .txn)) (gathered commitIn ls)
 
 unfoldable pub committedAs : List Line → Id → Bool
-committedAs ls i = any (sameId i) (gathered committedIn ls)
+committedAs ls i = any (sameId i) (gathered commitIn ls)
 
 -- ── "28: a 65th ticket that writes or reads, a 9th key written or 17th key read by one ticket." ──
 -- each number of a list once
@@ -78,16 +78,16 @@ oneTooMany most n ns = not (member n ns) and leb most (length (once ns))
 abbrev pub ticketLimit : ℕ
 ticketLimit = 64
 
-abbrev pub writeLimit : ℕ
-writeLimit = 8
+abbrev pub keysWrittenLimit : ℕ
+keysWrittenLimit = 8
 
-abbrev pub readLimit : ℕ
-readLimit = 16
+abbrev pub keysReadLimit : ℕ
+keysReadLimit = 16
 
 unfoldable pub isOver : List Line → Line → Bool
-isOver ls (write t k) = oneTooMany ticketLimit t (actors ls) or oneTooMany writeLimit k (writeSet t ls)
+isOver ls (write t k) = oneTooMany ticketLimit t (actors ls) or oneTooMany keysWrittenLimit k (writeSet t ls)
 isOver ls (commit t c) = false
-isOver ls (read t k i) = oneTooMany ticketLimit t (actors ls) or oneTooMany readLimit k (keysRead t ls)
+isOver ls (read t k i) = oneTooMany ticketLimit t (actors ls) or oneTooMany keysReadLimit k (keysRead t ls)
 
 -- ── bad ──
 -- the paper's Definition 1, Atomic Readset: of any two reads r and q, where r's transaction wrote the key of q, q's version is not older than r's

@@ -9,7 +9,7 @@ use model::Id;
 ghost use mathlib.Core.Path.{_≡_};
 ghost use Prim.Native.Nat.{_≤_};
 ghost use mathlib.Core.Option.{some};
-ghost use lib.ListN.{length, take};
+ghost use lib.ListN.{length, take, drop};
 ghost use Rattle.log.specs.Lines.{kindIn, ofFields, second, third, fourth, fifth, lineIn};
 ghost use Rattle.log.specs.Parts.{kindOf, parsedOf};
 ghost use Rattle.log.specs.Printed.{verdictPrinted};
@@ -187,7 +187,7 @@ pub fn parse_log_line(line: &[u8]) -> Parsed
 // A verdict's line; how many bytes it has.
 pub fn print_verdict(out: &mut [u8], verdict: Verdict) -> usize
     requires { ⌜ 64 ≤ length (now out) ⌝ }
-    ensures { λ n. ⌜ (n ≤ 64) × (take n (now (out .exit)) ≡ verdictPrinted verdict) × (length (now (out .exit)) ≡ length (now (out .entry))) ⌝ }
+    ensures { λ n. ⌜ (n ≤ 64) × (take n (now (out .exit)) ≡ verdictPrinted verdict) × (drop n (now (out .exit)) ≡ drop n (now (out .entry))) × (length (now (out .exit)) ≡ length (now (out .entry))) ⌝ }
 {
     match verdict {
         Verdict::Clean => {

@@ -1,5 +1,6 @@
 // A log checked: as lent bytes, or block by block in the same memory however long it is. The verdict is defined in log's specs/Logs; what is kept
 // between two blocks in specs/Checking.
+use lines::KEPT;
 use lines::fill;
 use lines::line_end;
 use log::Finding;
@@ -20,9 +21,6 @@ ghost use Rattle.logtable.specs.Tables.{tableSize};
 ghost use Rattle.logcheck.specs.Judged.{verdictBy, tableAfter};
 ghost use Rattle.logcheck.specs.Checking.{afterBytes, verdictAt};
 ghost use Rattle.logcheck.specs.Parts.{checkingOf};
-
-// The bytes that are kept of a line: one more than a line may have, which tells a longer one.
-pub const KEPT: usize = 65;
 
 // The verdict on the lines so far, how many they are, and how many bytes are kept of the line that has begun.
 pub struct Checked {
@@ -67,8 +65,7 @@ fn judge_line(table: &mut [u64], line: &[u8], number: u64) -> Verdict
     }
 }
 
-// A line of which nothing came before; the bytes of the block from a place on. Every line that a newline ends is judged where it lies; of the last
-// its bytes are kept.
+// The lines of a block from a place on, where one begins. Each that a newline ends is judged where it lies; of the last its bytes are kept.
 fn check_lines(
     table: &mut [u64],
     part: &mut [u8],

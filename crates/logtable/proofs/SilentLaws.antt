@@ -10,7 +10,7 @@ use Rattle.model.specs.Lists.{any, member}
 use Rattle.model.proofs.Tests.{or-left, or-right}
 use Rattle.model.proofs.ListLaws.{any-no, member-cons}
 use Rattle.log.specs.Lines.{Line, write, commit, read}
-use Rattle.log.specs.Verdicts.{gathered, actorIn, writtenIn, readIn, committedIn, actors, writeSet, readSet, isCommitted, committedAs}
+use Rattle.log.specs.Verdicts.{gathered, actorIn, writtenIn, readIn, commitIn, actors, writeSet, readSet, isCommitted, committedAs}
 use Rattle.log.specs.Claims.{AllFine}
 use Rattle.log.proofs.GatheredLaws.{as-is-committed}
 use Rattle.log.proofs.FineLaws.{fine-good, commit-written}
@@ -35,14 +35,14 @@ silent-reads (read u k i ∷ ls) t h = let q = not-there t u (actors ls) h in rw
 
 -- a commit is of one that wrote
 pub silent-commits : (ls : List Line) (t : ℕ) → AllFine ls → member t (actors ls) ≡ false → isCommitted ls t ≡ false
-unfolding AllFine actors isCommitted gathered actorIn committedIn any
+unfolding AllFine actors isCommitted gathered actorIn commitIn any
 silent-commits [] t f h = refl
 silent-commits (write u k ∷ ls) t f h = silent-commits ls t (f .1) (not-there t u (actors ls) h .1)
 silent-commits (commit u c ∷ ls) t f h = go (eqb t u) refl (silent-commits ls t (f .1) h)
   where
     go : (b : Bool) → eqb t u ≡ b → isCommitted ls t ≡ false → isCommitted (commit u c ∷ ls) t ≡ false
     go true e ih = absurd (commit-written ls u c (fine-good ls (commit u c) (f .0) .1) .1 (ap (λ (v : ℕ). writeSet v ls) (sym (eqb-true t u e)) ∙ silent-writes ls t h))
-    go false e ih = any-no (λ (i : Id). eqb t (i .txn)) (record { clock = c; txn = u }) (gathered committedIn ls) e ∙ ih
+    go false e ih = any-no (λ (i : Id). eqb t (i .txn)) (record { clock = c; txn = u }) (gathered commitIn ls) e ∙ ih
 silent-commits (read u k i ∷ ls) t f h = silent-commits ls t (f .1) (not-there t u (actors ls) h .1)
 
 pub silent-commits-as : (ls : List Line) (i : Id) → AllFine ls → member (i .txn) (actors ls) ≡ false → committedAs ls i ≡ false

@@ -11,7 +11,7 @@ use Rattle.model.specs.declared.Read.{Read}
 use Rattle.model.specs.Lists.{_or_}
 use Rattle.model.proofs.Tests.{and-left, and-right, or-none}
 use Rattle.log.specs.Lines.{Line, write, commit, read}
-use Rattle.log.specs.Verdicts.{gathered, actorIn, writtenIn, readIn, actors, writeSet, readSet, keysRead, once, oneTooMany, ticketLimit, writeLimit, readLimit, isOver}
+use Rattle.log.specs.Verdicts.{gathered, actorIn, writtenIn, readIn, actors, writeSet, readSet, keysRead, once, oneTooMany, ticketLimit, keysWrittenLimit, keysReadLimit, isOver}
 use Rattle.log.specs.Claims.{AllFine}
 use Rattle.log.proofs.FineLaws.{good-fine}
 use Rattle.log.proofs.GatheredLaws.{mem-gathered, gathered-mem, written-own, read-own}
@@ -37,11 +37,11 @@ module _ (ws : List Line) (k : KeepsLimits ws) where
   unfolding isOver actors writeSet readSet keysRead gathered actorIn
   not-over (write t x) ls sub = or-none _ _
       (within ticketLimit t (actors ls) (actors ws) (gathered-part actorIn (write t x ∷ ls) ws sub) (k .tickets))
-      (within writeLimit x (writeSet t ls) (writeSet t ws) (λ m h. gathered-part (writtenIn t) (write t x ∷ ls) ws sub m (rw (written-own t x) h)) (k .writes t))
+      (within keysWrittenLimit x (writeSet t ls) (writeSet t ws) (λ m h. gathered-part (writtenIn t) (write t x ∷ ls) ws sub m (rw (written-own t x) h)) (k .writes t))
   not-over (commit t c) ls sub = refl
   not-over (read t x i) ls sub = or-none _ _
       (within ticketLimit t (actors ls) (actors ws) (gathered-part actorIn (read t x i ∷ ls) ws sub) (k .tickets))
-      (within readLimit x (keysRead t ls) (keysRead t ws) (λ m h. keys-part m (rw (read-own t x i) h)) (k .reads t))
+      (within keysReadLimit x (keysRead t ls) (keysRead t ws) (λ m h. keys-part m (rw (read-own t x i) h)) (k .reads t))
     where
       keys-part : (m : ℕ) → List·Memᴰ m (keysRead t (read t x i ∷ ls)) → List·Memᴰ m (keysRead t ws)
       keys-part m h = let r = Memᴰ·of-map (λ (r : Read). r .key) (readSet t (read t x i ∷ ls)) h in subst (λ (n : ℕ). List·Memᴰ n (keysRead t ws)) (r .2) (Memᴰ·map (λ (r : Read). r .key) (gathered-part (readIn t) (read t x i ∷ ls) ws sub (r .0) (r .1)))

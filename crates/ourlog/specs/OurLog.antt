@@ -16,7 +16,7 @@ use Rattle.history.specs.Ledger.{Committed, Ledger, draftOf, committedFrom, fee
 use Rattle.history.specs.Histories.{Event, called, cut, World, begin, handed, Report, reports, givenAfter, next, AllInRange}
 use Rattle.log.specs.declared.Verdict.the-variants.{Clean}
 use Rattle.log.specs.Lines.{Line, write, commit, read}
-use Rattle.log.specs.Verdicts.{actors, writeSet, keysRead, once, ticketLimit, writeLimit, readLimit}
+use Rattle.log.specs.Verdicts.{actors, writeSet, keysRead, once, ticketLimit, keysWrittenLimit, keysReadLimit}
 use Rattle.log.specs.Logs.{verdictOf}
 use Rattle.log.specs.Written.{logWritten}
 
@@ -100,8 +100,8 @@ StartedOnce κ vs = distinct (startsOf vs (begin κ)) ≡ true
 -- the log's limits: 64 transactions that write or read, 8 keys written and 16 read by each
 pub record KeepsLimits (ls : List Line) : Type 0 where
   pub tickets : length (once (actors ls)) ≤ ticketLimit
-  pub writes : (t : ℕ) → length (once (writeSet t ls)) ≤ writeLimit
-  pub reads : (t : ℕ) → length (once (keysRead t ls)) ≤ readLimit
+  pub writes : (t : ℕ) → length (once (writeSet t ls)) ≤ keysWrittenLimit
+  pub reads : (t : ℕ) → length (once (keysRead t ls)) ≤ keysReadLimit
 
 -- the claim: the bytes of our log are clean
 abbrev pub OursIsClean : Type 0

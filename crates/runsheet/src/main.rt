@@ -6,6 +6,7 @@ use calls::scan;
 use libc::STDERR_FILENO;
 use libc::STDIN_FILENO;
 use libc::STDOUT_FILENO;
+use lines::KEPT;
 use sheet::print_header;
 use stream::finish;
 use stream::run_block;
@@ -13,9 +14,7 @@ ghost use mathlib.Core.Path.{_≡_};
 ghost use Prim.Native.Nat.{_+_, _^_, _≤_, _<_};
 ghost use lib.ListN.{length};
 
-// The bytes of a line that are kept, of a read and of the output's buffer.
-const KEPT: usize = 65;
-
+// The bytes of a read and of the output's buffer.
 const READ: usize = 65536;
 
 const OUT: usize = 475136;

@@ -11,7 +11,7 @@ use Rattle.checklog.proofs.answer.Tie as tie
 slice-aggregate-write-all : tie.Need-slice-aggregate-write-all
 slice-aggregate-write-all c =
     let p = c .before .before .print-verdict in
-    let l : length (p .last .0) ≡ 64 = p .ensures .2 ∙ length-replicate {A = ℕ} 64 0 in
+    let l : length (p .last .0) ≡ 64 = p .ensures .3 ∙ length-replicate {A = ℕ} 64 0 in
     sym (length-take-le (p .result) (p .last .0) (omega (arith, l, p .ensures .0)))
 
 pub answer-spec : {M : Type 1} → statement M

@@ -1,5 +1,4 @@
 -- `interface::write_verdict` meets its contract.
-use mathlib.Core.Path.{_≡_, ap, sym, _∙_}
 use borrow.Author.Needs.{needs}
 use Rattle.interface.specs.Verdicts.{verdictBytes}
 use Rattle.interface.proofs.write_verdict.Statement.{statement}
