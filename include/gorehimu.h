@@ -57,6 +57,11 @@
  * the source alone, so it comes out the same, whatever the first attempt left there. Of half a target nothing is promised, even where a scan of it
  * is not refused.
  *
+ * To go to Redis and back: gorehimu_export writes what is committed in a narrow store as the commands that Redis takes (redis-cli --pipe), and
+ * gorehimu_import fills a narrow store from such a stream. An import that is not refused ends the history of the store that it fills. Bring the whole
+ * store to where it lasts, and gorehimu_recover it then: a new history begins, with the stream's transactions in it. Where power goes earlier, begin the
+ * import again: the store depends on the stream alone. Of half of it nothing is promised.
+ *
  * Each pointer must be valid for its length, and may be NULL where that is 0; no alignment is needed. What is lent to one call must not
  * overlap, nor be touched by others meanwhile. Allow 128 KB of stack.
  */
@@ -77,6 +82,7 @@ extern "C" {
 #define GOREHIMU_REQUEST 16
 #define GOREHIMU_ANSWER 32
 #define GOREHIMU_RECORD 24
+#define GOREHIMU_TARGET 65536
 
 /* The version of the image's format: an image is made and read by one version of the library. Versions 1 and 2 had 4,800
  * and 4,544 bytes (write sets as lists); an image of another length is refused by its length (1). So after an update recover the station from the
@@ -135,13 +141,16 @@ enum gorehimu_kind {
                              * is not the station's (a collect of it is refused with 17) */
     GOREHIMU_MOVED = 17,    /* a move: a how many committed slots of the source are in the target */
     GOREHIMU_CLEAN = 18,    /* a log: no line is bad */
-    GOREHIMU_BAD = 19       /* a log: a its first bad line, counted from 1 */
+    GOREHIMU_BAD = 19,      /* a log: a its first bad line, counted from 1 */
+    GOREHIMU_EXPORTED = 20, /* an export: a the length of the stream */
+    GOREHIMU_IMPORTED = 21  /* an import: a how many transactions the store has */
 };
 
-/* Why a request, a move or a line of a log is refused. 19 comes before all others; of the rest, where several apply, the lowest. */
+/* Why a request, a move, an export, an import or a line of a log is refused. 19 comes before all others; of the rest, where several apply, the lowest. */
 enum gorehimu_refusal {
     GOREHIMU_STORE_LENGTH = 1,      /* get, step, collect, sweep, scan: the store has not the bytes of the image's kind, GOREHIMU_STORE or
-                                     * GOREHIMU_WIDE_STORE; moves: one of the two stores has not those of its kind */
+                                     * GOREHIMU_WIDE_STORE; moves: one of the two stores has not those of its kind; export, import: the store
+                                     * has not GOREHIMU_STORE; export: the target has not GOREHIMU_TARGET */
     GOREHIMU_UNSOUND = 2,           /* every verb but scan: the image is no sound station */
     GOREHIMU_TRANSACTION_ZERO = 3,  /* start, put, get, commit, step, abort: the transaction is 0 */
     GOREHIMU_KEY_RANGE = 4,         /* put, get: the key is above 63 */
@@ -153,12 +162,13 @@ enum gorehimu_refusal {
     GOREHIMU_NOT_CLOSING = 10,      /* step: the transaction is open */
     GOREHIMU_WRITES_FULL = 11,      /* put: the write set has 8 other keys (wide 16) */
     GOREHIMU_READS_FULL = 12,       /* get: a version would be answered, and the read set has 16 other keys */
-    GOREHIMU_SLOTS_FULL = 13,       /* commit: the write set is not empty, and no slot of 64 (wide 32) is free: collect one, or sweep */
+    GOREHIMU_SLOTS_FULL = 13,       /* commit: the write set is not empty, and no slot of 64 (wide 32) is free: collect one, or sweep;
+                                     * import: the stream has more than 64 transactions */
     GOREHIMU_NOT_HELD = 14,         /* collect: the slot is above 63 (wide 31), or holds no entry */
     GOREHIMU_NEWEST = 15,           /* collect: the entry is the newest for a key that it wrote */
     GOREHIMU_IS_READ = 16,          /* collect: a live transaction has read the entry */
     GOREHIMU_RECORD_CHANGED = 17,   /* get, collect: the record in the store is not the station's: the store was changed from outside */
-    GOREHIMU_DAMAGED = 18,          /* scan, and a move of its source: slot b, and none below it, breaks the format's rules or has the transaction of a
+    GOREHIMU_DAMAGED = 18,          /* scan, and a move or an export of its source: slot b, and none below it, breaks the format's rules or has the transaction of a
                                      * lower slot. A commit record of the other kind breaks them */
     GOREHIMU_MALFORMED = 19,        /* no request: an unknown verb, or a byte that must be 0 is not; a log: a line is not of the form, or a field not in
                                      * its range */
@@ -166,6 +176,7 @@ enum gorehimu_refusal {
     GOREHIMU_NO_CLOCK = 21,         /* commit: the write set is not empty, and an entry or closing transaction has the last clock, 2^64 - 1: none is left */
     GOREHIMU_TOO_MANY_SLOTS = 22,   /* move out: more than 32 slots are committed: collect some, or sweep, and move then */
     GOREHIMU_TOO_MANY_KEYS = 23,    /* move back: a write set has more than 8 keys: put them anew in smaller transactions, collect it, and move then */
+    GOREHIMU_NOT_A_STREAM = 27,     /* import: the bytes are not of the form, or not in its order, or have a transaction twice */
     GOREHIMU_LOG_LIMITS = 28        /* a log: a 65th ticket that writes or reads, a 9th key written or a 17th key read by one ticket */
 };
 
@@ -202,6 +213,23 @@ uint32_t gorehimu_run(uint8_t *image, size_t image_len, uint8_t *store, size_t s
  * answer_len is wrong, and only there. */
 uint32_t gorehimu_move_out(const uint8_t *narrow, size_t narrow_len, uint8_t *wide, size_t wide_len, uint8_t *answer, size_t answer_len);
 uint32_t gorehimu_move_back(const uint8_t *wide, size_t wide_len, uint8_t *narrow, size_t narrow_len, uint8_t *answer, size_t answer_len);
+
+/* What is committed in a narrow store as a RESP stream, over the front of the target, which has GOREHIMU_TARGET bytes; those past the stream stay as they
+ * were. Each command is an array of three bulk strings: SET, a name, a value.
+ *
+ *   v/key/clock/transaction   the value, in decimal
+ *   c/clock/transaction       the keys that the transaction wrote, ascending, parted by commas
+ *
+ * A transaction's versions, keys ascending, stand right before its commit; transactions come oldest first, by clock and then number. A stream has at most
+ * 47,808 bytes. The answer is exported, or refused with 1 or 18 (the slot in b); then no byte of the target is written. The store is never written. It
+ * returns 1 where answer_len is wrong, and only there. */
+uint32_t gorehimu_export(const uint8_t *store, size_t store_len, uint8_t *target, size_t target_len, uint8_t *answer, size_t answer_len);
+
+/* A narrow store from a stream of that form: the oldest transaction in slot 63, the next in 62, and all else zero, whatever the store held. The whole stream
+ * is checked before the first byte of the store is written. The answer is imported, or refused with 1, with 27, or with 13 where it has the form and more than
+ * 64 transactions; then no byte of the store is written. A stream of no bytes is good: it has no transaction. It returns 1 where answer_len is wrong, and
+ * only there. */
+uint32_t gorehimu_import(const uint8_t *stream, size_t stream_len, uint8_t *store, size_t store_len, uint8_t *answer, size_t answer_len);
 
 /* The verdict on another shop's log: whether its readers saw read atomic isolation. It needs no image and no store. The log is lines of text, each
  * ended by a newline, which the last may lack, of at most 64 bytes, five fields parted by commas: kind,ticket,key,clock,author.

@@ -20,13 +20,15 @@
 //! A [`Desk`] has a narrow store, of 64 slots, and a transaction writes at most 8 keys; a [`WideDesk`] has a wide one, of 32 slots and 13,056 bytes, and a
 //! transaction writes at most 16. [`WideDesk::moved_from`] and [`Desk::moved_from`] go from one to the other.
 //!
-//! [`check_log`] judges another shop's log by the same rule that this store keeps.
+//! [`check_log`] judges another shop's log by the same rule that this store keeps. [`export`] and [`import`] carry what is committed to Redis and back.
 
 #![warn(missing_docs)]
 
 mod log;
+mod transfer;
 
 pub use log::{check_log, Verdict};
+pub use transfer::{export, import};
 
 /// The bytes of a store, a narrow one: 64 slots of 9 records.
 pub const STORE: usize = 13824;
@@ -124,8 +126,25 @@ mod raw {
             answer_len: usize,
         ) -> u32;
         pub fn gorehimu_check_log(log: *const u8, log_len: usize, answer: *mut u8, answer_len: usize) -> u32;
+        pub fn gorehimu_export(
+            store: *const u8,
+            store_len: usize,
+            target: *mut u8,
+            target_len: usize,
+            answer: *mut u8,
+            answer_len: usize,
+        ) -> u32;
+        pub fn gorehimu_import(
+            stream: *const u8,
+            stream_len: usize,
+            store: *mut u8,
+            store_len: usize,
+            answer: *mut u8,
+            answer_len: usize,
+        ) -> u32;
     }
 
+    /// A move, an export or an import.
     pub type Move = unsafe extern "C" fn(*const u8, usize, *mut u8, usize, *mut u8, usize) -> u32;
 }
 
@@ -366,7 +385,7 @@ pub enum Answer {
     Moved(u8),
 }
 
-/// Why a request or a move is refused, with its number. [`Refusal::Malformed`] comes before all others; of the rest, where several apply, the lowest.
+/// Why a request, a move, an export or an import is refused, with its number. [`Refusal::Malformed`] comes before all others; of the rest, where several apply, the lowest.
 ///
 /// ```
 /// use gorehimu::{Desk, Refusal};
@@ -379,7 +398,8 @@ pub enum Answer {
 #[derive(Clone, Copy, Debug, PartialEq, Eq)]
 #[repr(u8)]
 pub enum Refusal {
-    /// Get, step, collect, sweep, scan: the store has not the bytes of its kind, [`STORE`] or [`WIDE_STORE`]; moves: one of the two has not.
+    /// Get, step, collect, sweep, scan: the store has not the bytes of its kind, [`STORE`] or [`WIDE_STORE`]; moves: one of the two has not; export,
+    /// import: it has not those of a narrow one.
     StoreLength = 1,
     /// Every request but scan: the image is no sound station.
     Unsound = 2,
@@ -403,7 +423,7 @@ pub enum Refusal {
     WritesFull = 11,
     /// Get: a version would be answered, and the read set has 16 other keys.
     ReadsFull = 12,
-    /// Commit: the write set is not empty, and no slot of 64, of a wide store 32, is free: collect one, or sweep.
+    /// Commit: the write set is not empty, and no slot of 64, of a wide store 32, is free: collect one, or sweep. Import: more than 64 transactions.
     SlotsFull = 13,
     /// Collect: the slot is above 63, of a wide store 31, or holds no entry.
     NotHeld = 14,
@@ -413,7 +433,7 @@ pub enum Refusal {
     IsRead = 16,
     /// Get, collect: the record in the store is not the station's: the store was changed from outside.
     RecordChanged = 17,
-    /// Scan, and a move of its source: a slot breaks the format's rules or has the transaction of a lower slot; the answer has the lowest such. A commit
+    /// Scan, and a move or an export of its source: a slot breaks the format's rules or has the transaction of a lower slot; the answer has the lowest such. A commit
     /// record of the other kind breaks them.
     Damaged = 18,
     /// No request: an unknown verb, or a byte that must be 0 is not.
@@ -426,11 +446,13 @@ pub enum Refusal {
     TooManySlots = 22,
     /// Move back: a write set has more than 8 keys: put them anew in smaller transactions, collect it, and move then.
     TooManyKeys = 23,
+    /// Import: the bytes are no such stream, or not in its order, or have a transaction twice.
+    NotAStream = 27,
 }
 
 impl Refusal {
-    /// All of them, by number from 1.
-    pub const ALL: [Refusal; 23] = [
+    /// All of them, by number.
+    pub const ALL: [Refusal; 24] = [
         Refusal::StoreLength,
         Refusal::Unsound,
         Refusal::TransactionZero,
@@ -454,9 +476,10 @@ impl Refusal {
         Refusal::NoClock,
         Refusal::TooManySlots,
         Refusal::TooManyKeys,
+        Refusal::NotAStream,
     ];
 
-    /// The refusal of a number; none where it is not 1 to 23.
+    /// The refusal of a number; none where it is not 1 to 23 or 27.
     ///
     /// ```
     /// use gorehimu::Refusal;

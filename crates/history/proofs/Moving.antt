@@ -1,8 +1,7 @@
 -- 02 §6: a move that is not refused carries the history over. The target has the transactions that the source has, by its slots, and what lasts of
 -- store and ledger holds of it.
-use Prim.Native.Nat.{ℕ, zero, suc, _*_, _-_}
+use Prim.Native.Nat.{ℕ, zero, suc, _*_, _-_, _<_}
 use mathlib.Core.Path.{_≡_, refl, sym, ap, subst, _∙_, fun-ext}
-use mathlib.Core.Logic.{_≢_}
 use mathlib.Core.Bool.{true, cond}
 use mathlib.Core.List.{List, [], _∷_, _++_, map}
 use mathlib.Core.Option.{Option, some, none, Option·none-ne-some}
@@ -83,7 +82,7 @@ pub same-store : (κ κ′ : Kind) (s t : List ℕ) → KindFits κ′ → Accep
 same-store κ κ′ s t φ a = in-store-held κ′ (moved κ κ′ s) ∙ (ap (map transaction) (held-same κ κ′ s t φ a) ∙ sym (in-store-held κ s))
 
 -- what a scan finds is that
-scan-holds : (κ : Kind) (s : List ℕ) → length s ≡ storeSize κ → KeepsRules κ s → committedFound κ s 0 (scan κ s .station .entries) ≡ inStore κ s
+pub scan-holds : (κ : Kind) (s : List ℕ) → length s ≡ storeSize κ → KeepsRules κ s → committedFound κ s 0 (scan κ s .station .entries) ≡ inStore κ s
 unfolding inStore says
 scan-holds κ s l k = ap (λ (x : Effect). committedFound κ s 0 (x .station .entries)) (scan-finds κ s l k)
 
@@ -106,6 +105,15 @@ same-out-and-back κ κ′ φ φ′ s t n h t₂ l =
     same-committed κ′ κ φ (move κ κ′ s t .target) t₂ n (back-moved κ κ′ φ′ s t n h t₂ l) ∙ same-committed κ κ′ φ′ s t n h
 
 -- ── what lasts ──
+-- no two slots of a store that keeps the rules have one transaction
+pub one-slot : (κ : Kind) (s : List ℕ) → KeepsRules κ s
+    → (d d′ : ℕ) (e e′ : Entry) → d < κ .slots → d′ < κ .slots → seen κ s d ≡ committed e → seen κ s d′ ≡ committed e′ → e .id .txn ≡ e′ .id .txn → d ≡ d′
+one-slot κ s k d d′ e e′ o o′ x y q = go (ℕ-discrete d d′)
+  where
+    go : Dec (d ≡ d′) → d ≡ d′
+    go (yes z) = z
+    go (no n) = absurd (k .single d d′ e e′ o o′ n x y q)
+
 pub move-lasts : (κ κ′ : Kind) (s t : List ℕ) (b : Ledger) → KindFits κ′ → Accepts κ κ′ s t → Core κ s (b .standing) (b .past) → Lasting κ′ (moved κ κ′ s) (withDrafts [] b)
 unfolding withDrafts draftOf
 move-lasts κ κ′ s t b φ a core = record {
@@ -113,7 +121,7 @@ move-lasts κ κ′ s t b φ a core = record {
     fits = φ;
     size = moved-long κ κ′ s t φ a;
     undamaged = λ d o e. moved-rules κ κ′ s t φ a .undamaged d o e;
-    single = λ d d′ e e′ o o′ x y q. one d d′ (ℕ-discrete d d′) (λ n. moved-rules κ κ′ s t φ a .single d d′ e e′ o o′ n x y q);
+    single = one-slot κ′ (moved κ κ′ s) (moved-rules κ κ′ s t φ a);
     found = rw (same-store κ κ′ s t φ a) (core .found);
     kept = core .kept;
     dominated = core .dominated;
@@ -121,10 +129,6 @@ move-lasts κ κ′ s t b φ a core = record {
   };
   sure = λ t p e. absurd (Option·none-ne-some p e);
 }
-  where
-    one : (d d′ : ℕ) → Dec (d ≡ d′) → (d ≢ d′ → ⊥) → d ≡ d′
-    one d d′ (yes e) f = e
-    one d d′ (no n) f = absurd (f n)
 
 pub move-keeps : (w : World) (κ′ : Kind) (t : List ℕ) (n : ℕ) → State w → KindFits κ′ → move (w .kind) κ′ (w .store) t .answer ≡ A.Moved n → State (carriedOver κ′ (move (w .kind) κ′ (w .store) t .target) w)
 unfolding carriedOver

@@ -153,7 +153,7 @@ lookup-first (w ∷ ws) k = go (eqb k (w .key)) refl (lookup-first ws k)
     go true e ih = rw (e, member-yes k (w .key) ks e, first-yes (eqb k) (w .key) ks e)
     go false e ih = rw (e, member-no k (w .key) ks e, first-no (eqb k) (w .key) ks e) ih
 
-first-written : (ws : List Write) → 1 ≤ length ws → (k : ℕ) × (v : ℕ) × (lookup k ws ≡ some v)
+pub first-written : (ws : List Write) → 1 ≤ length ws → (k : ℕ) × (v : ℕ) × (lookup k ws ≡ some v)
 unfolding lookup
 first-written [] o = absurd (not-suc-le-zero o)
 first-written (w ∷ ws) o = (w .key, w .value, rw (eq-eqb (w .key) (w .key) refl))

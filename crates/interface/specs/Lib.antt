@@ -1,3 +1,4 @@
 pub mod Exchange
 pub mod Verdicts
+pub mod Transfers
 pub mod Parts

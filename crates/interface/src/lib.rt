@@ -7,15 +7,18 @@ use calls::scan_of;
 use desk::Request;
 use desk::asks_scan;
 use desk::decide;
+use exporting::export;
 use image::IMAGE;
 use image::read_image;
 use image::write_image;
+use importing::import;
 use log::Verdict;
 use logcheck::check_log;
 use model::empty_of;
 use moving::move_between;
 use records::id_in;
 use records::write_number;
+use resp::Transfer;
 use sheet::Command;
 use sheet::Word;
 use sheet::command_for;
@@ -41,10 +44,13 @@ ghost use Rattle.model.specs.Moves.{move, moveOut, moveBack};
 ghost use Rattle.sheet.specs.Commands.{commandOf};
 ghost use Rattle.sheet.specs.Parts.{verbOf};
 ghost use Rattle.log.specs.Logs.{verdictOf};
+ghost use Rattle.resp.specs.Exports.{export};
+ghost use Rattle.resp.specs.Imports.{import};
 ghost use Rattle.image.specs.Layout.{imageSize};
 ghost use Rattle.image.specs.Images.{stationIn, isImage};
 ghost use Rattle.interface.specs.Exchange.{requestSize, answerSize, verbNumbered, requestCall, answerKind, fourBytes, answerBytes, unsoundStation, heldIn, requestEffect, afterRequest, afterRequests, answersTo, imageOf, imageAfter, requestsIn, afterRun, answersIn, fits, fitsOne};
 ghost use Rattle.interface.specs.Verdicts.{verdictBytes};
+ghost use Rattle.interface.specs.Transfers.{transferBytes, exportedKind, importedKind};
 ghost use Rattle.interface.specs.Parts.{heldOf};
 
 // The bytes of a request and of an answer.
@@ -52,12 +58,16 @@ const REQUEST: usize = 16;
 
 const ANSWER: usize = 32;
 
-// The kinds of a log's answers.
+// The kinds of a log's answers, of an export's and of an import's.
 const REFUSED: u64 = 15;
 
 const CLEAN: u64 = 18;
 
 const BAD: u64 = 19;
+
+const EXPORTED: u64 = 20;
+
+const IMPORTED: u64 = 21;
 
 // The verb that a sheet has not.
 const SWEEP: u8 = 9;
@@ -495,5 +505,50 @@ pub extern "C" fn gorehimu_check_log(log: &[u8], answer: &mut [u8]) -> u32
     }
     let verdict = check_log(log);
     write_verdict(answer, verdict);
+    0
+}
+
+// What an export or an import came to, over the part lent.
+fn write_transfer(out: &mut [u8], kind: u64, transfer: Transfer)
+    requires { ⌜ length (now out) ≡ answerSize ⌝ }
+    ensures { λ _. ⌜ now (out .exit) ≡ transferBytes kind transfer ⌝ }
+{
+    match transfer {
+        Transfer::Done(n) => {
+            write_four(out, kind, n as u64, 0, 0);
+        }
+        Transfer::Refused(c, d) => {
+            write_four(out, REFUSED, c as u64, d as u64, 0);
+        }
+    }
+}
+
+// A narrow store's committed set as a stream over the target: 0. Where the answer's length is wrong: 1, and nothing is written.
+#[no_mangle]
+pub extern "C" fn gorehimu_export(store: &[u8], target: &mut [u8], answer: &mut [u8]) -> u32
+    ensures { λ r. ⌜ r ≡ cond (eqb (length (now (answer .entry))) answerSize) 0 1 ⌝ }
+    ensures { λ _. ⌜ now (target .exit) ≡ cond (eqb (length (now (answer .entry))) answerSize) (export (now (store .entry)) (now (target .entry)) .target) (now (target .entry)) ⌝ }
+    ensures { λ _. ⌜ now (answer .exit) ≡ cond (eqb (length (now (answer .entry))) answerSize) (transferBytes exportedKind (export (now (store .entry)) (now (target .entry)) .answer)) (now (answer .entry)) ⌝ }
+{
+    if answer.len() != ANSWER {
+        return 1;
+    }
+    let said = export(store, target);
+    write_transfer(answer, EXPORTED, said);
+    0
+}
+
+// A stream into a narrow store, likewise.
+#[no_mangle]
+pub extern "C" fn gorehimu_import(stream: &[u8], store: &mut [u8], answer: &mut [u8]) -> u32
+    ensures { λ r. ⌜ r ≡ cond (eqb (length (now (answer .entry))) answerSize) 0 1 ⌝ }
+    ensures { λ _. ⌜ now (store .exit) ≡ cond (eqb (length (now (answer .entry))) answerSize) (import (now (stream .entry)) (now (store .entry)) .store) (now (store .entry)) ⌝ }
+    ensures { λ _. ⌜ now (answer .exit) ≡ cond (eqb (length (now (answer .entry))) answerSize) (transferBytes importedKind (import (now (stream .entry)) (now (store .entry)) .answer)) (now (answer .entry)) ⌝ }
+{
+    if answer.len() != ANSWER {
+        return 1;
+    }
+    let said = import(stream, store);
+    write_transfer(answer, IMPORTED, said);
     0
 }

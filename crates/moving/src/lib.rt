@@ -9,6 +9,8 @@ use model::slots;
 use model::store_size;
 use model::wide;
 use model::write_limit;
+use records::clear;
+use records::copy;
 use records::write_commit;
 use recovery::scan_of;
 ghost use mathlib.Core.Path.{_≡_};
@@ -24,30 +26,6 @@ ghost use Rattle.model.specs.Listed.{kindOf, listedEntry, listedEntries};
 ghost use Rattle.model.specs.Slots.{committed, seen};
 ghost use Rattle.model.specs.Scan.{slotsSeen, entriesSeen, isCommitted};
 ghost use Rattle.model.specs.Moves.{tooWide, movedSlot, movedSlots, move, moveOut, moveBack};
-
-// Bytes over the front of the part lent.
-fn copy(part: &mut [u8], bytes: &[u8])
-    requires { ⌜ length (now bytes) ≤ length (now part) ⌝ }
-    ensures { λ _. ⌜ take (length (now (bytes .entry))) (now (part .exit)) ≡ now (bytes .entry) ⌝ }
-{
-    let mut i = 0;
-    while i < bytes.len() {
-        part[i] = bytes[i];
-        i += 1;
-    }
-}
-
-// Zeros from a place on.
-fn clear(part: &mut [u8], from: usize)
-    requires { ⌜ from ≤ length (now part) ⌝ }
-    ensures { λ _. ⌜ now (part .exit) ≡ take from (now (part .entry)) ++ replicate (length (now (part .entry)) - from) 0 ⌝ }
-{
-    let mut i = from;
-    while i < part.len() {
-        part[i] = 0;
-        i += 1;
-    }
-}
 
 // The bytes of a committed slot that are read: its commit record, and the version records of its keys.
 fn used_size(e: Entry) -> usize

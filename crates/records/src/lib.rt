@@ -12,10 +12,10 @@ use model::mark;
 use model::same_id;
 ghost use mathlib.Core.Path.{_≡_};
 ghost use mathlib.Core.Bool.{true, false};
-ghost use Prim.Native.Nat.{_≤_, _<_, _^_};
+ghost use Prim.Native.Nat.{_≤_, _<_, _-_, _^_};
 ghost use mathlib.Core.List.{_++_};
 ghost use lib.Dec.{eqb};
-ghost use lib.ListN.{length, take, drop};
+ghost use lib.ListN.{length, take, drop, replicate};
 ghost use Rattle.model.specs.Lists.{all, ascending, same};
 ghost use Rattle.model.specs.Limits.{keys, keysSize, recordSize, byteRange};
 ghost use Rattle.model.specs.Kinds.{narrowKind, wideKind, slotSize};
@@ -423,6 +423,30 @@ pub fn write_zero(part: &mut [u8])
     ensures { λ _. ⌜ now (part .exit) ≡ zeroRecord ⌝ }
 {
     let mut i = 0;
+    while i < part.len() {
+        part[i] = 0;
+        i += 1;
+    }
+}
+
+// Bytes over the front of the part lent.
+pub fn copy(part: &mut [u8], bytes: &[u8])
+    requires { ⌜ length (now bytes) ≤ length (now part) ⌝ }
+    ensures { λ _. ⌜ take (length (now (bytes .entry))) (now (part .exit)) ≡ now (bytes .entry) ⌝ }
+{
+    let mut i = 0;
+    while i < bytes.len() {
+        part[i] = bytes[i];
+        i += 1;
+    }
+}
+
+// Zeros from a place on.
+pub fn clear(part: &mut [u8], from: usize)
+    requires { ⌜ from ≤ length (now part) ⌝ }
+    ensures { λ _. ⌜ now (part .exit) ≡ take from (now (part .entry)) ++ replicate (length (now (part .entry)) - from) 0 ⌝ }
+{
+    let mut i = from;
     while i < part.len() {
         part[i] = 0;
         i += 1;

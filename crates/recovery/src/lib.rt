@@ -20,7 +20,7 @@ ghost use Rattle.model.specs.Scan.{scan};
 ghost use Rattle.recovery.specs.Marks.{Marked};
 
 // One of the first `below` numbers is the transaction's.
-fn has_txn(txns: &[u32; Station::SLOTS], below: usize, txn: u32) -> bool
+pub fn has_txn(txns: &[u32; Station::SLOTS], below: usize, txn: u32) -> bool
     requires { ⌜ below ≤ entryPlaces ⌝ }
     requires { ⌜ length (now txns) ≡ entryPlaces ⌝ }
     ensures { λ r. ⌜ r ≡ member txn (take below (now (txns .entry))) ⌝ }

@@ -34,27 +34,14 @@ use model::store_size;
 use model::wide;
 use reading::Candidates;
 use reading::clocks_of;
+use reading::held_of;
 use reading::newest_first;
 use reading::txns_of;
 use records::carries_entry;
 use storing::record_place;
 use storing::store_zero;
 
-// ---- which entries there are, and which of them live transactions have read
-fn held_of(entries: [Entry; Station::SLOTS]) -> [bool; Station::SLOTS]
-    ensures { λ r. ⌜ Column (λ e. not (eqb (e .id .txn) 0)) false (listedEntries entries) r ⌝ }
-{
-    let mut out = [false; Station::SLOTS];
-    let mut d = 0;
-    while d < Station::SLOTS {
-        let e = entries[d];
-        let id = e.id;
-        out[d] = id.txn != 0;
-        d += 1;
-    }
-    out
-}
-
+// ---- which entries live transactions have read
 // Whether a row has the id. Transactions mostly differ, so they are compared first.
 fn has_id(clocks: &[u64; Station::SLOTS], txns: &[u32; Station::SLOTS], d: usize, id: Id) -> bool
     requires { ⌜ d < Limits.entryPlaces ⌝ }

@@ -1,0 +1,4 @@
+pub mod OrderLaws
+pub mod VersionsLaws
+pub mod StreamLaws
+pub mod ExportAnswers

@@ -1,0 +1,2 @@
+pub mod InStore
+pub mod Imported
