@@ -9,26 +9,26 @@ use Rattle.sheet.specs.Words.{header}
 use Rattle.sheet.specs.Sheets.{Desk, newDesk, afterLine, lineOutput}
 
 -- the desk in the middle of a line, with the bytes of that line so far
-pub record Stream : Type 0 where
+pub record Intake : Type 0 where
   pub desk : Desk
   pub line : List ℕ
 
-unfoldable pub newStream : Stream
-newStream = record { desk = newDesk; line = [] }
+unfoldable pub newIntake : Intake
+newIntake = record { desk = newDesk; line = [] }
 
 -- ── one byte: a newline runs the line and begins the next, any other byte joins the line ──
-unfoldable pub afterByte : ℕ → Stream → Stream
+unfoldable pub afterByte : ℕ → Intake → Intake
 afterByte b s = cond (eqb b newline) (record { desk = afterLine (s .line) (s .desk); line = [] }) (record { desk = s .desk; line = joined (s .line) b })
 
-unfoldable pub byteOutput : ℕ → Stream → List ℕ
+unfoldable pub byteOutput : ℕ → Intake → List ℕ
 byteOutput b s = cond (eqb b newline) (lineOutput (s .line) (s .desk)) []
 
 -- ── the bytes of a read ──
-unfoldable pub afterBytes : List ℕ → Stream → Stream
+unfoldable pub afterBytes : List ℕ → Intake → Intake
 afterBytes [] s = s
 afterBytes (b ∷ bs) s = afterBytes bs (afterByte b s)
 
-unfoldable pub bytesOutput : List ℕ → Stream → List ℕ
+unfoldable pub bytesOutput : List ℕ → Intake → List ℕ
 bytesOutput [] s = []
 bytesOutput (b ∷ bs) s = byteOutput b s ++ bytesOutput bs (afterByte b s)
 
@@ -37,13 +37,13 @@ unfoldable pub lastLine : List ℕ → Desk → List ℕ
 lastLine [] k = []
 lastLine (b ∷ bs) k = lineOutput (b ∷ bs) k
 
-unfoldable pub endOutput : Stream → List ℕ
+unfoldable pub endOutput : Intake → List ℕ
 endOutput s = lastLine (s .line) (s .desk)
 
 -- ── all reads, then the end; what the program writes for them ──
-unfoldable pub readsOutput : List (List ℕ) → Stream → List ℕ
+unfoldable pub readsOutput : List (List ℕ) → Intake → List ℕ
 readsOutput [] s = endOutput s
 readsOutput (r ∷ rs) s = bytesOutput r s ++ readsOutput rs (afterBytes r s)
 
 unfoldable pub outputOfReads : List (List ℕ) → List ℕ
-outputOfReads rs = header ++ readsOutput rs newStream
+outputOfReads rs = header ++ readsOutput rs newIntake

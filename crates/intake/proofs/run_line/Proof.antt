@@ -1,10 +1,10 @@
--- `stream::run_line` meets its contract.
+-- `intake::run_line` meets its contract.
 use mathlib.Core.Path.{_∙_}
 use borrow.Author.Needs.{needs}
 use Rattle.desk.specs.declared.Request.{Request}
-use Rattle.stream.proofs.RunLaws.{line-run, line-answered, line-tested}
-use Rattle.stream.proofs.run_line.Statement.{statement}
-use Rattle.stream.proofs.run_line.Tie as tie
+use Rattle.intake.proofs.RunLaws.{line-run, line-answered, line-tested}
+use Rattle.intake.proofs.run_line.Statement.{statement}
+use Rattle.intake.proofs.run_line.Tie as tie
 
 parse-line-requires : tie.Need-parse-line-requires
 parse-line-requires c κs = search needs

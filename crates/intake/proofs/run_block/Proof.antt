@@ -1,7 +1,7 @@
--- `stream::run_block` meets its contract.
+-- `intake::run_block` meets its contract.
 use borrow.Author.Needs.{needs}
-use Rattle.stream.proofs.run_block.Statement.{statement}
-use Rattle.stream.proofs.run_block.Tie as tie
+use Rattle.intake.proofs.run_block.Statement.{statement}
+use Rattle.intake.proofs.run_block.Tie as tie
 
 is-sound-requires : tie.Need-is-sound-requires
 is-sound-requires c κs = search needs

@@ -1,4 +1,4 @@
--- `stream::act_once` meets its contract: a walk of its MIR, by hand. The station goes into a local, which is lent to `act_on` for a lifetime that is made for the call, and comes back at the last value that `act_on` says; the store is given to `act_on` for good (`gave-slice`).
+-- `intake::act_once` meets its contract: a walk of its MIR, by hand. The station goes into a local, which is lent to `act_on` for a lifetime that is made for the call, and comes back at the last value that `act_on` says; the store is given to `act_on` for good (`gave-slice`).
 -- All that the proof knows of `act_on` is that it meets its contract.
 -- Assumes nothing.
 use mathlib.Core.Path.{_≡_, refl, ap}
@@ -58,15 +58,15 @@ use Rattle.desk.proofs.Request as L
 use Rattle.desk.proofs.Request.Laws as L′
 use Rattle.model.proofs.Outcome as O
 use Rattle.model.proofs.Outcome.Laws as O′
-use Rattle.stream.proofs.Mach.{machS, machL, machN, machO, IsS, IsL, IsN, IsO, is-outcome, typedS, typedL, typedO, into-memory, out-of-memory}
-use Rattle.stream.proofs.act_on as act-on
-use Rattle.stream.proofs.act_on.Symbol as act-on-def
-use Rattle.stream.proofs.act_on.Symbol.{name as #stream·act-on}
-use Rattle.stream.proofs.act_on.Met as act-on-thm
-use Rattle.stream.proofs.act_once.Key.{name as #stream·act-once}
-use Rattle.stream.proofs.act_once as act-once
-use Rattle.stream.proofs.act_once.Statement as stated
-use Rattle.stream.proofs.act_once.Code as code
+use Rattle.intake.proofs.Mach.{machS, machL, machN, machO, IsS, IsL, IsN, IsO, is-outcome, typedS, typedL, typedO, into-memory, out-of-memory}
+use Rattle.intake.proofs.act_on as act-on
+use Rattle.intake.proofs.act_on.Symbol as act-on-def
+use Rattle.intake.proofs.act_on.Symbol.{name as #intake·act-on}
+use Rattle.intake.proofs.act_on.Met as act-on-thm
+use Rattle.intake.proofs.act_once.Key.{name as #intake·act-once}
+use Rattle.intake.proofs.act_once as act-once
+use Rattle.intake.proofs.act_once.Statement as stated
+use Rattle.intake.proofs.act_once.Code as code
 
 abbrev stayed : Stays (act-once.ended .signature .params) (act-once.ended .kept)
 stayed = (stay-none (λ _. S.the-row) yes, (gave-slice (0 ∷ []) tt (plain (λ _. u8)), (stay-none (λ _. L.the-row) yes, tt)))
@@ -138,7 +138,7 @@ module _ {M : Type 1} (𝓤 : URA M) (H : Heap 𝓤) (A : Atoms 𝓤) (W : Given
       nothing ! $ owned ! L.the-row (Is L.the-row) (LL.makes L.the-type L′.the-plain 𝓤 H A) n _ gl $ fjoin ! $ move ! (1 ∷ 0 ∷ []) $ fjoin ! $ owned ! S.the-row (Is S.the-row) (LL.makes S.the-type S′.the-plain 𝓤 H A) h _ g $ fjoin ! $
       owned ! O.the-row (Is O.the-row) (LL.makes O.the-type O′.the-plain 𝓤 H A) z _ is $ move ! (1 ∷ 0 ∷ []) $ done !
 
-  module _ (C : Calls 𝓤 H) (Λ : Loops 𝓤 H) (fm : FmC 𝓤 H (W .laws) C) (known : Triple 𝓤 (C #stream·act-on) (ActOn 𝓤 H A at-mem run)) where
+  module _ (C : Calls 𝓤 H) (Λ : Loops 𝓤 H) (fm : FmC 𝓤 H (W .laws) C) (known : Triple 𝓤 (C #intake·act-on) (ActOn 𝓤 H A at-mem run)) where
     walk : Room u8 (length ys) → n .tested ≡ sound (listed h) → ent 𝓤 (onEntry 𝓤 H A act-once.signature (κ, tt) (q, tt) a values) (WpFn 𝓤 H C Λ code.function (machS h ∷ s ∷ machL n ∷ []) Post)
     walk room tested =
         qed W ((‵ (flft κ q) ⊛ ‵ ftrue) ∷ ‵ (owns (S.the-row ∷ MutSlice (named 0) κ u8 ∷ L.the-row ∷ []) a values) ∷ []) ∵
@@ -176,7 +176,7 @@ module _ {M : Type 1} (𝓤 : URA M) (H : Heap 𝓤) (A : Atoms 𝓤) (W : Given
         keep ! (0 ∷ 2 ∷ []) $ by ! (exits (made r (zs .0)) (zs .1 .0) e l (is-made r (zs .0) is′ g′))))))))))))))))))))))
 
 module _ {M : Type 1} (𝓤 : URA M) (H : Heap 𝓤) (A : Atoms 𝓤) (W : Given 𝓤 H A) (mem : Memory → SProp 𝓤) (run : Routine → Fun 𝓤) where
-  act-once-walks : (C : Calls 𝓤 H) (Λ : Loops 𝓤 H) → FmC 𝓤 H (W .laws) C → Triple 𝓤 (C #stream·act-on) (ActOn 𝓤 H A mem run) → Walks 𝓤 H A act-once.ended stayed (WpFn 𝓤 H C Λ code.function) (act-once.clauses 𝓤 H A mem run)
+  act-once-walks : (C : Calls 𝓤 H) (Λ : Loops 𝓤 H) → FmC 𝓤 H (W .laws) C → Triple 𝓤 (C #intake·act-on) (ActOn 𝓤 H A mem run) → Walks 𝓤 H A act-once.ended stayed (WpFn 𝓤 H C Λ code.function) (act-once.clauses 𝓤 H A mem run)
   act-once-walks C Λ fm known = walked 𝓤 H A act-once.ended stayed (act-once.clauses 𝓤 H A mem run) (WpFn 𝓤 H C Λ code.function)
       (λ κs. (LL.vals S.the-type S′.the-laws, (slice-vals, (LL.vals L.the-type L′.the-laws, tt))))
       (λ κs. (LL.tells S.the-type S′.the-laws, (mut-slice-tells (named 0) (κs .0) u8, (LL.tells L.the-type L′.the-laws, tt))))
@@ -184,7 +184,7 @@ module _ {M : Type 1} (𝓤 : URA M) (H : Heap 𝓤) (A : Atoms 𝓤) (W : Given
       (walk 𝓤 H A W mem run (κs .0) (qs .0) (a .0) (a .1 .0 .ptr .0) (a .1 .0 .ptr .1) (a .1 .0 .name) (a .1 .0 .now) (a .1 .1 .0) (are .0)
       (are .1 .1 .0) C Λ fm known (are .1 .0 .0 .1)))
 
-act-once-meets : {M : Type 1} (𝓤 : URA M) (H : Heap 𝓤) (A : Atoms 𝓤) → Given 𝓤 H A → (mem : Memory → SProp 𝓤) (run : Routine → Fun 𝓤) (𝓣 : Tables 𝓤 H) → Triple 𝓤 (𝓣 .C #stream·act-on) (ActOn 𝓤 H A mem run)
+act-once-meets : {M : Type 1} (𝓤 : URA M) (H : Heap 𝓤) (A : Atoms 𝓤) → Given 𝓤 H A → (mem : Memory → SProp 𝓤) (run : Routine → Fun 𝓤) (𝓣 : Tables 𝓤 H) → Triple 𝓤 (𝓣 .C #intake·act-on) (ActOn 𝓤 H A mem run)
     → Meets 𝓤 H A act-once.signature (WpFn 𝓤 H (𝓣 .C) (𝓣 .Λ) code.function) (act-once.spec 𝓤 H A mem run)
 act-once-meets 𝓤 H A W mem run 𝓣 known =
     walk-meets 𝓤 H A act-once.ended stayed W
@@ -195,6 +195,6 @@ pub act-once-spec : {M : Type 1} → stated.statement M
 unfolding code.routine tablesOf
 act-once-spec 𝓤 H 𝓜 𝓖 𝓡 =
     entered 𝓤 H (tripleOf 𝓤 H (𝓖 .A) act-once.signature (act-once.spec 𝓤 H (𝓖 .A) (𝓜 .mem) (𝓡 .run)))
-    (tables 𝓤 H 𝓜 𝓡 code.env .C) (tables 𝓤 H 𝓜 𝓡 code.env .Λ) #stream·act-once code.function (code.unfolded 𝓤 H 𝓜 𝓡)
+    (tables 𝓤 H 𝓜 𝓡 code.env .C) (tables 𝓤 H 𝓜 𝓡 code.env .Λ) #intake·act-once code.function (code.unfolded 𝓤 H 𝓜 𝓡)
     (act-once-meets 𝓤 H (𝓖 .A) (givenOf 𝓤 H 𝓜 𝓖) (𝓜 .mem) (𝓡 .run) (tablesOf 𝓤 H 𝓜 (tables 𝓤 H 𝓜 𝓡 code.env))
-    (cited 𝓤 H (ActOn 𝓤 H (𝓖 .A) (𝓜 .mem) (𝓡 .run)) 𝓜 𝓡 code.env #stream·act-on act-on-def.routine code.calls-stream·act-on (act-on-thm.met 𝓤 H 𝓜 𝓖 𝓡)))
+    (cited 𝓤 H (ActOn 𝓤 H (𝓖 .A) (𝓜 .mem) (𝓡 .run)) 𝓜 𝓡 code.env #intake·act-on act-on-def.routine code.calls-intake·act-on (act-on-thm.met 𝓤 H 𝓜 𝓖 𝓡)))

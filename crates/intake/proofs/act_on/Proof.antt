@@ -1,4 +1,4 @@
--- `stream::act_on` meets its contract: a walk of its MIR, by hand. The station's borrow is opened, the station is copied out, the store is given to `act` for good (`gave-slice`), the station of what `act` returned is stored whole, and the borrow is closed at it.
+-- `intake::act_on` meets its contract: a walk of its MIR, by hand. The station's borrow is opened, the station is copied out, the store is given to `act` for good (`gave-slice`), the station of what `act` returned is stored whole, and the borrow is closed at it.
 -- All that the proof knows of `act` is that it meets its contract.
 -- Assumes nothing.
 use mathlib.Core.Path.{_≡_, refl, ap}
@@ -56,15 +56,15 @@ use Rattle.desk.proofs.Request as L
 use Rattle.desk.proofs.Request.Laws as L′
 use Rattle.model.proofs.Outcome as O
 use Rattle.model.proofs.Outcome.Laws as O′
-use Rattle.stream.proofs.Mach.{machS, machL, machN, IsS, IsL, IsN, is-answer, is-station, typedS, typedL, typedN}
+use Rattle.intake.proofs.Mach.{machS, machL, machN, IsS, IsL, IsN, is-answer, is-station, typedS, typedL, typedN}
 use Rattle.desk.proofs.act as act
 use Rattle.desk.proofs.act.Symbol as act-def
 use Rattle.desk.proofs.act.Symbol.{name as #desk·act}
 use Rattle.desk.proofs.act.Met as act-thm
-use Rattle.stream.proofs.act_on.Key.{name as #stream·act-on}
-use Rattle.stream.proofs.act_on as act-on
-use Rattle.stream.proofs.act_on.Statement as stated
-use Rattle.stream.proofs.act_on.Code as code
+use Rattle.intake.proofs.act_on.Key.{name as #intake·act-on}
+use Rattle.intake.proofs.act_on as act-on
+use Rattle.intake.proofs.act_on.Statement as stated
+use Rattle.intake.proofs.act_on.Code as code
 
 abbrev stayed : Stays (act-on.ended .signature .params) (act-on.ended .kept)
 stayed = (stay-ref (0 ∷ []) tt (plain (λ _. S.the-row)), (gave-slice (1 ∷ []) tt (plain (λ _. u8)), (stay-none (λ _. L.the-row) yes, tt)))
@@ -175,6 +175,6 @@ pub act-on-spec : {M : Type 1} → stated.statement M
 unfolding code.routine tablesOf
 act-on-spec 𝓤 H 𝓜 𝓖 𝓡 =
     entered 𝓤 H (tripleOf 𝓤 H (𝓖 .A) act-on.signature (act-on.spec 𝓤 H (𝓖 .A) (𝓜 .mem) (𝓡 .run)))
-    (tables 𝓤 H 𝓜 𝓡 code.env .C) (tables 𝓤 H 𝓜 𝓡 code.env .Λ) #stream·act-on code.function (code.unfolded 𝓤 H 𝓜 𝓡)
+    (tables 𝓤 H 𝓜 𝓡 code.env .C) (tables 𝓤 H 𝓜 𝓡 code.env .Λ) #intake·act-on code.function (code.unfolded 𝓤 H 𝓜 𝓡)
     (act-on-meets 𝓤 H (𝓖 .A) (givenOf 𝓤 H 𝓜 𝓖) (𝓜 .mem) (𝓡 .run) (tablesOf 𝓤 H 𝓜 (tables 𝓤 H 𝓜 𝓡 code.env))
     (cited 𝓤 H (Act 𝓤 H (𝓖 .A) (𝓜 .mem) (𝓡 .run)) 𝓜 𝓡 code.env #desk·act act-def.routine code.calls-desk·act (act-thm.met 𝓤 H 𝓜 𝓖 𝓡)))

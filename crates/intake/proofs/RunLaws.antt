@@ -20,8 +20,8 @@ use Rattle.desk.specs.declared.Request.{Request}
 use Rattle.desk.specs.Acts.{callOf, asksScan, acted, kept}
 use Rattle.desk.proofs.ActLaws.{acted-is, kept-is, acted-tested}
 use Rattle.lines.specs.Lines.{newline}
-use Rattle.stream.specs.Streams.{byteOutput, bytesOutput, lastLine, endOutput}
-use Rattle.stream.specs.Parts.{deskOf, streamOf}
+use Rattle.intake.specs.Intakes.{byteOutput, bytesOutput, lastLine, endOutput}
+use Rattle.intake.specs.Parts.{deskOf, intakeOf}
 
 module _ (l : List ℕ) (st : Station) (s : List ℕ) (n : ℕ) (q : Request) (h : q .command ≡ commandOf (lineCall l)) (o : machine.Outcome) (p : listedOutcome o ≡ acted (listed st) s q) where
   outcome-is : listedOutcome o ≡ outcomeOf (lineEffect (lineCall l) (listed st) s)
@@ -39,8 +39,8 @@ module _ (l : List ℕ) (st : Station) (s : List ℕ) (n : ℕ) (q : Request) (h
   line-tested g t e = e ∙ ap (λ (b : Bool). asksScan (callOf (q .command)) or b) g ∙ sym (acted-tested (listed st) s q) ∙ ap (λ (x : Outcome). sound (x .station)) (sym p)
 
 -- ── the end of the input ──
-pub end-none : (st : Station) (s : List ℕ) (n : ℕ) (p : List ℕ) (len : ℕ) → len ≡ 0 → [] ≡ endOutput (streamOf st s n p len)
-unfolding endOutput streamOf lastLine
+pub end-none : (st : Station) (s : List ℕ) (n : ℕ) (p : List ℕ) (len : ℕ) → len ≡ 0 → [] ≡ endOutput (intakeOf st s n p len)
+unfolding endOutput intakeOf lastLine
 end-none st s n p len h = sym (ap (λ (m : ℕ). lastLine (take m p) (deskOf st s n)) h)
 
 last-line : (l : List ℕ) (k : Desk) → length l ≢ 0 → lineOutput l k ≡ lastLine l k
@@ -48,11 +48,11 @@ unfolding lastLine
 last-line [] k h = absurd (h refl)
 last-line (b ∷ bs) k h = refl
 
-pub end-line : (st : Station) (s : List ℕ) (n : ℕ) (p : List ℕ) (len : ℕ) → len ≢ 0 → len ≤ length p → lineOutput (take len p) (deskOf st s n) ≡ endOutput (streamOf st s n p len)
-unfolding endOutput streamOf
+pub end-line : (st : Station) (s : List ℕ) (n : ℕ) (p : List ℕ) (len : ℕ) → len ≢ 0 → len ≤ length p → lineOutput (take len p) (deskOf st s n) ≡ endOutput (intakeOf st s n p len)
+unfolding endOutput intakeOf
 end-line st s n p len h o = last-line (take len p) (deskOf st s n) (λ e. h (sym (length-take-le len p o) ∙ e))
 
 -- a newline runs the line that has begun
-pub end-newline : (st : Station) (s : List ℕ) (n : ℕ) (p : List ℕ) (len : ℕ) → bytesOutput (newline ∷ []) (streamOf st s n p len) ≡ lineOutput (take len p) (deskOf st s n)
-unfolding bytesOutput byteOutput streamOf
+pub end-newline : (st : Station) (s : List ℕ) (n : ℕ) (p : List ℕ) (len : ℕ) → bytesOutput (newline ∷ []) (intakeOf st s n p len) ≡ lineOutput (take len p) (deskOf st s n)
+unfolding bytesOutput byteOutput intakeOf
 end-newline st s n p len = append-nil _

@@ -12,12 +12,12 @@ use Rattle.model.specs.declared.Station.{Station}
 use Rattle.lines.specs.Lines.{firstLine, newline}
 use Rattle.lines.specs.Kept.{joined, joinedWith}
 use Rattle.sheet.specs.Sheets.{Desk, afterLine, lineOutput}
-use Rattle.stream.specs.Streams.{Stream, afterByte, byteOutput, afterBytes, bytesOutput}
-use Rattle.stream.specs.Parts.{deskOf, streamOf}
+use Rattle.intake.specs.Intakes.{Intake, afterByte, byteOutput, afterBytes, bytesOutput}
+use Rattle.intake.specs.Parts.{deskOf, intakeOf}
 use Rattle.lines.proofs.JoinLaws.{line-none, line-yes, line-no}
 use Rattle.lines.proofs.StopLaws.{rest}
 
-abbrev pub at : Desk → List ℕ → Stream
+abbrev pub at : Desk → List ℕ → Intake
 at k l = record { desk = k; line = l }
 
 -- ── one byte ──
@@ -93,28 +93,28 @@ module _ (a n : ℕ) (xs ys : List ℕ) (o : a ≤ length xs) (p : n ≤ length 
       ∙ drop-append-le n ys _ p ∙ ap (λ (t : List ℕ). drop n ys ++ t) (drop-of-length-le (drop a xs) z) ∙ append-nil (drop n ys)
 
 -- ── a block fed up to a place: what is left of it gives the rest of what it comes to ──
-pub record Passed (input : List ℕ) (done : Stream) (said out₀ : List ℕ) (s : Stream) (from used : ℕ) (out : List ℕ) : Type 0 where
+pub record Passed (input : List ℕ) (done : Intake) (said out₀ : List ℕ) (s : Intake) (from used : ℕ) (out : List ℕ) : Type 0 where
   pub after-is : done ≡ afterBytes (drop from input) s
   pub output-is : said ≡ take used out ++ bytesOutput (drop from input) s
   pub rest-is : drop used out ≡ drop used out₀
 
-pub passed-none : (input out₀ : List ℕ) (s : Stream) (from : ℕ) → Passed input (afterBytes (drop from input) s) (bytesOutput (drop from input) s) out₀ s from 0 out₀
+pub passed-none : (input out₀ : List ℕ) (s : Intake) (from : ℕ) → Passed input (afterBytes (drop from input) s) (bytesOutput (drop from input) s) out₀ s from 0 out₀
 passed-none input out₀ s from = record { after-is = refl; output-is = refl; rest-is = refl }
 
-module _ (input : List ℕ) (done : Stream) (said out₀ : List ℕ) (st : Station) (store : List ℕ) (n : ℕ) (part : List ℕ) (len : ℕ) (from used : ℕ) (out : List ℕ)
-    (h : Passed input done said out₀ (streamOf st store n part len) from used out) where
+module _ (input : List ℕ) (done : Intake) (said out₀ : List ℕ) (st : Station) (store : List ℕ) (n : ℕ) (part : List ℕ) (len : ℕ) (from used : ℕ) (out : List ℕ)
+    (h : Passed input done said out₀ (intakeOf st store n part len) from used out) where
   -- the block has no byte left
-  pub passed-all : length input ≤ from → (streamOf st store n part len ≡ done) × (take used out ≡ said)
+  pub passed-all : length input ≤ from → (intakeOf st store n part len ≡ done) × (take used out ≡ said)
   unfolding afterBytes bytesOutput
   passed-all o = (
-    sym (h .after-is ∙ ap (λ (bs : List ℕ). afterBytes bs (streamOf st store n part len)) (drop-of-length-le input o)),
-    sym (h .output-is ∙ ap (λ (bs : List ℕ). take used out ++ bytesOutput bs (streamOf st store n part len)) (drop-of-length-le input o) ∙ append-nil (take used out)),
+    sym (h .after-is ∙ ap (λ (bs : List ℕ). afterBytes bs (intakeOf st store n part len)) (drop-of-length-le input o)),
+    sym (h .output-is ∙ ap (λ (bs : List ℕ). take used out ++ bytesOutput bs (intakeOf st store n part len)) (drop-of-length-le input o) ∙ append-nil (take used out)),
   )
 
   -- the bytes up to a newline, or to the block's end, joined the line
   pub passed-fill : (part′ : List ℕ) (len′ end : ℕ) → end ≡ from + length (firstLine (drop from input)) → take len′ part′ ≡ joinedWith (take len part) (firstLine (drop from input))
-      → Passed input done said out₀ (streamOf st store n part′ len′) end used out
-  unfolding streamOf
+      → Passed input done said out₀ (intakeOf st store n part′ len′) end used out
+  unfolding intakeOf
   passed-fill part′ len′ end e j =
       record {
         after-is = h .after-is ∙ to-after input from end e (deskOf st store n) (take len part) (take len′ part′) j;
@@ -127,8 +127,8 @@ module _ (input : List ℕ) (done : Stream) (said out₀ : List ℕ) (st : Stati
       → deskOf st′ store′ (n + 1) ≡ afterLine (take len part) (deskOf st store n)
       → take m last ≡ lineOutput (take len part) (deskOf st store n)
       → drop m last ≡ drop m (take (length out - used) (drop used out))
-      → Passed input done said out₀ (streamOf st′ store′ (n + 1) part 0) (from + 1) (used + m) (putMid used (length out - used) out last)
-  unfolding streamOf
+      → Passed input done said out₀ (intakeOf st′ store′ (n + 1) part 0) (from + 1) (used + m) (putMid used (length out - used) out last)
+  unfolding intakeOf
   passed-line e st′ store′ last m u v w d t r =
       let k : take (length out - used) (drop used out) ≡ drop used out = take-all (length out - used) (drop used out) (simp length-drop (omega arith)) in
       record {
@@ -144,8 +144,8 @@ module _ (input : List ℕ) (done : Stream) (said out₀ : List ℕ) (st : Stati
 -- the line that had begun, filled from the block's start
 pub first-fill : (input : List ℕ) (st : Station) (store : List ℕ) (n : ℕ) (part : List ℕ) (len : ℕ) (part′ : List ℕ) (len′ end : ℕ)
     → end ≡ 0 + length (firstLine input) → take len′ part′ ≡ joinedWith (take len part) (firstLine input)
-    → (afterBytes (drop end input) (streamOf st store n part′ len′) ≡ afterBytes input (streamOf st store n part len))
-    × (bytesOutput (drop end input) (streamOf st store n part′ len′) ≡ bytesOutput input (streamOf st store n part len))
+    → (afterBytes (drop end input) (intakeOf st store n part′ len′) ≡ afterBytes input (intakeOf st store n part len))
+    × (bytesOutput (drop end input) (intakeOf st store n part′ len′) ≡ bytesOutput input (intakeOf st store n part len))
 first-fill input st store n part len part′ len′ end e j =
-    let p = passed-fill input _ _ [] st store n part len 0 0 [] (passed-none input [] (streamOf st store n part len) 0) part′ len′ end e j in
+    let p = passed-fill input _ _ [] st store n part len 0 0 [] (passed-none input [] (intakeOf st store n part len) 0) part′ len′ end e j in
     (sym (p .after-is), sym (p .output-is))

@@ -1,10 +1,10 @@
--- `stream::finish` meets its contract.
+-- `intake::finish` meets its contract.
 use mathlib.Core.Path.{refl, _∙_}
 use borrow.Author.Needs.{needs}
 use native.Mathlib.Omega.{arith}
-use Rattle.stream.proofs.RunLaws.{end-none, end-line, end-newline}
-use Rattle.stream.proofs.finish.Statement.{statement}
-use Rattle.stream.proofs.finish.Tie as tie
+use Rattle.intake.proofs.RunLaws.{end-none, end-line, end-newline}
+use Rattle.intake.proofs.finish.Statement.{statement}
+use Rattle.intake.proofs.finish.Tie as tie
 
 returns : tie.Need-returns
 returns c =

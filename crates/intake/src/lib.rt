@@ -1,4 +1,4 @@
-// The run sheet as a stream: blocks of input, cut anywhere, run line by line.
+// The run sheet as it comes in: blocks of input, cut anywhere, run line by line.
 use calls::Answer;
 use calls::Outcome;
 use calls::Station;
@@ -18,8 +18,8 @@ ghost use Rattle.lines.specs.Lines.{firstLine};
 ghost use Rattle.lines.specs.Kept.{joined, joinedWith};
 ghost use Rattle.sheet.specs.Sheets.{afterLine, lineOutput};
 ghost use Rattle.desk.specs.Acts.{acted, kept};
-ghost use Rattle.stream.specs.Streams.{afterBytes, bytesOutput, endOutput};
-ghost use Rattle.stream.specs.Parts.{deskOf, streamOf};
+ghost use Rattle.intake.specs.Intakes.{afterBytes, bytesOutput, endOutput};
+ghost use Rattle.intake.specs.Parts.{deskOf, intakeOf};
 
 // The station after a line, what the soundness test says of it, and the bytes of the line's output.
 struct Ran {
@@ -96,7 +96,7 @@ fn run_lines(
     out: &mut [u8],
 ) -> Fed
     requires { ⌜ (length (now part) ≡ 65) × (len ≤ 65) × (number + length (now input) < 2 ^ 64) × (96 * length (now input) ≤ length (now out)) × (tested ≡ sound (listed station)) ⌝ }
-    ensures { λ r. ⌜ (streamOf (r .station) (now (store .exit)) (r .number) (now (part .exit)) (r .len) ≡ afterBytes (now (input .entry)) (streamOf station (now (store .entry)) number (now (part .entry)) len)) × (take (r .used) (now (out .exit)) ≡ bytesOutput (now (input .entry)) (streamOf station (now (store .entry)) number (now (part .entry)) len)) × (drop (r .used) (now (out .exit)) ≡ drop (r .used) (now (out .entry))) × (r .used ≤ 96 * length (now (input .entry))) × (r .len ≤ 65) × (r .number ≤ number + length (now (input .entry))) ⌝ }
+    ensures { λ r. ⌜ (intakeOf (r .station) (now (store .exit)) (r .number) (now (part .exit)) (r .len) ≡ afterBytes (now (input .entry)) (intakeOf station (now (store .entry)) number (now (part .entry)) len)) × (take (r .used) (now (out .exit)) ≡ bytesOutput (now (input .entry)) (intakeOf station (now (store .entry)) number (now (part .entry)) len)) × (drop (r .used) (now (out .exit)) ≡ drop (r .used) (now (out .entry))) × (r .used ≤ 96 * length (now (input .entry))) × (r .len ≤ 65) × (r .number ≤ number + length (now (input .entry))) ⌝ }
 {
     let mut known = tested;
     let mut s = station;
@@ -136,7 +136,7 @@ pub fn run_block(
     out: &mut [u8],
 ) -> Fed
     requires { ⌜ (length (now part) ≡ 65) × (len ≤ 65) × (number + length (now input) < 2 ^ 64) × (96 * length (now input) ≤ length (now out)) ⌝ }
-    ensures { λ r. ⌜ (streamOf (r .station) (now (store .exit)) (r .number) (now (part .exit)) (r .len) ≡ afterBytes (now (input .entry)) (streamOf station (now (store .entry)) number (now (part .entry)) len)) × (take (r .used) (now (out .exit)) ≡ bytesOutput (now (input .entry)) (streamOf station (now (store .entry)) number (now (part .entry)) len)) × (drop (r .used) (now (out .exit)) ≡ drop (r .used) (now (out .entry))) × (r .used ≤ 96 * length (now (input .entry))) × (r .len ≤ 65) × (r .number ≤ number + length (now (input .entry))) ⌝ }
+    ensures { λ r. ⌜ (intakeOf (r .station) (now (store .exit)) (r .number) (now (part .exit)) (r .len) ≡ afterBytes (now (input .entry)) (intakeOf station (now (store .entry)) number (now (part .entry)) len)) × (take (r .used) (now (out .exit)) ≡ bytesOutput (now (input .entry)) (intakeOf station (now (store .entry)) number (now (part .entry)) len)) × (drop (r .used) (now (out .exit)) ≡ drop (r .used) (now (out .entry))) × (r .used ≤ 96 * length (now (input .entry))) × (r .len ≤ 65) × (r .number ≤ number + length (now (input .entry))) ⌝ }
 {
     let tested = is_sound(station);
     run_lines(station, tested, store, part, len, number, input, out)
@@ -152,7 +152,7 @@ pub fn finish(
     out: &mut [u8],
 ) -> usize
     requires { ⌜ (length (now part) ≡ 65) × (len ≤ 65) × (number + 1 < 2 ^ 64) × (96 ≤ length (now out)) ⌝ }
-    ensures { λ r. ⌜ (r ≤ 96) × (take r (now (out .exit)) ≡ endOutput (streamOf station (now (store .entry)) number (now (part .entry)) len)) × (drop r (now (out .exit)) ≡ drop r (now (out .entry))) ⌝ }
+    ensures { λ r. ⌜ (r ≤ 96) × (take r (now (out .exit)) ≡ endOutput (intakeOf station (now (store .entry)) number (now (part .entry)) len)) × (drop r (now (out .exit)) ≡ drop r (now (out .entry))) ⌝ }
 {
     if len == 0 {
         return 0;

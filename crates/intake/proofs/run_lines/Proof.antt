@@ -1,4 +1,4 @@
--- `stream::run_lines` meets its contract.
+-- `intake::run_lines` meets its contract.
 use Prim.Native.Nat.{_+_, _*_, _-_, _≤_, _<_}
 use mathlib.Core.Path.{_≡_, refl, sym, _∙_}
 use mathlib.Core.List.{_∷_}
@@ -10,18 +10,18 @@ use native.Mathlib.Omega.{arith}
 use Rattle.model.specs.Listed.{listed}
 use Rattle.model.specs.Sound.{sound}
 use Rattle.lines.specs.Lines.{newline}
-use Rattle.stream.specs.Streams.{afterBytes, bytesOutput}
-use Rattle.stream.specs.Parts.{streamOf}
+use Rattle.intake.specs.Intakes.{afterBytes, bytesOutput}
+use Rattle.intake.specs.Parts.{intakeOf}
 use Rattle.lines.proofs.JoinLaws.{line-within}
 use Rattle.lines.proofs.StopLaws.{stops}
-use Rattle.stream.proofs.BlockLaws.{Passed, passed-none, passed-all, passed-fill, passed-line, first-fill}
-use Rattle.stream.proofs.run_lines.Statement.{statement}
-use Rattle.stream.proofs.run_lines.Tie as tie
+use Rattle.intake.proofs.BlockLaws.{Passed, passed-none, passed-all, passed-fill, passed-line, first-fill}
+use Rattle.intake.proofs.run_lines.Statement.{statement}
+use Rattle.intake.proofs.run_lines.Tie as tie
 
 abbrev Inv-loop : tie.InvT-loop
 Inv-loop tested store₀ part₀ len number input out₀ known₀ s₀ next₀ used₀ n₀ end₀ store part out known s next used n end =
     (end ≤ length input) × (n ≤ 65) × (used ≤ 96 * end) × (next ≤ number + end) × (length part ≡ 65) × (length out ≡ length out₀) × (length store ≡ length store₀)
-    × Passed input (afterBytes (drop end₀ input) (streamOf s₀ store₀ next₀ part₀ n₀)) (bytesOutput (drop end₀ input) (streamOf s₀ store₀ next₀ part₀ n₀)) out₀ (streamOf s store next part n) end used out
+    × Passed input (afterBytes (drop end₀ input) (intakeOf s₀ store₀ next₀ part₀ n₀)) (bytesOutput (drop end₀ input) (intakeOf s₀ store₀ next₀ part₀ n₀)) out₀ (intakeOf s store next part n) end used out
     × (end < length input → drop end input ≡ newline ∷ drop (end + 1) input) × (known ≡ sound (listed s))
 
 abbrev μ-loop : tie.MeasureT-loop

@@ -16,11 +16,11 @@ use Rattle.lines.specs.Lines.{firstLine, newline, otherLines}
 use Rattle.sheet.specs.Words.{header}
 use Rattle.sheet.specs.Lines.{lineCall}
 use Rattle.sheet.specs.Sheets.{Desk, newDesk, afterLine, lineOutput, linesOutput, sheetOf}
-use Rattle.stream.specs.Streams.{Stream, newStream, afterByte, byteOutput, afterBytes, bytesOutput, lastLine, endOutput, readsOutput, outputOfReads}
-use Rattle.stream.specs.Parts.{deskOf, streamOf}
+use Rattle.intake.specs.Intakes.{Intake, newIntake, afterByte, byteOutput, afterBytes, bytesOutput, lastLine, endOutput, readsOutput, outputOfReads}
+use Rattle.intake.specs.Parts.{deskOf, intakeOf}
 use Rattle.lines.proofs.KeptLaws.{kept-says, kept-joined}
 use Rattle.lines.proofs.PlainLaws.{Plain, plain-joined, first-plain, others-plain, first-last, others-last}
-use Rattle.stream.proofs.BlockLaws.{at, newline-after, newline-output, byte-after, byte-output}
+use Rattle.intake.proofs.BlockLaws.{at, newline-after, newline-output, byte-after, byte-output}
 
 -- ── a longer line is malformed by its first 65 bytes ──
 long-malformed : (l : List ℕ) → 64 < length l → lineCall l ≡ none
@@ -59,14 +59,14 @@ end-lines (b ∷ bs) k (suc n) h o =
     ∙ sym (lines-more n (b ∷ bs) (b ∷ bs) [] k (omega arith) (first-last (b ∷ bs) h) (others-last (b ∷ bs) h))
 
 -- ── all of an input: its bytes, then its end ──
-unfoldable whole : List ℕ → Stream → List ℕ
+unfoldable whole : List ℕ → Intake → List ℕ
 whole bs s = bytesOutput bs s ++ endOutput (afterBytes bs s)
 
-whole-cons : (b : ℕ) (bs : List ℕ) (s : Stream) → whole (b ∷ bs) s ≡ byteOutput b s ++ whole bs (afterByte b s)
+whole-cons : (b : ℕ) (bs : List ℕ) (s : Intake) → whole (b ∷ bs) s ≡ byteOutput b s ++ whole bs (afterByte b s)
 unfolding whole bytesOutput afterBytes
 whole-cons b bs s = append-assoc (byteOutput b s) (bytesOutput bs (afterByte b s)) (endOutput (afterBytes bs (afterByte b s)))
 
-whole-append : (x y : List ℕ) (s : Stream) → whole (x ++ y) s ≡ bytesOutput x s ++ whole y (afterBytes x s)
+whole-append : (x y : List ℕ) (s : Intake) → whole (x ++ y) s ≡ bytesOutput x s ++ whole y (afterBytes x s)
 unfolding bytesOutput afterBytes
 whole-append [] y s = refl
 whole-append (b ∷ x) y s = whole-cons b (x ++ y) s ∙ ap (λ (w : List ℕ). byteOutput b s ++ w) (whole-append x y (afterByte b s))
@@ -93,20 +93,20 @@ whole-lines (b ∷ bs) p k (suc n) h o = whole-cons b bs (at k (take 65 p)) ∙ 
         ∙ ap (λ (l : List ℕ). linesOutput (suc n) l k) (append-assoc p (b ∷ []) bs)
 
 -- ── reads ──
-reads-whole : (rs : List (List ℕ)) (s : Stream) → readsOutput rs s ≡ whole (flatten rs) s
+reads-whole : (rs : List (List ℕ)) (s : Intake) → readsOutput rs s ≡ whole (flatten rs) s
 unfolding readsOutput flatten
 reads-whole [] s = unfold whole bytesOutput afterBytes in refl
 reads-whole (r ∷ rs) s = ap (λ (w : List ℕ). bytesOutput r s ++ w) (reads-whole rs (afterBytes r s)) ∙ sym (whole-append r (flatten rs) s)
 
 -- the program's first state, whatever the bytes of the part that keeps a line
-pub starts-new : (st : Station) (part : List ℕ) → listed st ≡ (emptyStation narrowKind) → streamOf st (replicate (storeSize narrowKind) 0) 1 part 0 ≡ newStream
-unfolding streamOf deskOf newStream newDesk
+pub starts-new : (st : Station) (part : List ℕ) → listed st ≡ (emptyStation narrowKind) → intakeOf st (replicate (storeSize narrowKind) 0) 1 part 0 ≡ newIntake
+unfolding intakeOf deskOf newIntake newDesk
 starts-new st part e = λ i. record { desk = record { station = e i; store = replicate (storeSize narrowKind) 0; line = 1 }; line = [] }
 
 -- 01: the program "reads standard input .. and writes one line per line read": however the input is cut into reads, what is written is the sheet of its bytes
 pub reads-do-not-matter : (rs : List (List ℕ)) → outputOfReads rs ≡ sheetOf (flatten rs)
-unfolding outputOfReads sheetOf newStream
-reads-do-not-matter rs = ap (λ (w : List ℕ). header ++ w) (reads-whole rs newStream ∙ whole-lines (flatten rs) [] newDesk (length (flatten rs)) tt (omega arith))
+unfolding outputOfReads sheetOf newIntake
+reads-do-not-matter rs = ap (λ (w : List ℕ). header ++ w) (reads-whole rs newIntake ∙ whole-lines (flatten rs) [] newDesk (length (flatten rs)) tt (omega arith))
 
 pub same-bytes-same-output : (rs rs′ : List (List ℕ)) → flatten rs ≡ flatten rs′ → outputOfReads rs ≡ outputOfReads rs′
 same-bytes-same-output rs rs′ h = reads-do-not-matter rs ∙ ap sheetOf h ∙ sym (reads-do-not-matter rs′)

@@ -1,0 +1,2 @@
+pub mod Intakes
+pub mod Parts
