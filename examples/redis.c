@@ -33,9 +33,9 @@ int main(void) {
     for (size_t i = 0; i < len; i++)
         if (stream[i] != '\r') putchar(stream[i]);
 
-    /* half a stream is none, and the other store is not touched */
-    r = imported(len / 2);
-    printf("half of it: refused,%llu\n", (unsigned long long)r.a);
+    /* a stream that lost a byte is none, and the other store is not touched */
+    r = imported(len - 1);
+    printf("without its last byte: refused,%llu\n", (unsigned long long)r.a);
 
     r = imported(len);
     printf("imported, %llu transactions\n", (unsigned long long)r.a);

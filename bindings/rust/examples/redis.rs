@@ -19,10 +19,10 @@ fn main() {
     println!("exported, {} bytes:", stream.len());
     print!("{}", String::from_utf8_lossy(&stream).replace('\r', ""));
 
-    // half a stream is none, and the other store is not touched
+    // a stream that lost a byte is none, and the other store is not touched
     let mut store = Box::new([0; STORE]);
-    if let Err(Answer::Refused { number, .. }) = import(&stream[..stream.len() / 2], &mut store[..]) {
-        println!("half of it: refused,{number}");
+    if let Err(Answer::Refused { number, .. }) = import(&stream[..stream.len() - 1], &mut store[..]) {
+        println!("without its last byte: refused,{number}");
     }
     let count = import(&stream, &mut store[..]).expect("it is a stream");
     println!("imported, {count} transactions");
