@@ -3,15 +3,14 @@ use Prim.Native.Nat.{ℕ}
 use mathlib.Core.Path.{_≡_, refl}
 use mathlib.Core.List.{List, [], _∷_, map}
 use lib.ListN.{length, replicate}
-use Rattle.model.specs.Lists.{_and_, _or_, all, any, member, same, ascending, first, count, from, padded}
+use Rattle.model.specs.Lists.{_and_, _or_, all, same, ascending, first, from, padded}
 use Rattle.model.specs.Kinds.{narrowKind, slotStart}
 use Rattle.model.specs.Ids.{older, sameId}
 use Rattle.model.specs.Bytes.{bytes, number, headBytes, idIn}
 use Rattle.model.specs.Entries.{commitRecord, markIn, entryIn, carriesKeys, commitRules, entryRules}
-use Rattle.model.specs.Records.{versionRecord, valueIn, carriesVersion, zeroRecord, recordAt}
+use Rattle.model.specs.Records.{versionRecord, valueIn, carriesVersion, recordAt}
 use Rattle.model.specs.Slots.{versionsCarry, judged, seen}
 use Rattle.model.specs.Scan.{slotsSeen}
-use Rattle.resp.specs.Streams.{Transaction}
 use Rattle.resp.specs.Exports.{writesAt, transactionAt, transactionsFrom, inserted, byAge, committedSet}
 use Rattle.resp.specs.Imports.{entryOf, versionRecords, slotOf, slotsDown, filled}
 use Rattle.resp.proofs.BenchStreams.{first-two}

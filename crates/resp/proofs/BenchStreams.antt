@@ -4,7 +4,6 @@ use mathlib.Core.Path.{_≡_, refl}
 use mathlib.Core.List.{List, [], _∷_, _++_, map}
 use mathlib.Core.Option.{Option, some, none}
 use lib.ListN.{length}
-use Rattle.model.specs.Types.{Write}
 use Rattle.model.specs.Lists.{_and_, _or_, all, any, member, distinct}
 use Rattle.model.specs.Ids.{older, sameId}
 use Rattle.decimal.specs.Digits.{digitsOf, digits, isDigit, numberFrom, isDecimal, numberBelow}
@@ -13,7 +12,7 @@ use Rattle.resp.specs.Streams.{Transaction, lineEnd, bulk, setBegins, se
 use Rattle.resp.specs.Inverse.{_then_, after, bulkOf, bulkIn, idFrom, idIn, nameIn, valued, versionIn, closed, goesOn, onward, versionsFrom, transactionIn, sequenceFrom, sequenceIn, transactionsIn}
 use Rattle.resp.specs.declared.Transfer.{Transfer}
 use Rattle.resp.specs.declared.Transfer.the-variants.{Done, Refused}
-use Rattle.resp.specs.Imports.{Import, taken}
+use Rattle.resp.specs.Imports.{taken}
 
 -- `*3`, `$3`, `SET` and `$`, each but the last ended by its line's end
 abbrev sets : List ℕ → List ℕ

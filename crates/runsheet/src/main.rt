@@ -3,13 +3,13 @@
 // What was read is answered and written before more is read. The memory is the same for an input of any length.
 use calls::Station;
 use calls::scan;
+use intake::finish;
+use intake::run_block;
 use libc::STDERR_FILENO;
 use libc::STDIN_FILENO;
 use libc::STDOUT_FILENO;
 use lines::KEPT;
 use sheet::print_header;
-use intake::finish;
-use intake::run_block;
 ghost use mathlib.Core.Path.{_≡_};
 ghost use Prim.Native.Nat.{_+_, _^_, _≤_, _<_};
 ghost use lib.ListN.{length};
