@@ -15,9 +15,9 @@ use records::value_in;
 use recovery::scan_of;
 use resp::ID_TEXT;
 use resp::Transfer;
-use resp::write_commit;
+use resp::write_commit_command;
 use resp::write_id;
-use resp::write_version;
+use resp::write_version_command;
 ghost use mathlib.Core.Path.{_≡_};
 ghost use Prim.Native.Nat.{_+_, _*_, _≤_, _<_};
 ghost use lib.ListN.{length, getD};
@@ -46,7 +46,7 @@ fn write_versions(out: &mut [u8], start: usize, slot: &[u8], id: &[u8], e: Entry
         let key = lowest_key(rest);
         let place = Station::RECORD * n;
         let value = value_in(&slot[place..place + Station::RECORD]);
-        at = write_version(out, at, key, id, value);
+        at = write_version_command(out, at, key, id, value);
         rest = without_lowest(rest);
         n += 1;
     }
@@ -62,7 +62,7 @@ fn write_transaction(out: &mut [u8], start: usize, slot: &[u8], e: Entry) -> usi
     let mut text = [0u8; ID_TEXT];
     let size = write_id(&mut text, id);
     let at = write_versions(out, start, slot, &text[..size], e);
-    write_commit(out, at, &text[..size], e.keys)
+    write_commit_command(out, at, &text[..size], e.keys)
 }
 
 // The transactions of the first n slots, from the last to the first; the length of their stream.

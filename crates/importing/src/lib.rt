@@ -9,6 +9,8 @@ use model::same_id;
 use reading::is_older;
 use records::clear;
 use records::copy;
+use records::write_commit;
+use records::write_version;
 use recovery::has_txn;
 use resp::COMMAND;
 use resp::ID_TEXT;
@@ -16,6 +18,7 @@ use resp::Transfer;
 use resp::VersionRead;
 use resp::begins;
 use resp::version_in;
+use resp::write_commit_command;
 use resp::write_id;
 ghost use mathlib.Core.Path.{_≡_};
 ghost use Prim.Native.Nat.{_≤_, _<_};
@@ -67,7 +70,7 @@ fn versions_in(s: &[u8], slot: &mut [u8]) -> Versions
     let VersionRead::Of(key, id, value, size) = first else {
         return Versions::Other;
     };
-    records::write_version(
+    write_version(
         &mut slot[Station::RECORD..Station::RECORD + Station::RECORD],
         key,
         id,
@@ -87,7 +90,7 @@ fn versions_in(s: &[u8], slot: &mut [u8]) -> Versions
         }
         n += 1;
         let place = Station::RECORD * n;
-        records::write_version(&mut slot[place..place + Station::RECORD], k, id, v);
+        write_version(&mut slot[place..place + Station::RECORD], k, id, v);
         keys = with_key(keys, k);
         last = k;
         at += more;
@@ -104,7 +107,7 @@ fn commit_size(s: &[u8], e: Entry) -> usize
     let mut text = [0u8; ID_TEXT];
     let size = write_id(&mut text, id);
     let mut command = [0u8; COMMAND];
-    let end = resp::write_commit(&mut command, 0, &text[..size], e.keys);
+    let end = write_commit_command(&mut command, 0, &text[..size], e.keys);
     if begins(s, &command[..end]) {
         return end;
     }
@@ -124,7 +127,7 @@ fn transaction_in(s: &[u8], slot: &mut [u8]) -> Taken
     if size == 0 {
         return Taken::Other;
     }
-    records::write_commit(Kind::Narrow, &mut slot[0..Station::RECORD], e);
+    write_commit(Kind::Narrow, &mut slot[0..Station::RECORD], e);
     clear(
         slot,
         Station::RECORD * (u64::count_ones(e.keys) as usize + 1),

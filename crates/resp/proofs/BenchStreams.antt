@@ -9,7 +9,7 @@ use Rattle.model.specs.Ids.{older, sameId}
 use Rattle.decimal.specs.Digits.{digitsOf, digits, isDigit, numberFrom, isDecimal, numberBelow}
 use Rattle.decimal.specs.Fields.{field, afterField}
 use Rattle.resp.specs.Streams.{Transaction, lineEnd, bulk, setBegins, setCommand, idText, versionName, versionCommand, commitName, keysAfter, keysText, commitCommand, versionsText, transactionText, streamOf, oldestFirst, noneTwice}
-use Rattle.resp.specs.Inverse.{_then_, after, bulkOf, bulkIn, idFrom, idIn, nameIn, valued, versionIn, closed, goesOn, onward, versionsFrom, transactionIn, sequenceFrom, sequenceIn, transactionsIn}
+use Rattle.resp.specs.Inverse.{_then_, after, bulkOf, bulkIn, idFrom, idTextIn, nameIn, valued, versionIn, closed, goesOn, onward, versionsFrom, transactionIn, sequenceFrom, sequenceIn, transactionsIn}
 use Rattle.resp.specs.declared.Transfer.{Transfer}
 use Rattle.resp.specs.declared.Transfer.the-variants.{Done, Refused}
 use Rattle.resp.specs.Imports.{taken}
@@ -68,7 +68,7 @@ count (some xs) = length xs
 
 -- The claim: each is taken so.
 pub streams-hold : map (λ (x : List ℕ × ℕ). count (transactionsIn (x .0))) streams ≡ map (λ (x : List ℕ × ℕ). x .1) streams
-unfolding streams count transactionsIn sequenceIn sequenceFrom transactionIn versionsFrom onward goesOn closed versionIn valued nameIn idIn idFrom bulkIn bulkOf _then_ after oldestFirst noneTwice distinct older sameId commitCommand setCommand setBegins bulk lineEnd commitName idText keysText keysAfter digits digitsOf field afterField numberBelow isDecimal numberFrom isDigit all any member _and_ _or_
+unfolding streams count transactionsIn sequenceIn sequenceFrom transactionIn versionsFrom onward goesOn closed versionIn valued nameIn idTextIn idFrom bulkIn bulkOf _then_ after oldestFirst noneTwice distinct older sameId commitCommand setCommand setBegins bulk lineEnd commitName idText keysText keysAfter digits digitsOf field afterField numberBelow isDecimal numberFrom isDigit all any member _and_ _or_
 streams-hold = refl
 
 -- the stream of two transactions, byte for byte
@@ -90,14 +90,14 @@ pub said : List ℕ → Transfer
 said bs = taken (transactionsIn bs) [] .answer
 
 pub sixty-four : said (streamOf (several 64 1)) ≡ Done 64
-unfolding said several taken streamOf transactionText versionsText versionCommand versionName transactionsIn sequenceIn sequenceFrom transactionIn versionsFrom onward goesOn closed versionIn valued nameIn idIn idFrom bulkIn bulkOf _then_ after oldestFirst noneTwice distinct older sameId commitCommand setCommand setBegins bulk lineEnd commitName idText keysText keysAfter digits digitsOf field afterField numberBelow isDecimal numberFrom isDigit all any member _and_ _or_
+unfolding said several taken streamOf transactionText versionsText versionCommand versionName transactionsIn sequenceIn sequenceFrom transactionIn versionsFrom onward goesOn closed versionIn valued nameIn idTextIn idFrom bulkIn bulkOf _then_ after oldestFirst noneTwice distinct older sameId commitCommand setCommand setBegins bulk lineEnd commitName idText keysText keysAfter digits digitsOf field afterField numberBelow isDecimal numberFrom isDigit all any member _and_ _or_
 sixty-four = refl
 
 pub sixty-five : said (streamOf (several 65 1)) ≡ Refused 13 0
-unfolding said several taken streamOf transactionText versionsText versionCommand versionName transactionsIn sequenceIn sequenceFrom transactionIn versionsFrom onward goesOn closed versionIn valued nameIn idIn idFrom bulkIn bulkOf _then_ after oldestFirst noneTwice distinct older sameId commitCommand setCommand setBegins bulk lineEnd commitName idText keysText keysAfter digits digitsOf field afterField numberBelow isDecimal numberFrom isDigit all any member _and_ _or_
+unfolding said several taken streamOf transactionText versionsText versionCommand versionName transactionsIn sequenceIn sequenceFrom transactionIn versionsFrom onward goesOn closed versionIn valued nameIn idTextIn idFrom bulkIn bulkOf _then_ after oldestFirst noneTwice distinct older sameId commitCommand setCommand setBegins bulk lineEnd commitName idText keysText keysAfter digits digitsOf field afterField numberBelow isDecimal numberFrom isDigit all any member _and_ _or_
 sixty-five = refl
 
 -- one bad byte after 65 good ones; a ticket of the first 64 again as the 66th
 pub sixty-five-and-a-byte : said (streamOf (several 65 1) ++ (42 ∷ [])) ≡ Refused 27 0
-unfolding said several taken streamOf transactionText versionsText versionCommand versionName transactionsIn sequenceIn sequenceFrom transactionIn versionsFrom onward goesOn closed versionIn valued nameIn idIn idFrom bulkIn bulkOf _then_ after oldestFirst noneTwice distinct older sameId commitCommand setCommand setBegins bulk lineEnd commitName idText keysText keysAfter digits digitsOf field afterField numberBelow isDecimal numberFrom isDigit all any member _and_ _or_
+unfolding said several taken streamOf transactionText versionsText versionCommand versionName transactionsIn sequenceIn sequenceFrom transactionIn versionsFrom onward goesOn closed versionIn valued nameIn idTextIn idFrom bulkIn bulkOf _then_ after oldestFirst noneTwice distinct older sameId commitCommand setCommand setBegins bulk lineEnd commitName idText keysText keysAfter digits digitsOf field afterField numberBelow isDecimal numberFrom isDigit all any member _and_ _or_
 sixty-five-and-a-byte = refl

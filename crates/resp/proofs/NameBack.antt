@@ -18,7 +18,7 @@ use Rattle.decimal.proofs.ReadLaws.{read-below}
 use Rattle.decimal.proofs.DigitLaws.{count-below}
 use Rattle.decimal.proofs.RoundTrip.{read-digits, field-digits}
 use Rattle.resp.specs.Streams.{slash, idText, versionName, commitName}
-use Rattle.resp.specs.Inverse.{after, idFrom, idIn, Name, nameIn}
+use Rattle.resp.specs.Inverse.{after, idFrom, idTextIn, Name, nameIn}
 use Rattle.resp.proofs.ThenLaws.{then-some, then-none, then-read}
 use Rattle.resp.proofs.RestLaws.{after-own, after-is, after-digits, number-is, number-rest}
 
@@ -42,8 +42,8 @@ from-back : (i : Id) → IdNamed i → idFrom (i .clock) (i .txn) ≡ some i
 unfolding idFrom _and_
 from-back i h = rw (le-leb 1 (i .clock) (h .clock-from), le-leb 1 (i .txn) (h .txn-from))
 
-pub id-back : (i : Id) → IdNamed i → idIn (idText i) ≡ some i
-unfolding idIn idText
+pub id-back : (i : Id) → IdNamed i → idTextIn (idText i) ≡ some i
+unfolding idTextIn idText
 id-back i h =
     then-some _ _ (i .clock) (slashed numberRange (i .clock) _ (h .clock64))
     ∙ then-some _ _ (digits (i .txn)) (after-digits slash slash-no-digit (i .clock) _)
@@ -89,8 +89,8 @@ from-is c t i h = go (leb 1 c and leb 1 t) refl
     go true e = (leb-true 1 c (and-left _ _ e), leb-true 1 t (and-right _ _ e), Option·some-injective _ i (rw e at h))
     go false e = absurd (Option·none-ne-some i (rw e at h))
 
-pub id-is : (bs : List ℕ) (i : Id) → idIn bs ≡ some i → IdBytes bs i
-unfolding idIn idText
+pub id-is : (bs : List ℕ) (i : Id) → idTextIn bs ≡ some i → IdBytes bs i
+unfolding idTextIn idText
 id-is bs i h =
     then-read _ _ i h λ c ec h₁. then-read _ _ i h₁ λ a ea h₂. then-read _ _ i h₂ λ t et h₃.
     found c a t (number-rest slash numberRange bs c a ec ea) (number-is txnRange a t et) (read-below numberRange _ c ec) (read-below txnRange a t et) (from-is c t i h₃)

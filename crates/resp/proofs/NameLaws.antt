@@ -23,7 +23,7 @@ use Rattle.resp.specs.declared.IdRead.the-variants as IdRead
 use Rattle.resp.specs.declared.NameRead.{NameRead}
 use Rattle.resp.specs.declared.NameRead.the-variants as NameRead
 use Rattle.resp.specs.Streams.{slash}
-use Rattle.resp.specs.Inverse.{_then_, after, idFrom, idIn, nameIn}
+use Rattle.resp.specs.Inverse.{_then_, after, idFrom, idTextIn, nameIn}
 use Rattle.resp.specs.Parts.{idRead, nameRead}
 use Rattle.resp.proofs.ThenLaws.{then-some, then-none}
 use Rattle.resp.proofs.NameBack.{slash-no-digit}
@@ -39,58 +39,58 @@ id-not : (c t : ℕ) → (leb 1 c and leb 1 t) ≡ false → idFrom c t ≡ none
 unfolding idFrom
 id-not c t h = rw h
 
-clockless : (bs : List ℕ) → numberBelow numberRange (field slash bs) ≡ none → idIn bs ≡ none
-unfolding idIn _then_
+clockless : (bs : List ℕ) → numberBelow numberRange (field slash bs) ≡ none → idTextIn bs ≡ none
+unfolding idTextIn _then_
 clockless bs h = rw h
 
 module _ (bs : List ℕ) (c : ℕ) (h : numberBelow numberRange (field slash bs) ≡ some c) where
-  alone : afterField slash bs ≡ none → idIn bs ≡ none
-  unfolding idIn _then_
+  alone : afterField slash bs ≡ none → idTextIn bs ≡ none
+  unfolding idTextIn _then_
   alone f = rw (h, f)
 
-  not-alone : (a : List ℕ) → afterField slash bs ≡ some a → idIn bs ≡ (numberBelow txnRange a then λ t. idFrom c t)
-  unfolding idIn _then_
+  not-alone : (a : List ℕ) → afterField slash bs ≡ some a → idTextIn bs ≡ (numberBelow txnRange a then λ t. idFrom c t)
+  unfolding idTextIn _then_
   not-alone a f = rw (h, f)
 
 -- as the code reads it
 module _ (s : List ℕ) {r : Number} (h : r ≡ numberRead (numberBelow numberRange (field slash s)) (length (field slash s))) where
-  pub id-unread : r ≡ Unread → idIn s ≡ none
+  pub id-unread : r ≡ Unread → idTextIn s ≡ none
   id-unread e = clockless s (number-none slash numberRange s h e)
 
   module _ (c at : ℕ) (e : r ≡ Of c at) where
-    pub id-alone : length s ≤ at → idIn s ≡ none
+    pub id-alone : length s ≤ at → idTextIn s ≡ none
     id-alone o = alone s c (number-some slash numberRange s h c at e) (none-after slash numberRange s h c at e o)
 
     module _ (o : at < length s) {q : Number}
         (g : q ≡ numberRead (numberBelow txnRange (field slash (restOf (at + 1) s))) (length (field slash (restOf (at + 1) s)))) where
-      txn-left : idIn s ≡ (numberBelow txnRange (restOf (at + 1) s) then λ t. idFrom c t)
+      txn-left : idTextIn s ≡ (numberBelow txnRange (restOf (at + 1) s) then λ t. idFrom c t)
       txn-left = not-alone s c (number-some slash numberRange s h c at e) (restOf (at + 1) s)
           (some-after slash numberRange s h c at e o ∙ ap (λ (l : List ℕ). some l) (sym (rest-part s (at + 1) (omega arith))))
 
       left-long : length (restOf (at + 1) s) ≡ length s - at - 1
       left-long = ap length (rest-part s (at + 1) (omega arith)) ∙ length-drop (at + 1) s ∙ omega arith
 
-      pub txn-unread : q ≡ Unread → idIn s ≡ none
+      pub txn-unread : q ≡ Unread → idTextIn s ≡ none
       txn-unread z = txn-left ∙ then-none _ _ (whole-unread slash txnRange (restOf (at + 1) s) g slash-no-digit z)
 
       module _ (t m : ℕ) (z : q ≡ Of t m) where
         pub txn-below : t < txnRange
         txn-below = number-below slash txnRange (restOf (at + 1) s) g t m z
 
-        pub txn-more : m < length s - at - 1 → idIn s ≡ none
+        pub txn-more : m < length s - at - 1 → idTextIn s ≡ none
         txn-more l = txn-left ∙ then-none _ _ (whole-more slash txnRange (restOf (at + 1) s) g slash-no-digit t m z (omega (arith, left-long)))
 
         module _ (l : length s - at - 1 ≤ m) where
-          both-read : idIn s ≡ idFrom c t
+          both-read : idTextIn s ≡ idFrom c t
           both-read = txn-left ∙ then-some _ _ t (whole-read slash txnRange (restOf (at + 1) s) g slash-no-digit t m z (omega (arith, left-long)))
 
-          pub clock-zero : c ≡ 0 → idIn s ≡ none
+          pub clock-zero : c ≡ 0 → idTextIn s ≡ none
           clock-zero k = both-read ∙ id-not c t (and-none-left _ _ (lt-leb 1 c (omega arith)))
 
-          pub txn-zero : t ≡ 0 → idIn s ≡ none
+          pub txn-zero : t ≡ 0 → idTextIn s ≡ none
           txn-zero k = both-read ∙ id-not c t (and-none-right _ _ (lt-leb 1 t (omega arith)))
 
-          pub id-read : c ≢ 0 → t ≢ 0 → idIn s ≡ some (record { clock = c; txn = t })
+          pub id-read : c ≢ 0 → t ≢ 0 → idTextIn s ≡ some (record { clock = c; txn = t })
           id-read j k = both-read ∙ id-of c t j k
 
 -- ── a version's name ──
@@ -108,7 +108,7 @@ module _ (s a : List ℕ) (b : after (118 ∷ slash ∷ []) s ≡ some a) where
     unfolding nameIn _then_
     key-alone f = rw (b, h, f)
 
-    id-after : (c : List ℕ) → afterField slash a ≡ some c → nameIn s ≡ (idIn c then λ i. some (record { key = k; id = i }))
+    id-after : (c : List ℕ) → afterField slash a ≡ some c → nameIn s ≡ (idTextIn c then λ i. some (record { key = k; id = i }))
     unfolding nameIn _then_
     id-after c f = rw (b, h, f)
 
@@ -132,24 +132,24 @@ module _ (s : List ℕ) (o : 2 ≤ length s) (b : after (118 ∷ slash ∷ []) s
     name-alone l = key-alone s (drop 2 s) b k key-is (none-after slash keys (drop 2 s) key-read k at e (omega (arith, length-drop 2 s)))
 
     module _ (l : at < length s - 2) where
-      id-left : nameIn s ≡ (idIn (restOf (at + 3) s) then λ i. some (record { key = k; id = i }))
+      id-left : nameIn s ≡ (idTextIn (restOf (at + 3) s) then λ i. some (record { key = k; id = i }))
       id-left = id-after s (drop 2 s) b k key-is (restOf (at + 3) s)
           (some-after slash keys (drop 2 s) key-read k at e (omega (arith, length-drop 2 s))
           ∙ ap (λ (l : List ℕ). some l) (rest-of-rest s 2 (at + 1) (at + 3) (omega arith) (omega arith)))
 
-      pub name-idless : idIn (restOf (at + 3) s) ≡ none → nameIn s ≡ none
+      pub name-idless : idTextIn (restOf (at + 3) s) ≡ none → nameIn s ≡ none
       name-idless z = id-left ∙ then-none _ _ z
 
-      pub name-read : (i : Id) → idIn (restOf (at + 3) s) ≡ some i → nameIn s ≡ some (record { key = k; id = i })
+      pub name-read : (i : Id) → idTextIn (restOf (at + 3) s) ≡ some i → nameIn s ≡ some (record { key = k; id = i })
       name-read i z = id-left ∙ then-some _ _ i z
 
 -- ── what the code hands on ──
-module _ (r : IdRead) (bs : List ℕ) (h : idRead r ≡ idIn bs) where
-  pub id-none : r ≡ IdRead.Other → idIn bs ≡ none
+module _ (r : IdRead) (bs : List ℕ) (h : idRead r ≡ idTextIn bs) where
+  pub id-none : r ≡ IdRead.Other → idTextIn bs ≡ none
   unfolding idRead
   id-none e = sym h ∙ ap idRead e
 
-  pub id-some : (i : Id) → r ≡ IdRead.Of i → idIn bs ≡ some i
+  pub id-some : (i : Id) → r ≡ IdRead.Of i → idTextIn bs ≡ some i
   unfolding idRead
   id-some i e = sym h ∙ ap idRead e
 

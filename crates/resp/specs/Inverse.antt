@@ -50,8 +50,8 @@ bulkIn bs =
 unfoldable pub idFrom : ℕ → ℕ → Option Id
 idFrom c t = cond (leb 1 c and leb 1 t) (some (record { clock = c; txn = t })) none
 
-unfoldable pub idIn : List ℕ → Option Id
-idIn bs =
+unfoldable pub idTextIn : List ℕ → Option Id
+idTextIn bs =
     numberBelow numberRange (field slash bs) then λ c.
     afterField slash bs then λ a.
     numberBelow txnRange a then λ t. idFrom c t
@@ -66,7 +66,7 @@ nameIn bs =
     after (118 ∷ slash ∷ []) bs then λ a.
     numberBelow keys (field slash a) then λ k.
     afterField slash a then λ b.
-    idIn b then λ i. some (record { key = k; id = i })
+    idTextIn b then λ i. some (record { key = k; id = i })
 
 pub record Version : Type 0 where
   pub id : Id

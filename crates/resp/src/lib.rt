@@ -15,7 +15,7 @@ ghost use Rattle.model.specs.KeySets.{keySet};
 ghost use Rattle.decimal.specs.Digits.{digits};
 ghost use Rattle.decimal.specs.Written.{written};
 ghost use Rattle.resp.specs.Streams.{slash, bulk, setCommand, idText, keysText};
-ghost use Rattle.resp.specs.Inverse.{bulkIn, idIn, nameIn, versionIn};
+ghost use Rattle.resp.specs.Inverse.{bulkIn, idTextIn, nameIn, versionIn};
 ghost use Rattle.resp.specs.Parts.{Begins, spanOf, SpanFits, idRead, nameRead, versionRead, ReadFits};
 
 // The greatest transaction, key and clock (or value, or length), as numbers.
@@ -99,7 +99,7 @@ fn write_set(out: &mut [u8], start: usize, name: &[u8], value: &[u8]) -> usize
 }
 
 // A version's command, its id as text; the place after it.
-pub fn write_version(out: &mut [u8], start: usize, key: u8, id: &[u8], value: u64) -> usize
+pub fn write_version_command(out: &mut [u8], start: usize, key: u8, id: &[u8], value: u64) -> usize
     requires { ⌜ (length (now id) ≤ 31) × (start + 256 ≤ length (now out)) ⌝ }
     ensures { λ r. ⌜ (r ≡ start + length (setCommand (118 ∷ slash ∷ digits key ++ (slash ∷ now (id .entry))) (digits value))) × (now (out .exit) ≡ written (now (out .entry)) start (setCommand (118 ∷ slash ∷ digits key ++ (slash ∷ now (id .entry))) (digits value))) ⌝ }
 {
@@ -129,7 +129,7 @@ fn write_keys(out: &mut [u8], set: u64) -> usize
 }
 
 // A commit's command, its id as text; the place after it.
-pub fn write_commit(out: &mut [u8], start: usize, id: &[u8], set: u64) -> usize
+pub fn write_commit_command(out: &mut [u8], start: usize, id: &[u8], set: u64) -> usize
     requires { ⌜ (length (now id) ≤ 31) × (1 ≤ length (keySet set)) × (length (keySet set) ≤ 8) × (start + 256 ≤ length (now out)) ⌝ }
     ensures { λ r. ⌜ (r ≡ start + length (setCommand (99 ∷ slash ∷ now (id .entry)) (keysText (keySet set)))) × (now (out .exit) ≡ written (now (out .entry)) start (setCommand (99 ∷ slash ∷ now (id .entry)) (keysText (keySet set)))) ⌝ }
 {
@@ -189,8 +189,8 @@ fn bulk_in(s: &[u8]) -> Span
 }
 
 // An id, as it stands at the end of a name.
-fn id_in(s: &[u8]) -> IdRead
-    ensures { λ r. ⌜ idRead r ≡ idIn (now (s .entry)) ⌝ }
+fn id_text_in(s: &[u8]) -> IdRead
+    ensures { λ r. ⌜ idRead r ≡ idTextIn (now (s .entry)) ⌝ }
 {
     let first = number_in(s, b'/', NUMBER_MAX);
     let Number::Of(clock, at) = first else {
@@ -232,7 +232,7 @@ fn name_in(s: &[u8]) -> NameRead
     if at >= s.len() - 2 {
         return NameRead::Other;
     }
-    let read = id_in(&s[at + 3..]);
+    let read = id_text_in(&s[at + 3..]);
     let IdRead::Of(id) = read else {
         return NameRead::Other;
     };

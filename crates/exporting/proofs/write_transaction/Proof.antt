@@ -19,8 +19,8 @@ short c = omega (arith, text-is c .long, c .write-id .ensures .1)
 write-versions-requires : tie.Need-write-versions-requires
 write-versions-requires c κs = let s = c .before .before .before .before .before .before .before .before in (s .pre .0, text-is (c .before .before .before) .is, s .pre .2, s .pre .3)
 
-write-commit-requires : tie.Need-write-commit-requires
-write-commit-requires c κs =
+write-commit-command-requires : tie.Need-write-commit-command-requires
+write-commit-command-requires c κs =
     let s = c .before .before .before .before .before .before .before .before .before .before .before .before .before in
     let w = c .before .before .before .before .write-versions in
     (short (c .before .before .before .before .before .before .before .before), s .pre .1, s .pre .2, omega (arith, w .ensures .1, w .kept .0, s .pre .2, s .pre .3))
@@ -30,7 +30,7 @@ returns c =
     let s = c .before .before .before .before .before .before .before .before .before .before .before .before .before .before .before .before in
     let i = c .before .before .before .before .before .before .before .before .before .before .before in
     let v = c .before .before .before .before .before .before .before .write-versions in
-    let w = c .before .before .write-commit in
+    let w = c .before .before .write-commit-command in
     let a = s .args in
     let r = transaction-written (a .slot .now) (a .e) (a .out .now) (v .last .0) (w .last .0) (a .start) (v .result) (w .result) _
     (s .pre .3) (s .pre .2) (text-is i .is) (short i) (v .ensures .1) (v .ensures .0, v .ensures .2) (w .ensures) in
@@ -47,6 +47,6 @@ write-transaction-spec =
     write-versions-requires
     (λ c. search needs)
     (λ c. text-is (c .before .before .before .before .before .before .before .before) .long)
-    write-commit-requires
+    write-commit-command-requires
     (λ c. search needs)
     returns)

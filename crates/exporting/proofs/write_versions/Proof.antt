@@ -49,8 +49,8 @@ part-value-in-end c = version-ends (start c .args .slot .now) (c .before .before
 value-in-requires : tie.Need-value-in-requires Inv-loop μ-loop
 value-in-requires c κs = version-length (start (c .before) .args .slot .now) (c .before .before .before .loop .n) (start (c .before) .pre .0) (nth (c .before))
 
-write-version-requires : tie.Need-write-version-requires Inv-loop μ-loop
-write-version-requires c κs =
+write-version-command-requires : tie.Need-write-version-command-requires Inv-loop μ-loop
+write-version-command-requires c κs =
     let k = c .before .before .before in
     let s = start k in
     (short s, versioning-room _ _ _ _ _ _ _ _ _ _ (held k) (k .lowest-key .ensures) (s .pre .2) (s .pre .3))
@@ -60,7 +60,7 @@ loop-again c i e =
     let k = c .before .before .before .before .before .before .before in
     let s = start k in
     let l = k .before .before .loop in
-    let w = c .before .before .before .write-version in
+    let w = c .before .before .before .write-version-command in
     let v = c .before .before .before .before .before .value-in in
     let a = s .args in
     let is = v .ensures ∙ ap valueIn (version-part (a .slot .now) (l .n)) in
@@ -90,7 +90,7 @@ write-versions-spec =
     (λ c. omega arith)
     part-value-in-end
     value-in-requires
-    write-version-requires
+    write-version-command-requires
     (λ c κs. search needs)
     (λ c. omega (arith, nth (c .before .before .before .before .before .before .before)))
     (λ c. c .without-lowest .ensures .0)

@@ -15,13 +15,13 @@ text-short c =
     let w = c .write-id .ensures in
     omega (arith, w .0, w .1, ap length (w .2))
 
-slice-aggregate-write-commit-2 : tie.Need-slice-aggregate-write-commit-2
-slice-aggregate-write-commit-2 c =
+slice-aggregate-write-commit-command-2 : tie.Need-slice-aggregate-write-commit-command-2
+slice-aggregate-write-commit-command-2 c =
     let w = c .before .before .before .write-id .ensures in
     w .0 ∙ ap length (sym (w .2))
 
-write-commit-requires : tie.Need-write-commit-requires
-write-commit-requires c κs =
+write-commit-command-requires : tie.Need-write-commit-command-requires
+write-commit-command-requires c κs =
     let w = c .before .before .before in
     let p = w .before .before .before .before .pre in
     (text-short w, p .0, p .1, omega arith)
@@ -31,14 +31,14 @@ array-share-prefix-command c =
     let w = c .before .before .before .before .before in
     let a = w .before .before .before .before in
     let e = a .args .e in
-    let v = c .before .write-commit in
+    let v = c .before .write-commit-command in
     let h = w .write-id .ensures in
     omega (arith, v .kept .0, command-fits (e .id) (keySet (e .keys)) _ _ _ _ (h .2) (v .ensures .0) (v .ensures .1) (text-short w) (set-ascends (e .keys)) (a .pre .1))
 
 slice-aggregate-begins : tie.Need-slice-aggregate-begins
 slice-aggregate-begins c =
     let e = c .before .before .before .before .before .before .before .before .before .before .args .e in
-    let v = c .before .before .write-commit in
+    let v = c .before .before .write-commit-command in
     command-front (e .id) (keySet (e .keys)) _ _ _ _ (c .before .before .before .before .before .before .write-id .ensures .2) (v .ensures .0) (v .ensures .1)
 
 returns : tie.Need-returns
@@ -46,7 +46,7 @@ returns c =
     let v = c .before .before .before .before in
     let w = v .before .before .before .before in
     let a = w .before .before .before .before .args in
-    let h = v .write-commit .ensures in
+    let h = v .write-commit-command .ensures in
     commit-found (a .e .id) (keySet (a .e .keys)) _ _ _ _ (w .write-id .ensures .2) (h .0) (h .1) (a .s .now) _ (c .before .begins .ensures) (c .if1 .taken)
 
 returns-2 : tie.Need-returns-2
@@ -54,7 +54,7 @@ returns-2 c =
     let v = c .before .before .before .before in
     let w = v .before .before .before .before in
     let a = w .before .before .before .before .args in
-    let h = v .write-commit .ensures in
+    let h = v .write-commit-command .ensures in
     commit-missed (a .e .id) (keySet (a .e .keys)) _ _ _ _ (w .write-id .ensures .2) (h .0) (h .1) (a .s .now) _ (c .before .begins .ensures) (c .if1 .left)
 
 pub commit-size-spec : {M : Type 1} → statement M
@@ -65,8 +65,8 @@ commit-size-spec =
     (λ c κs. search needs)
     (λ c. search needs)
     (λ c. search needs)
-    slice-aggregate-write-commit-2
-    write-commit-requires
+    slice-aggregate-write-commit-command-2
+    write-commit-command-requires
     array-share-prefix-command
     slice-aggregate-begins
     (λ c κs. search needs)

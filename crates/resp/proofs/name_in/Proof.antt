@@ -58,7 +58,7 @@ returns-4 c =
     let m = q .number .given in
     let s = p .before .before .before .before .args .s .now in
     let h = q .before .before .number-in .ensures in
-    sym (name-idless s (long p) (opens p) h (m .0 .0) (m .0 .1 .0) (m .1) (o .if2 .left) (id-none _ _ (c .before .before .id-in .ensures) (c .enum-told2 .given .1)))
+    sym (name-idless s (long p) (opens p) h (m .0 .0) (m .0 .1 .0) (m .1) (o .if2 .left) (id-none _ _ (c .before .before .id-text-in .ensures) (c .enum-told2 .given .1)))
 
 cast-t20 : tie.Need-cast-t20
 cast-t20 c =
@@ -77,7 +77,7 @@ returns-5 c =
     let n = c .before .read .given in
     let s = p .before .before .before .before .args .s .now in
     let h = q .before .before .number-in .ensures in
-    sym (name-read s (long p) (opens p) h (m .0 .0) (m .0 .1 .0) (m .1) (o .if2 .left) (n .0 .0) (id-some _ _ (c .before .before .before .id-in .ensures) (n .0 .0) (n .1)))
+    sym (name-read s (long p) (opens p) h (m .0 .0) (m .0 .1 .0) (m .1) (o .if2 .left) (n .0 .0) (id-some _ _ (c .before .before .before .id-text-in .ensures) (n .0 .0) (n .1)))
 
 pub name-in-spec : {M : Type 1} → statement M
 name-in-spec =

@@ -1,4 +1,4 @@
--- `resp::write_version` meets its contract.
+-- `resp::write_version_command` meets its contract.
 use Prim.Native.Nat.{ℕ, _-_}
 use mathlib.Core.List.{_∷_, _++_}
 use lib.ListN.{replicate, length-replicate}
@@ -8,8 +8,8 @@ use Rattle.decimal.specs.Digits.{digits}
 use Rattle.decimal.proofs.WrittenLaws.{wrote-field}
 use Rattle.resp.proofs.WrittenLaws.{Front, all-front, but-last-front}
 use Rattle.resp.proofs.CommandLaws.{name-written, command-written}
-use Rattle.resp.proofs.write_version.Statement.{statement}
-use Rattle.resp.proofs.write_version.Tie as tie
+use Rattle.resp.proofs.write_version_command.Statement.{statement}
+use Rattle.resp.proofs.write_version_command.Tie as tie
 
 -- the name, and the value's digits
 abbrev named : tie.After-write-bytes → tie.Start
@@ -55,8 +55,8 @@ returns c =
     command-written (s .args .out .now) (w .last .0) (s .args .start) (w .result) _ _
     (n .write-bytes .result) (v .write-number2 .result - 1) (n .write-bytes .last .0) (v .write-number2 .last .0) (name-is n) (value-is v) (w .ensures)
 
-pub write-version-spec : {M : Type 1} → statement M
-write-version-spec =
+pub write-version-command-spec : {M : Type 1} → statement M
+write-version-command-spec =
     tie.close
     (tie.spec
     (λ c. search needs)

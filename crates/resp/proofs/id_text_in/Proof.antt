@@ -1,11 +1,11 @@
--- `resp::id_in` meets its contract.
+-- `resp::id_text_in` meets its contract.
 use mathlib.Core.Path.{sym}
 use borrow.Author.Needs.{needs}
 use native.Mathlib.Omega.{arith}
 use Rattle.resp.specs.Parts.{idRead}
 use Rattle.resp.proofs.NameLaws.{id-unread, id-alone, txn-unread, txn-below, txn-more, clock-zero, txn-zero, id-read}
-use Rattle.resp.proofs.id_in.Statement.{statement}
-use Rattle.resp.proofs.id_in.Tie as tie
+use Rattle.resp.proofs.id_text_in.Statement.{statement}
+use Rattle.resp.proofs.id_text_in.Tie as tie
 
 returns : tie.Need-returns
 unfolding idRead
@@ -93,8 +93,8 @@ returns-7 c =
     let g = q .before .before .number-in2 .ensures in
     sym (id-read s h (m .0 .0) (m .0 .1 .0) (m .1) (o .if1 .left) g (n .0 .0) (n .0 .1 .0) (n .1) (c .before .before .if2 .left) (c .before .if3 .left) (c .if4 .left))
 
-pub id-in-spec : {M : Type 1} → statement M
-id-in-spec =
+pub id-text-in-spec : {M : Type 1} → statement M
+id-text-in-spec =
     tie.close
     (tie.spec
     (λ c κs. search needs)

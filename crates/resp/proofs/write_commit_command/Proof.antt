@@ -1,4 +1,4 @@
--- `resp::write_commit` meets its contract.
+-- `resp::write_commit_command` meets its contract.
 use Prim.Native.Nat.{ℕ}
 use mathlib.Core.List.{_∷_}
 use lib.ListN.{replicate, length-replicate}
@@ -8,8 +8,8 @@ use Rattle.model.specs.KeySets.{keySet}
 use Rattle.resp.specs.Streams.{keysText}
 use Rattle.resp.proofs.WrittenLaws.{Front, all-front, short-front}
 use Rattle.resp.proofs.CommandLaws.{commit-name-written, command-written}
-use Rattle.resp.proofs.write_commit.Statement.{statement}
-use Rattle.resp.proofs.write_commit.Tie as tie
+use Rattle.resp.proofs.write_commit_command.Statement.{statement}
+use Rattle.resp.proofs.write_commit_command.Tie as tie
 
 -- the name, and the keys' text
 name-is : (c : tie.After-write-bytes) → Front (c .write-bytes .last .0) (c .write-bytes .result) (99 ∷ 47 ∷ c .before .before .before .before .args .id .now)
@@ -43,8 +43,8 @@ returns c =
     command-written (s .args .out .now) (w .last .0) (s .args .start) (w .result) _ _
     (n .write-bytes .result) (v .write-keys .result) (n .write-bytes .last .0) (v .write-keys .last .0) (name-is n) (value-is v) (w .ensures)
 
-pub write-commit-spec : {M : Type 1} → statement M
-write-commit-spec =
+pub write-commit-command-spec : {M : Type 1} → statement M
+write-commit-command-spec =
     tie.close
     (tie.spec
     (λ c. search needs)
