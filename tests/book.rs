@@ -2,6 +2,7 @@
 //! as its collects. Written from that section's text alone.
 
 use crate::model::*;
+use crate::redis::Committed;
 use std::collections::BTreeMap;
 
 #[derive(Clone, Debug, Default)]
@@ -53,6 +54,14 @@ impl Book {
     pub fn begun(kind: Kind, store: &[u8]) -> Book {
         let standing = jobs(&Station::scan_of(kind, store).0, store);
         Book { past: standing.clone(), standing, ..Book::of(kind) }
+    }
+
+    /// The book that begins with a finished import: the stream's transactions, "its tickets and values counting as put and reported stored", so standing
+    /// and past. They closed before all that follow.
+    pub fn imported(set: &Committed) -> Book {
+        let standing: Vec<Job> = set.iter().map(|(&(clock, txn), values)| Job { id: Id { clock, txn }, values: values.clone() }).collect();
+        let closed = standing.iter().map(|j| j.id).collect();
+        Book { past: standing.clone(), standing, closed, ..Book::of(Kind::Narrow) }
     }
 
     /// A finished move "carries the source's cut rule history up to the move over": what stands and what is past goes on, every page is torn out.

@@ -1,24 +1,30 @@
 //! The proved library through its C interface, against the model in plain Rust, over narrow and wide stores: random call lists with cuts, retries,
-//! collections, sweeps, full slots and places, equal and backward clocks and the greatest numbers; moves out and back; images and stores with bytes
-//! changed, entries of no key and of too many; wrong lengths and an older version's, null pointers; batches. And logs, against theirs (log.rs).
+//! collections, sweeps, full slots and places, equal and backward clocks and the greatest numbers; moves out and back; imports, taken, cut short and
+//! refused, with which histories begin anew; images and stores with bytes changed, entries of no key and of too many; wrong lengths and an older
+//! version's, null pointers; batches. And logs, against theirs (log.rs).
 //! Answers, images and stores are compared byte for byte, and every undisturbed history is held to the cut rule after each call, and after each record
 //! of a sweep. Arguments: the first seed, how many histories.
 
 mod book;
+mod committed;
 mod hostile;
 mod log;
+mod malformed;
 mod misshapen;
 #[allow(dead_code)]
 mod model;
 mod partner;
 mod planted;
 mod random;
+mod redis;
 mod spoilt;
 
 use book::{Book, Call};
 use log::Verdict;
+use malformed::{ascending, malformed, text, written};
 use model::*;
 use random::Random;
+use redis::Refusal;
 use std::collections::BTreeMap;
 
 const IMAGE: usize = 4552;
@@ -32,6 +38,8 @@ extern "C" {
     fn gorehimu_recover_wide(image: *mut u8, image_len: usize, store: *const u8, store_len: usize, answer: *mut u8, answer_len: usize) -> u32;
     fn gorehimu_move_out(source: *const u8, source_len: usize, target: *mut u8, target_len: usize, answer: *mut u8, answer_len: usize) -> u32;
     fn gorehimu_move_back(source: *const u8, source_len: usize, target: *mut u8, target_len: usize, answer: *mut u8, answer_len: usize) -> u32;
+    fn gorehimu_export(store: *const u8, store_len: usize, target: *mut u8, target_len: usize, answer: *mut u8, answer_len: usize) -> u32;
+    fn gorehimu_import(stream: *const u8, stream_len: usize, store: *mut u8, store_len: usize, answer: *mut u8, answer_len: usize) -> u32;
     fn gorehimu_call(
         image: *mut u8,
         image_len: usize,
@@ -212,6 +220,19 @@ fn verdict_answer(v: Verdict) -> Vec<u8> {
     }
 }
 
+/// Of an export or an import: the kind of its answer, the library's function, the model's. They have one form: what is read, what is written.
+type Transfer = (u64, unsafe extern "C" fn(*const u8, usize, *mut u8, usize, *mut u8, usize) -> u32, fn(&[u8], &mut [u8]) -> Result<usize, Refusal>);
+
+const EXPORT: Transfer = (20, gorehimu_export, redis::export);
+const IMPORT: Transfer = (21, gorehimu_import, redis::import);
+
+fn transfer_answer(kind: u64, outcome: Result<usize, Refusal>) -> Vec<u8> {
+    match outcome {
+        Ok(n) => numbers([kind, n as u64, 0, 0]),
+        Err((number, slot)) => numbers([15, number.into(), slot.into(), 0]),
+    }
+}
+
 /// Whether the fields that a call does not use are 0.
 fn well_formed(c: Call) -> bool {
     match c.verb {
@@ -350,6 +371,11 @@ struct Seen {
     refusals: BTreeMap<u8, u64>,
     /// Of entries that were refused for their write set: how many keys it had.
     wrong_sets: BTreeMap<u32, u64>,
+    /// The imports of histories by the number of their refusal, 0 where they were taken.
+    imports: BTreeMap<u8, u64>,
+    /// Of those taken: how many were cut short and begun again, and with how many a history went on.
+    cut_imports: u64,
+    begun_anew: u64,
     calls: u64,
     logs: u64,
 }
@@ -459,6 +485,12 @@ fn cleared(kind: Kind, store: &[u8], lasting: &[u8]) -> Vec<usize> {
     slots
 }
 
+fn holds(book: &Book, store: &[u8], after: &str, what: &str) {
+    if let Err(e) = book.check(store) {
+        panic!("{what}: the cut rule does not hold after {after}: {e}");
+    }
+}
+
 /// The book takes a call with its answer; the cut rule holds of the two.
 fn fed(book: &mut Book, c: Call, a: Answer, store: &[u8], what: &str) {
     book.feed(c, a);
@@ -548,7 +580,7 @@ fn sweeps(r: &mut Random, kind: Kind, image: &[u8], store: &[u8], seen: &mut See
 }
 
 /// A history from the empty station of a kind: calls one by one, the cut rule checked after each, and the same in batches; cuts between record writes,
-/// each followed by a scan; and moves, after which it goes on over the other kind's store.
+/// each followed by a scan; moves, after which it goes on over the other kind's store; and imports, after which it begins anew.
 fn history(seed: u64, first: Kind, seen: &mut Seen) {
     let mut r = Random(seed);
     let z = style(&mut r);
@@ -580,6 +612,14 @@ fn history(seed: u64, first: Kind, seen: &mut Seen) {
                     image = lost(kind);
                     checked(&mut image, &mut store, SCAN, &mut book, &mut closings, seen, &what);
                 }
+            }
+        }
+        if r.one_in(50) {
+            if let Some((imported, begun)) = imports(&mut r, &z, &store, &book, seen, &what) {
+                (store, kind) = (imported, Kind::Narrow);
+                (book, closings) = (begun, Closings::of(kind));
+                image = lost(kind);
+                checked(&mut image, &mut store, SCAN, &mut book, &mut closings, seen, &what);
             }
         }
         if r.one_in(8) {
@@ -636,16 +676,106 @@ fn moves(r: &mut Random, from: Kind, store: &[u8], book: &Book, seen: &mut Seen,
     let to = other(from);
     let (a, target) = move_compared(r, from, store, to.store(), seen, what);
     let Answer::Moved(count) = a else { return None };
-    if let Err(e) = book.moved(to).check(&target) {
-        panic!("{what}: the cut rule does not hold after a move: {e}");
-    }
+    holds(&book.moved(to), &target, "a move", what);
     let (again, back) = move_compared(r, to, &target, from.store(), seen, what);
     assert_eq!(again, Answer::Moved(count), "{what}: the move back");
-    if let Err(e) = book.moved(from).check(&back) {
-        panic!("{what}: the cut rule does not hold after a move back: {e}");
-    }
+    holds(&book.moved(from), &back, "a move back", what);
     assert!(move_compared(r, from, &back, to.store(), seen, what) == (a, target.clone()), "{what}: out again, other bytes");
     Some(target)
+}
+
+/// An export or an import by both, over the bytes that are there: answers and bytes agree, what is read stays, and a refusal alters no byte.
+fn transfer_compared((kind, f, model): Transfer, from: &[u8], to: &mut Vec<u8>, seen: &mut Seen, what: &str) -> Result<usize, Refusal> {
+    let (before, mut by_model) = (to.clone(), to.clone());
+    let outcome = model(from, &mut by_model);
+    let (read, mut out) = (from.to_vec(), vec![0xaa; ANSWER]);
+    let code = unsafe { f(from.as_ptr(), from.len(), to.as_mut_ptr(), to.len(), out.as_mut_ptr(), out.len()) };
+    assert_eq!(code, 0, "{what}");
+    assert!(out == transfer_answer(kind, outcome), "{what}: the answers of a transfer differ; the model's is {outcome:?}");
+    assert!(*to == by_model, "{what}: the bytes of a transfer differ, {outcome:?}");
+    assert!(from == read, "{what}: a transfer wrote what it reads");
+    assert!(outcome.is_ok() || *to == before, "{what}: a refused transfer wrote something, {outcome:?}");
+    seen.calls += 1;
+    outcome
+}
+
+/// The stream of a history's store, over the front of whatever bytes; a wide store has none.
+fn exported(r: &mut Random, store: &[u8], seen: &mut Seen, what: &str) -> Option<Vec<u8>> {
+    let mut target = committed::bytes(r, redis::TARGET);
+    let len = transfer_compared(EXPORT, store, &mut target, seen, what).ok()?;
+    target.truncate(len);
+    Some(target)
+}
+
+/// A stream from elsewhere, of any set; at times one of too many transactions, one with something wrong, or one with a byte changed.
+fn stream(r: &mut Random, z: &Style) -> Vec<u8> {
+    let seed = r.below(10);
+    let mut set = committed::by_seed(r, seed);
+    // as the calls' clocks: after the last nothing more is written
+    set.retain(|(clock, _), _| z.last || *clock < u64::MAX - 1000);
+    let mut stream = redis::stream(&set);
+    match r.below(6) {
+        0 => text(&ascending(r, 65)),
+        1 => {
+            let few = written(&committed::set(r, 2));
+            let mut wrong = malformed(r, &few, 0);
+            wrong.swap_remove(r.below(wrong.len() as u64) as usize).1
+        }
+        2 => {
+            hostile::disturb(r, &mut stream);
+            stream
+        }
+        _ => stream,
+    }
+}
+
+/// What lasts of an import where power goes in its middle: its first so many bytes, or any of its bytes, records or slots.
+fn half(r: &mut Random, before: &[u8], imported: &[u8]) -> Vec<u8> {
+    let (piece, end) = (r.of(&[1, RECORD, SLOT]), r.below(STORE as u64 + 1) as usize);
+    if r.one_in(2) {
+        return [&imported[..end], &before[end..]].concat();
+    }
+    before.chunks(piece).zip(imported.chunks(piece)).flat_map(|(old, new)| if r.one_in(2) { old } else { new }).copied().collect()
+}
+
+/// An import that is cut short and begun again fills the store as if it had not been cut. Of half of it nothing is promised, but both scan it the same.
+fn begun_again(r: &mut Random, stream: &[u8], before: &[u8], imported: &[u8], seen: &mut Seen, what: &str) {
+    let mut store = half(r, before, imported);
+    compare(&mut lost(Kind::Narrow), &mut store, &[SCAN], seen, what);
+    let outcome = transfer_compared(IMPORT, stream, &mut store, seen, what);
+    assert!(outcome.is_ok() && store == imported, "{what}: begun again, an import comes to {outcome:?} or other bytes");
+    seen.cut_imports += 1;
+}
+
+/// The store that an import makes of these bytes, at times cut short at first; none where it is refused.
+fn taken(r: &mut Random, stream: &[u8], before: &[u8], seen: &mut Seen, what: &str) -> Option<Vec<u8>> {
+    let mut store = before.to_vec();
+    let outcome = transfer_compared(IMPORT, stream, &mut store, seen, what);
+    *seen.imports.entry(outcome.map_or_else(|refusal| refusal.0, |_| 0)).or_default() += 1;
+    outcome.ok()?;
+    if r.one_in(3) {
+        begun_again(r, stream, before, &store, seen, what);
+    }
+    Some(store)
+}
+
+/// An import in a history, of its store's own stream or of another, into that store or into one full of other bytes. The store and the book that begins
+/// with it; none where the old history goes on: after a refusal (1 where the store is wide), and at times where the store is another.
+fn imports(r: &mut Random, z: &Style, store: &[u8], book: &Book, seen: &mut Seen, what: &str) -> Option<(Vec<u8>, Book)> {
+    let own = if r.one_in(2) { exported(r, store, seen, what) } else { None };
+    let stream = own.clone().unwrap_or_else(|| stream(r, z));
+    let same = r.one_in(2);
+    let before = if same { store.to_vec() } else { committed::bytes(r, STORE) };
+    let imported = taken(r, &stream, &before, seen, what)?;
+    let begun = Book::imported(&redis::read(&stream).expect("the set of a stream that was taken"));
+    holds(&begun, &imported, "an import", what);
+    if own.is_some() {
+        // the same set is committed
+        holds(&book.moved(Kind::Narrow), &imported, "an export and an import", what);
+    }
+    let goes_on = same || r.one_in(2);
+    seen.begun_anew += u64::from(goes_on);
+    goes_on.then_some((imported, begun))
 }
 
 /// Stores filled to so many slots with write sets of so many keys: 22 and 23 come exactly where they should. Damaged sources, of which a move is refused
@@ -1037,7 +1167,13 @@ fn main() {
         for n in [0, 9, 17, 64] {
             assert!(seen.wrong_sets.contains_key(&n), "an entry of {n} keys never came up: {:?}", seen.wrong_sets);
         }
+        for n in [0, 1, 13, 27] {
+            assert!(seen.imports.contains_key(&n), "no import was taken (0) or refused with {n}: {:?}", seen.imports);
+        }
+        assert!(seen.cut_imports > 0 && seen.begun_anew > 0, "no import was cut short, or no history began anew with one");
     }
     println!("{count} histories, {} calls through the C interface: the library and the model agree, the cut rule holds, and the booking just made is the one read", seen.calls);
+    let outcomes: Vec<String> = seen.imports.iter().map(|(n, count)| if *n == 0 { format!("taken {count}") } else { format!("{n}: {count}") }).collect();
+    println!("{} imports in them ({}), {} cut short and begun again: the cut rule holds in the {} histories that begin with one", seen.imports.values().sum::<u64>(), outcomes.join(", "), seen.cut_imports, seen.begun_anew);
     println!("{} logs through the C interface: the library and the model gave the same verdict", seen.logs);
 }
