@@ -23,42 +23,57 @@ pub streams : List (List ℕ × ℕ)
 streams =
     -- nothing
     ([], 0)
-    -- a transaction: v/2/7/5 is 40, c/7/5 is 2
+    -- a transaction: `v/2/7/5 40`, `c/7/5 2`
     ∷ (sets (55 ∷ 13 ∷ 10 ∷ 118 ∷ 47 ∷ 50 ∷ 47 ∷ 55 ∷ 47 ∷ 53 ∷ 13 ∷ 10 ∷ 36 ∷ 50 ∷ 13 ∷ 10 ∷ 52 ∷ 48 ∷ 13 ∷ 10 ∷ sets (53 ∷ 13 ∷ 10 ∷ 99 ∷ 47 ∷ 55 ∷ 47 ∷ 53 ∷ 13 ∷ 10 ∷ 36 ∷ 49 ∷ 13 ∷ 10 ∷ 50 ∷ 13 ∷ 10 ∷ [])), 1)
-    -- two of one clock, the lower number first
+    -- two of one clock, the lower number first: `v/2/7/5 40`, `c/7/5 2`, `v/2/7/6 41`, `c/7/6 2`
     ∷ (sets (55 ∷ 13 ∷ 10 ∷ 118 ∷ 47 ∷ 50 ∷ 47 ∷ 55 ∷ 47 ∷ 53 ∷ 13 ∷ 10 ∷ 36 ∷ 50 ∷ 13 ∷ 10 ∷ 52 ∷ 48 ∷ 13 ∷ 10 ∷ sets (53 ∷ 13 ∷ 10 ∷ 99 ∷ 47 ∷ 55 ∷ 47 ∷ 53 ∷ 13 ∷ 10 ∷ 36 ∷ 49 ∷ 13 ∷ 10 ∷ 50 ∷ 13 ∷ 10 ∷ sets (55 ∷ 13 ∷ 10 ∷ 118 ∷ 47 ∷ 50 ∷ 47 ∷ 55 ∷ 47 ∷ 54 ∷ 13 ∷ 10 ∷ 36 ∷ 50 ∷ 13 ∷ 10 ∷ 52 ∷ 49 ∷ 13 ∷ 10 ∷ sets (53 ∷ 13 ∷ 10 ∷ 99 ∷ 47 ∷ 55 ∷ 47 ∷ 54 ∷ 13 ∷ 10 ∷ 36 ∷ 49 ∷ 13 ∷ 10 ∷ 50 ∷ 13 ∷ 10 ∷ [])))), 2)
-    -- "tickets oldest id first": newest first
+    -- "tickets oldest id first": newest first: `v/2/7/6 41`, `c/7/6 2`, `v/2/7/5 40`, `c/7/5 2`
     ∷ (sets (55 ∷ 13 ∷ 10 ∷ 118 ∷ 47 ∷ 50 ∷ 47 ∷ 55 ∷ 47 ∷ 54 ∷ 13 ∷ 10 ∷ 36 ∷ 50 ∷ 13 ∷ 10 ∷ 52 ∷ 49 ∷ 13 ∷ 10 ∷ sets (53 ∷ 13 ∷ 10 ∷ 99 ∷ 47 ∷ 55 ∷ 47 ∷ 54 ∷ 13 ∷ 10 ∷ 36 ∷ 49 ∷ 13 ∷ 10 ∷ 50 ∷ 13 ∷ 10 ∷ sets (55 ∷ 13 ∷ 10 ∷ 118 ∷ 47 ∷ 50 ∷ 47 ∷ 55 ∷ 47 ∷ 53 ∷ 13 ∷ 10 ∷ 36 ∷ 50 ∷ 13 ∷ 10 ∷ 52 ∷ 48 ∷ 13 ∷ 10 ∷ sets (53 ∷ 13 ∷ 10 ∷ 99 ∷ 47 ∷ 55 ∷ 47 ∷ 53 ∷ 13 ∷ 10 ∷ 36 ∷ 49 ∷ 13 ∷ 10 ∷ 50 ∷ 13 ∷ 10 ∷ [])))), 27)
-    -- the same transaction again; "a repeated ticket" with another clock: (7, 5), then (8, 5)
+    -- the same transaction again; "a repeated ticket" with another clock: (7, 5), then (8, 5): `v/2/7/5 40`, `c/7/5 2`, `v/2/7/5 40`, `c/7/5 2`
     ∷ (sets (55 ∷ 13 ∷ 10 ∷ 118 ∷ 47 ∷ 50 ∷ 47 ∷ 55 ∷ 47 ∷ 53 ∷ 13 ∷ 10 ∷ 36 ∷ 50 ∷ 13 ∷ 10 ∷ 52 ∷ 48 ∷ 13 ∷ 10 ∷ sets (53 ∷ 13 ∷ 10 ∷ 99 ∷ 47 ∷ 55 ∷ 47 ∷ 53 ∷ 13 ∷ 10 ∷ 36 ∷ 49 ∷ 13 ∷ 10 ∷ 50 ∷ 13 ∷ 10 ∷ sets (55 ∷ 13 ∷ 10 ∷ 118 ∷ 47 ∷ 50 ∷ 47 ∷ 55 ∷ 47 ∷ 53 ∷ 13 ∷ 10 ∷ 36 ∷ 50 ∷ 13 ∷ 10 ∷ 52 ∷ 48 ∷ 13 ∷ 10 ∷ sets (53 ∷ 13 ∷ 10 ∷ 99 ∷ 47 ∷ 55 ∷ 47 ∷ 53 ∷ 13 ∷ 10 ∷ 36 ∷ 49 ∷ 13 ∷ 10 ∷ 50 ∷ 13 ∷ 10 ∷ [])))), 27)
+    -- `v/2/7/5 40`, `c/7/5 2`, `v/2/8/5 40`, `c/8/5 2`
     ∷ (sets (55 ∷ 13 ∷ 10 ∷ 118 ∷ 47 ∷ 50 ∷ 47 ∷ 55 ∷ 47 ∷ 53 ∷ 13 ∷ 10 ∷ 36 ∷ 50 ∷ 13 ∷ 10 ∷ 52 ∷ 48 ∷ 13 ∷ 10 ∷ sets (53 ∷ 13 ∷ 10 ∷ 99 ∷ 47 ∷ 55 ∷ 47 ∷ 53 ∷ 13 ∷ 10 ∷ 36 ∷ 49 ∷ 13 ∷ 10 ∷ 50 ∷ 13 ∷ 10 ∷ sets (55 ∷ 13 ∷ 10 ∷ 118 ∷ 47 ∷ 50 ∷ 47 ∷ 56 ∷ 47 ∷ 53 ∷ 13 ∷ 10 ∷ 36 ∷ 50 ∷ 13 ∷ 10 ∷ 52 ∷ 48 ∷ 13 ∷ 10 ∷ sets (53 ∷ 13 ∷ 10 ∷ 99 ∷ 47 ∷ 56 ∷ 47 ∷ 53 ∷ 13 ∷ 10 ∷ 36 ∷ 49 ∷ 13 ∷ 10 ∷ 50 ∷ 13 ∷ 10 ∷ [])))), 27)
-    -- "versions, keys ascending, stand right before its commit": two keys
+    -- "versions, keys ascending, stand right before its commit": two keys: `v/2/7/5 40`, `v/10/7/5 0`, `c/7/5 2,10`
     ∷ (sets (55 ∷ 13 ∷ 10 ∷ 118 ∷ 47 ∷ 50 ∷ 47 ∷ 55 ∷ 47 ∷ 53 ∷ 13 ∷ 10 ∷ 36 ∷ 50 ∷ 13 ∷ 10 ∷ 52 ∷ 48 ∷ 13 ∷ 10 ∷ sets (56 ∷ 13 ∷ 10 ∷ 118 ∷ 47 ∷ 49 ∷ 48 ∷ 47 ∷ 55 ∷ 47 ∷ 53 ∷ 13 ∷ 10 ∷ 36 ∷ 49 ∷ 13 ∷ 10 ∷ 48 ∷ 13 ∷ 10 ∷ sets (53 ∷ 13 ∷ 10 ∷ 99 ∷ 47 ∷ 55 ∷ 47 ∷ 53 ∷ 13 ∷ 10 ∷ 36 ∷ 52 ∷ 13 ∷ 10 ∷ 50 ∷ 44 ∷ 49 ∷ 48 ∷ 13 ∷ 10 ∷ []))), 1)
-    -- the commit first; keys descending; a key twice
+    -- the commit first; keys descending; a key twice: `c/7/5 2`, `v/2/7/5 40`
     ∷ (sets (53 ∷ 13 ∷ 10 ∷ 99 ∷ 47 ∷ 55 ∷ 47 ∷ 53 ∷ 13 ∷ 10 ∷ 36 ∷ 49 ∷ 13 ∷ 10 ∷ 50 ∷ 13 ∷ 10 ∷ sets (55 ∷ 13 ∷ 10 ∷ 118 ∷ 47 ∷ 50 ∷ 47 ∷ 55 ∷ 47 ∷ 53 ∷ 13 ∷ 10 ∷ 36 ∷ 50 ∷ 13 ∷ 10 ∷ 52 ∷ 48 ∷ 13 ∷ 10 ∷ [])), 27)
+    -- `v/10/7/5 0`, `v/2/7/5 40`, `c/7/5 10,2`
     ∷ (sets (56 ∷ 13 ∷ 10 ∷ 118 ∷ 47 ∷ 49 ∷ 48 ∷ 47 ∷ 55 ∷ 47 ∷ 53 ∷ 13 ∷ 10 ∷ 36 ∷ 49 ∷ 13 ∷ 10 ∷ 48 ∷ 13 ∷ 10 ∷ sets (55 ∷ 13 ∷ 10 ∷ 118 ∷ 47 ∷ 50 ∷ 47 ∷ 55 ∷ 47 ∷ 53 ∷ 13 ∷ 10 ∷ 36 ∷ 50 ∷ 13 ∷ 10 ∷ 52 ∷ 48 ∷ 13 ∷ 10 ∷ sets (53 ∷ 13 ∷ 10 ∷ 99 ∷ 47 ∷ 55 ∷ 47 ∷ 53 ∷ 13 ∷ 10 ∷ 36 ∷ 52 ∷ 13 ∷ 10 ∷ 49 ∷ 48 ∷ 44 ∷ 50 ∷ 13 ∷ 10 ∷ []))), 27)
+    -- `v/2/7/5 40`, `v/2/7/5 40`, `c/7/5 2`
     ∷ (sets (55 ∷ 13 ∷ 10 ∷ 118 ∷ 47 ∷ 50 ∷ 47 ∷ 55 ∷ 47 ∷ 53 ∷ 13 ∷ 10 ∷ 36 ∷ 50 ∷ 13 ∷ 10 ∷ 52 ∷ 48 ∷ 13 ∷ 10 ∷ sets (55 ∷ 13 ∷ 10 ∷ 118 ∷ 47 ∷ 50 ∷ 47 ∷ 55 ∷ 47 ∷ 53 ∷ 13 ∷ 10 ∷ 36 ∷ 50 ∷ 13 ∷ 10 ∷ 52 ∷ 48 ∷ 13 ∷ 10 ∷ sets (53 ∷ 13 ∷ 10 ∷ 99 ∷ 47 ∷ 55 ∷ 47 ∷ 53 ∷ 13 ∷ 10 ∷ 36 ∷ 49 ∷ 13 ∷ 10 ∷ 50 ∷ 13 ∷ 10 ∷ []))), 27)
-    -- a commit without its version, with a key less, with a key more, in another order
+    -- a commit without its version, with a key less, with a key more, in another order: `c/7/5 2`
     ∷ (sets (53 ∷ 13 ∷ 10 ∷ 99 ∷ 47 ∷ 55 ∷ 47 ∷ 53 ∷ 13 ∷ 10 ∷ 36 ∷ 49 ∷ 13 ∷ 10 ∷ 50 ∷ 13 ∷ 10 ∷ []), 27)
+    -- `v/2/7/5 40`, `v/10/7/5 0`, `c/7/5 2`
     ∷ (sets (55 ∷ 13 ∷ 10 ∷ 118 ∷ 47 ∷ 50 ∷ 47 ∷ 55 ∷ 47 ∷ 53 ∷ 13 ∷ 10 ∷ 36 ∷ 50 ∷ 13 ∷ 10 ∷ 52 ∷ 48 ∷ 13 ∷ 10 ∷ sets (56 ∷ 13 ∷ 10 ∷ 118 ∷ 47 ∷ 49 ∷ 48 ∷ 47 ∷ 55 ∷ 47 ∷ 53 ∷ 13 ∷ 10 ∷ 36 ∷ 49 ∷ 13 ∷ 10 ∷ 48 ∷ 13 ∷ 10 ∷ sets (53 ∷ 13 ∷ 10 ∷ 99 ∷ 47 ∷ 55 ∷ 47 ∷ 53 ∷ 13 ∷ 10 ∷ 36 ∷ 49 ∷ 13 ∷ 10 ∷ 50 ∷ 13 ∷ 10 ∷ []))), 27)
+    -- `v/2/7/5 40`, `c/7/5 2,10`
     ∷ (sets (55 ∷ 13 ∷ 10 ∷ 118 ∷ 47 ∷ 50 ∷ 47 ∷ 55 ∷ 47 ∷ 53 ∷ 13 ∷ 10 ∷ 36 ∷ 50 ∷ 13 ∷ 10 ∷ 52 ∷ 48 ∷ 13 ∷ 10 ∷ sets (53 ∷ 13 ∷ 10 ∷ 99 ∷ 47 ∷ 55 ∷ 47 ∷ 53 ∷ 13 ∷ 10 ∷ 36 ∷ 52 ∷ 13 ∷ 10 ∷ 50 ∷ 44 ∷ 49 ∷ 48 ∷ 13 ∷ 10 ∷ [])), 27)
+    -- `v/2/7/5 40`, `v/10/7/5 0`, `c/7/5 10,2`
     ∷ (sets (55 ∷ 13 ∷ 10 ∷ 118 ∷ 47 ∷ 50 ∷ 47 ∷ 55 ∷ 47 ∷ 53 ∷ 13 ∷ 10 ∷ 36 ∷ 50 ∷ 13 ∷ 10 ∷ 52 ∷ 48 ∷ 13 ∷ 10 ∷ sets (56 ∷ 13 ∷ 10 ∷ 118 ∷ 47 ∷ 49 ∷ 48 ∷ 47 ∷ 55 ∷ 47 ∷ 53 ∷ 13 ∷ 10 ∷ 36 ∷ 49 ∷ 13 ∷ 10 ∷ 48 ∷ 13 ∷ 10 ∷ sets (53 ∷ 13 ∷ 10 ∷ 99 ∷ 47 ∷ 55 ∷ 47 ∷ 53 ∷ 13 ∷ 10 ∷ 36 ∷ 52 ∷ 13 ∷ 10 ∷ 49 ∷ 48 ∷ 44 ∷ 50 ∷ 13 ∷ 10 ∷ []))), 27)
-    -- no commit; a version of another between
+    -- no commit; a version of another between: `v/2/7/5 40`
     ∷ (sets (55 ∷ 13 ∷ 10 ∷ 118 ∷ 47 ∷ 50 ∷ 47 ∷ 55 ∷ 47 ∷ 53 ∷ 13 ∷ 10 ∷ 36 ∷ 50 ∷ 13 ∷ 10 ∷ 52 ∷ 48 ∷ 13 ∷ 10 ∷ []), 27)
+    -- `v/2/7/5 40`, `v/10/7/6 0`, `c/7/5 2,10`
     ∷ (sets (55 ∷ 13 ∷ 10 ∷ 118 ∷ 47 ∷ 50 ∷ 47 ∷ 55 ∷ 47 ∷ 53 ∷ 13 ∷ 10 ∷ 36 ∷ 50 ∷ 13 ∷ 10 ∷ 52 ∷ 48 ∷ 13 ∷ 10 ∷ sets (56 ∷ 13 ∷ 10 ∷ 118 ∷ 47 ∷ 49 ∷ 48 ∷ 47 ∷ 55 ∷ 47 ∷ 54 ∷ 13 ∷ 10 ∷ 36 ∷ 49 ∷ 13 ∷ 10 ∷ 48 ∷ 13 ∷ 10 ∷ sets (53 ∷ 13 ∷ 10 ∷ 99 ∷ 47 ∷ 55 ∷ 47 ∷ 53 ∷ 13 ∷ 10 ∷ 36 ∷ 52 ∷ 13 ∷ 10 ∷ 50 ∷ 44 ∷ 49 ∷ 48 ∷ 13 ∷ 10 ∷ []))), 27)
-    -- a byte after the stream; the last one missing
+    -- a byte after the stream; the last one missing: `v/2/7/5 40`, `c/7/5 2`
     ∷ (sets (55 ∷ 13 ∷ 10 ∷ 118 ∷ 47 ∷ 50 ∷ 47 ∷ 55 ∷ 47 ∷ 53 ∷ 13 ∷ 10 ∷ 36 ∷ 50 ∷ 13 ∷ 10 ∷ 52 ∷ 48 ∷ 13 ∷ 10 ∷ sets (53 ∷ 13 ∷ 10 ∷ 99 ∷ 47 ∷ 55 ∷ 47 ∷ 53 ∷ 13 ∷ 10 ∷ 36 ∷ 49 ∷ 13 ∷ 10 ∷ 50 ∷ 13 ∷ 10 ∷ 10 ∷ [])), 27)
+    -- `v/2/7/5 40`, `c/7/5 2`
     ∷ (sets (55 ∷ 13 ∷ 10 ∷ 118 ∷ 47 ∷ 50 ∷ 47 ∷ 55 ∷ 47 ∷ 53 ∷ 13 ∷ 10 ∷ 36 ∷ 50 ∷ 13 ∷ 10 ∷ 52 ∷ 48 ∷ 13 ∷ 10 ∷ sets (53 ∷ 13 ∷ 10 ∷ 99 ∷ 47 ∷ 55 ∷ 47 ∷ 53 ∷ 13 ∷ 10 ∷ 36 ∷ 49 ∷ 13 ∷ 10 ∷ 50 ∷ 13 ∷ [])), 27)
-    -- a length that is wrong, or has a needless 0; another command
+    -- a length that is wrong, or has a needless 0; another command: `v/2/7/5 40`, `c/7/5 2`
     ∷ (sets (56 ∷ 13 ∷ 10 ∷ 118 ∷ 47 ∷ 50 ∷ 47 ∷ 55 ∷ 47 ∷ 53 ∷ 13 ∷ 10 ∷ 36 ∷ 50 ∷ 13 ∷ 10 ∷ 52 ∷ 48 ∷ 13 ∷ 10 ∷ sets (53 ∷ 13 ∷ 10 ∷ 99 ∷ 47 ∷ 55 ∷ 47 ∷ 53 ∷ 13 ∷ 10 ∷ 36 ∷ 49 ∷ 13 ∷ 10 ∷ 50 ∷ 13 ∷ 10 ∷ [])), 27)
+    -- `v/2/7/5 40`, `c/7/5 2`
     ∷ (sets (48 ∷ 55 ∷ 13 ∷ 10 ∷ 118 ∷ 47 ∷ 50 ∷ 47 ∷ 55 ∷ 47 ∷ 53 ∷ 13 ∷ 10 ∷ 36 ∷ 50 ∷ 13 ∷ 10 ∷ 52 ∷ 48 ∷ 13 ∷ 10 ∷ sets (53 ∷ 13 ∷ 10 ∷ 99 ∷ 47 ∷ 55 ∷ 47 ∷ 53 ∷ 13 ∷ 10 ∷ 36 ∷ 49 ∷ 13 ∷ 10 ∷ 50 ∷ 13 ∷ 10 ∷ [])), 27)
+    -- `v/2/7/5 40`, `c/7/5 2`
     ∷ (42 ∷ 51 ∷ 13 ∷ 10 ∷ 36 ∷ 51 ∷ 13 ∷ 10 ∷ 115 ∷ 101 ∷ 116 ∷ 13 ∷ 10 ∷ 36 ∷ 55 ∷ 13 ∷ 10 ∷ 118 ∷ 47 ∷ 50 ∷ 47 ∷ 55 ∷ 47 ∷ 53 ∷ 13 ∷ 10 ∷ 36 ∷ 50 ∷ 13 ∷ 10 ∷ 52 ∷ 48 ∷ 13 ∷ 10 ∷ sets (53 ∷ 13 ∷ 10 ∷ 99 ∷ 47 ∷ 55 ∷ 47 ∷ 53 ∷ 13 ∷ 10 ∷ 36 ∷ 49 ∷ 13 ∷ 10 ∷ 50 ∷ 13 ∷ 10 ∷ []), 27)
-    -- key 64, clock 0, ticket 0, ticket 2^32, value 2^64, a needless 0
+    -- key 64, clock 0, ticket 0, ticket 2^32, value 2^64, a needless 0: `v/64/7/5 40`, `c/7/5 64`
     ∷ (sets (56 ∷ 13 ∷ 10 ∷ 118 ∷ 47 ∷ 54 ∷ 52 ∷ 47 ∷ 55 ∷ 47 ∷ 53 ∷ 13 ∷ 10 ∷ 36 ∷ 50 ∷ 13 ∷ 10 ∷ 52 ∷ 48 ∷ 13 ∷ 10 ∷ sets (53 ∷ 13 ∷ 10 ∷ 99 ∷ 47 ∷ 55 ∷ 47 ∷ 53 ∷ 13 ∷ 10 ∷ 36 ∷ 50 ∷ 13 ∷ 10 ∷ 54 ∷ 52 ∷ 13 ∷ 10 ∷ [])), 27)
+    -- `v/2/0/5 40`, `c/0/5 2`
     ∷ (sets (55 ∷ 13 ∷ 10 ∷ 118 ∷ 47 ∷ 50 ∷ 47 ∷ 48 ∷ 47 ∷ 53 ∷ 13 ∷ 10 ∷ 36 ∷ 50 ∷ 13 ∷ 10 ∷ 52 ∷ 48 ∷ 13 ∷ 10 ∷ sets (53 ∷ 13 ∷ 10 ∷ 99 ∷ 47 ∷ 48 ∷ 47 ∷ 53 ∷ 13 ∷ 10 ∷ 36 ∷ 49 ∷ 13 ∷ 10 ∷ 50 ∷ 13 ∷ 10 ∷ [])), 27)
+    -- `v/2/7/0 40`, `c/7/0 2`
     ∷ (sets (55 ∷ 13 ∷ 10 ∷ 118 ∷ 47 ∷ 50 ∷ 47 ∷ 55 ∷ 47 ∷ 48 ∷ 13 ∷ 10 ∷ 36 ∷ 50 ∷ 13 ∷ 10 ∷ 52 ∷ 48 ∷ 13 ∷ 10 ∷ sets (53 ∷ 13 ∷ 10 ∷ 99 ∷ 47 ∷ 55 ∷ 47 ∷ 48 ∷ 13 ∷ 10 ∷ 36 ∷ 49 ∷ 13 ∷ 10 ∷ 50 ∷ 13 ∷ 10 ∷ [])), 27)
+    -- `v/2/7/4294967296 40`, `c/7/4294967296 2`
     ∷ (sets (49 ∷ 54 ∷ 13 ∷ 10 ∷ 118 ∷ 47 ∷ 50 ∷ 47 ∷ 55 ∷ 47 ∷ 52 ∷ 50 ∷ 57 ∷ 52 ∷ 57 ∷ 54 ∷ 55 ∷ 50 ∷ 57 ∷ 54 ∷ 13 ∷ 10 ∷ 36 ∷ 50 ∷ 13 ∷ 10 ∷ 52 ∷ 48 ∷ 13 ∷ 10 ∷ sets (49 ∷ 52 ∷ 13 ∷ 10 ∷ 99 ∷ 47 ∷ 55 ∷ 47 ∷ 52 ∷ 50 ∷ 57 ∷ 52 ∷ 57 ∷ 54 ∷ 55 ∷ 50 ∷ 57 ∷ 54 ∷ 13 ∷ 10 ∷ 36 ∷ 49 ∷ 13 ∷ 10 ∷ 50 ∷ 13 ∷ 10 ∷ [])), 27)
+    -- `v/2/7/5 18446744073709551616`, `c/7/5 2`
     ∷ (sets (55 ∷ 13 ∷ 10 ∷ 118 ∷ 47 ∷ 50 ∷ 47 ∷ 55 ∷ 47 ∷ 53 ∷ 13 ∷ 10 ∷ 36 ∷ 50 ∷ 48 ∷ 13 ∷ 10 ∷ 49 ∷ 56 ∷ 52 ∷ 52 ∷ 54 ∷ 55 ∷ 52 ∷ 52 ∷ 48 ∷ 55 ∷ 51 ∷ 55 ∷ 48 ∷ 57 ∷ 53 ∷ 53 ∷ 49 ∷ 54 ∷ 49 ∷ 54 ∷ 13 ∷ 10 ∷ sets (53 ∷ 13 ∷ 10 ∷ 99 ∷ 47 ∷ 55 ∷ 47 ∷ 53 ∷ 13 ∷ 10 ∷ 36 ∷ 49 ∷ 13 ∷ 10 ∷ 50 ∷ 13 ∷ 10 ∷ [])), 27)
+    -- `v/02/7/5 40`, `c/7/5 2`
     ∷ (sets (56 ∷ 13 ∷ 10 ∷ 118 ∷ 47 ∷ 48 ∷ 50 ∷ 47 ∷ 55 ∷ 47 ∷ 53 ∷ 13 ∷ 10 ∷ 36 ∷ 50 ∷ 13 ∷ 10 ∷ 52 ∷ 48 ∷ 13 ∷ 10 ∷ sets (53 ∷ 13 ∷ 10 ∷ 99 ∷ 47 ∷ 55 ∷ 47 ∷ 53 ∷ 13 ∷ 10 ∷ 36 ∷ 49 ∷ 13 ∷ 10 ∷ 50 ∷ 13 ∷ 10 ∷ [])), 27)
     ∷ []
 
@@ -97,7 +112,12 @@ pub sixty-five : said (streamOf (several 65 1)) ≡ Refused 13 0
 unfolding said several taken streamOf transactionText versionsText versionCommand versionName transactionsIn sequenceIn sequenceFrom transactionIn versionsFrom onward goesOn closed versionIn valued nameIn idTextIn idFrom bulkIn bulkOf _then_ after oldestFirst noneTwice distinct older sameId commitCommand setCommand setBegins bulk lineEnd commitName idText keysText keysAfter digits digitsOf field afterField numberBelow isDecimal numberFrom isDigit all any member _and_ _or_
 sixty-five = refl
 
--- one bad byte after 65 good ones; a ticket of the first 64 again as the 66th
+-- one bad byte after 65 good ones
 pub sixty-five-and-a-byte : said (streamOf (several 65 1) ++ (42 ∷ [])) ≡ Refused 27 0
 unfolding said several taken streamOf transactionText versionsText versionCommand versionName transactionsIn sequenceIn sequenceFrom transactionIn versionsFrom onward goesOn closed versionIn valued nameIn idTextIn idFrom bulkIn bulkOf _then_ after oldestFirst noneTwice distinct older sameId commitCommand setCommand setBegins bulk lineEnd commitName idText keysText keysAfter digits digitsOf field afterField numberBelow isDecimal numberFrom isDigit all any member _and_ _or_
 sixty-five-and-a-byte = refl
+
+-- the first ticket again, as the 66th: "27 .. a repeated ticket" over the whole stream
+pub again-after-sixty-five : said (streamOf (several 65 1 ++ (record { id = record { clock = 66; txn = 1 }; writes = record { key = 2; value = 40 } ∷ [] } ∷ []))) ≡ Refused 27 0
+unfolding said several taken streamOf transactionText versionsText versionCommand versionName transactionsIn sequenceIn sequenceFrom transactionIn versionsFrom onward goesOn closed versionIn valued nameIn idTextIn idFrom bulkIn bulkOf _then_ after oldestFirst noneTwice distinct older sameId commitCommand setCommand setBegins bulk lineEnd commitName idText keysText keysAfter digits digitsOf field afterField numberBelow isDecimal numberFrom isDigit all any member _and_ _or_
+again-after-sixty-five = refl
