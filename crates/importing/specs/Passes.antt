@@ -4,7 +4,6 @@ use mathlib.Core.Path.{_≡_}
 use mathlib.Core.Bool.{Bool, true, false, not}
 use mathlib.Core.List.{List, [], _∷_, _++_, map}
 use mathlib.Core.Option.{some, none}
-use lib.Dec.{ltb}
 use lib.ListN.{length, take, drop}
 use Rattle.model.specs.declared.Id.{Id}
 use Rattle.model.specs.Types.{Write}
@@ -12,7 +11,6 @@ use Rattle.model.specs.Lists.{_and_, member}
 use Rattle.model.specs.Limits.{recordSize}
 use Rattle.model.specs.Kinds.{narrowKind, slotSize, storeSize}
 use Rattle.model.specs.KeySets.{keySet}
-use Rattle.model.specs.Ids.{sameId}
 use Rattle.model.specs.Lives.{writeKey}
 use Rattle.resp.specs.Streams.{Transaction, oldestFirst}
 use Rattle.resp.specs.Inverse as I
@@ -27,9 +25,6 @@ use Rattle.importing.specs.declared.Pass.the-variants as Pass
 -- the slots of a store, and one more
 abbrev pub roomSize : ℕ
 roomSize = storeSize narrowKind + slotSize narrowKind
-
-unfoldable pub GoesOn : Bool → Id → ℕ → Id → ℕ → Type 0
-GoesOn r i k j m = r ≡ (sameId j i and ltb k m)
 
 -- the size of w where bs begin with it, and 0 where not
 unfoldable pub CommitSize : ℕ → List ℕ → List ℕ → Type 0

@@ -22,13 +22,16 @@ use resp::write_commit_command;
 use resp::write_id;
 ghost use mathlib.Core.Path.{_≡_};
 ghost use Prim.Native.Nat.{_≤_, _<_};
+ghost use lib.Dec.{ltb};
 ghost use lib.ListN.{length};
+ghost use Rattle.model.specs.Lists.{_and_};
+ghost use Rattle.model.specs.Ids.{sameId};
 ghost use Rattle.model.specs.Kinds.{narrowKind, slotSize};
 ghost use Rattle.model.specs.KeySets.{keySet};
 ghost use Rattle.resp.specs.Streams.{commitCommand};
 ghost use Rattle.resp.specs.Inverse.{transactionIn};
 ghost use Rattle.resp.specs.Imports.{import};
-ghost use Rattle.importing.specs.Passes.{GoesOn, CommitSize, VersionsSay, TakenSays, PassSays, BadSays, roomSize};
+ghost use Rattle.importing.specs.Passes.{CommitSize, VersionsSay, TakenSays, PassSays, BadSays, roomSize};
 
 // The slots of a store, and below them one more: for a transaction after the 64th, which no store has.
 const ROOM: usize = Station::STORE + Station::SLOT;
@@ -53,7 +56,7 @@ enum Pass {
 
 // A version goes on after those of an id whose last key is given.
 fn goes_on(id: Id, last: u8, next: Id, key: u8) -> bool
-    ensures { λ r. ⌜ GoesOn r id last next key ⌝ }
+    ensures { λ r. ⌜ r ≡ (sameId next id and ltb last key) ⌝ }
 {
     if !same_id(next, id) {
         return false;

@@ -1,5 +1,5 @@
 -- 02 §11: "Import takes only such a stream": the transactions whose stream the bytes are, if they are one's. (`read-exactly`: no others.)
-use Prim.Native.Nat.{ℕ, zero, suc}
+use Prim.Native.Nat.{ℕ, zero, suc, _-_}
 use mathlib.Core.Bool.{Bool, cond}
 use mathlib.Core.List.{List, [], _∷_, _++_, map}
 use mathlib.Core.Option.{Option, some, none}
@@ -9,6 +9,7 @@ use Rattle.model.specs.declared.Id.{Id}
 use Rattle.model.specs.Types.{Write}
 use Rattle.model.specs.Lists.{_and_}
 use Rattle.model.specs.Limits.{keys, txnRange, numberRange}
+use Rattle.model.specs.Kinds.{narrowKind}
 use Rattle.model.specs.Ids.{sameId}
 use Rattle.model.specs.Lives.{writeKey}
 use Rattle.decimal.specs.Digits.{numberBelow}
@@ -108,9 +109,9 @@ unfoldable pub versionsFrom : ℕ → Id → ℕ → List Write → List ℕ →
 versionsFrom zero i k ws bs = closed i ws bs
 versionsFrom (suc more) i k ws bs = onward i k (versionIn bs) (λ v. versionsFrom more i (v .write .key) (ws ++ (v .write ∷ [])) (v .rest)) (closed i ws bs)
 
--- 1 to 8 versions
+-- 1 to 8 versions: after the first at most 7
 unfoldable pub transactionIn : List ℕ → Option Taken
-transactionIn bs = versionIn bs then λ v. versionsFrom 7 (v .id) (v .write .key) (v .write ∷ []) (v .rest)
+transactionIn bs = versionIn bs then λ v. versionsFrom (narrowKind .writeLimit - 1) (v .id) (v .write .key) (v .write ∷ []) (v .rest)
 
 -- ── the stream ──
 -- one transaction after the other to the end; there are at most as many as bytes

@@ -12,7 +12,7 @@ use Rattle.model.specs.Types.{Write}
 use Rattle.resp.specs.Inverse.{versionIn}
 use Rattle.resp.proofs.NumberLaws.{restOf}
 use Rattle.resp.proofs.VersionLaws.{version-none, version-some, version-fits}
-use Rattle.importing.specs.Passes.{GoesOn, VersionsSay}
+use Rattle.importing.specs.Passes.{VersionsSay}
 use Rattle.importing.proofs.VersionsRead.{VersionsSoFar, none-first, key-low, rest-inside, reading-starts, reading-full, reading-ends, reading-stops, reading-next}
 use Rattle.importing.proofs.versions_in.Statement.{statement}
 use Rattle.importing.proofs.versions_in.Tie as tie
@@ -111,7 +111,7 @@ same-length-2 c =
     l .loop .inv .long ∙ sym (l .before .before .before .before .before .before .before .before .before .before .before .before .pre)
 
 returns-3 : tie.Need-returns-3 Inv-loop μ-loop
-unfolding VersionsSay GoesOn
+unfolding VersionsSay
 returns-3 c =
     let p = c .before .before .before in
     reading-stops _ _ _ _ _ _ _ (turn p .loop .inv) (p .before .before .before .before .loop-test .taken) _ _ _ (next-size p) (next-is p)
@@ -133,7 +133,6 @@ add-at c =
     omega (arith, short (f .before .before .before .before), rest-inside (bytes f) (l .loop .at) (next-size p) (l .loop .inv .inside) (next-fits p))
 
 loop-again : tie.Need-loop-again Inv-loop μ-loop
-unfolding GoesOn
 loop-again c =
     let w = c .before .before .before .write-version2 in
     let g = c .before .before .before .before .before in
