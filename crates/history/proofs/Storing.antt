@@ -33,7 +33,7 @@ use Rattle.model.specs.Step.{one_more, stepped, step}
 use Rattle.model.specs.Calls.{Step, txn_of}
 use Rattle.model.specs.Answers.{values}
 use Rattle.model.proofs.ListLaws.{first-yes, first-no, get_or-mem, member-yes, member-no, member-finds}
-use Rattle.model.proofs.IdLaws.{same_id}
+use Rattle.model.proofs.IdLaws.{same_id_lem}
 use Rattle.model.proofs.RecordLaws.{Fits, length-commit, length-version, entry-round, commit-rules, version-value, version-round, with-length, record_same, record-other, record-elsewhere}
 use Rattle.model.proofs.InsideLaws.{entry_for-txn, entry_for-id, entry_for-phase}
 use Rattle.model.proofs.SlotLaws.{committed-injective, committed≢damaged, free≢damaged, seen-frame, seen-free, seen-free-mark, seen-committed}

@@ -1,4 +1,6 @@
 // A write set as one number of 64 bits, bit k standing for key k (02 §5; model's specs/KeySets).
+#![tactic(auto)]
+
 ghost use Rattle.std.specs.Prelude.{◌≡◌, ◌^◌, ◌≤◌, ◌<◌, leb, length, get_or};
 ghost use Rattle.model.specs.Lists.{all, first, member, padded};
 ghost use Rattle.model.specs.Limits.{keys, keys_size};

@@ -9,7 +9,7 @@ use lib.ListN.{replicate}
 use Rattle.model.specs.declared.Id.{Id}
 use Rattle.model.specs.declared.Read.{Read}
 use Rattle.model.specs.Types.{Entry, Write, Station}
-use Rattle.model.specs.declared.Phase.TheVariants.{Open, Closing}
+use Rattle.model.specs.declared.Phase.TheVariants.{Open}
 use Rattle.model.specs.declared.Answer.{Answer}
 use Rattle.model.specs.declared.Answer.TheVariants as A
 use Rattle.model.specs.Lists.{◌and◌, ◌or◌, all, any, first, filter, count, insert, padded, from, member, least, maximum, ascending, distinct, same, any_below, greatest_below}

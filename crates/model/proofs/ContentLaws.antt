@@ -9,7 +9,7 @@ use lib.Seq.{drop-drop, length-take-le}
 use native.Mathlib.Omega.{arith}
 use borrow.Author.Tests.{le-leb}
 use Rattle.model.specs.Types.{Entry}
-use Rattle.model.specs.Lists.{from, padded, same}
+use Rattle.model.specs.Lists.{padded}
 use Rattle.model.specs.Limits.{record_size}
 use Rattle.model.specs.Kinds.{Kind, slot_size, store_size}
 use Rattle.model.specs.Bytes.{id_in}

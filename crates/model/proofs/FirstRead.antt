@@ -1,12 +1,12 @@
 -- A get by a transaction that has read nothing and has not written the key: it is answered the newest entry that wrote it.
 use Prim.Native.Nat.{ℕ, ◌<◌}
 use mathlib.Core.Path.{◌≡◌, refl, sym, ◌∙◌}
-use mathlib.Core.Bool.{true, false, not, true≢false}
+use mathlib.Core.Bool.{true, false, true≢false}
 use mathlib.Core.List.{List, []}
 use mathlib.Core.Option.{Option, some, none, Option-elim}
 use lib.ListN.{length, get_or}
 use Rattle.model.specs.Types.{Entry}
-use Rattle.model.specs.Lists.{◌and◌, filter, least}
+use Rattle.model.specs.Lists.{filter, least}
 use Rattle.model.specs.Ids.{older, greatest}
 use Rattle.model.specs.Entries.{no_entry, wrote}
 use Rattle.model.specs.Orders.{newest}

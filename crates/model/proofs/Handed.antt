@@ -1,13 +1,12 @@
 -- A station that a function is handed: what owning it gives is that its numbers are in their ranges and its arrays have their lengths.
 use Prim.Native.Nat.{◌<◌}
-use mathlib.Core.Path.{◌∙◌, sym}
-use mathlib.Core.List.{List, [], ◌∷◌, map}
-use lib.ListN.{length-map}
+use mathlib.Core.List.{List, [], ◌∷◌}
 use native.Mathlib.Omega.{arith}
 use mir.Val.{Val}
 use denote.Shadow.{shadow}
 use denote.Array.{each}
-use denote.Struct.Field.{Field, u64-field}
+use denote.Builtin.{u64}
+use denote.RattleType.{RattleType}
 use Rattle.model.specs.declared.Id.{Id}
 use Rattle.model.specs.declared.Read.{Read}
 use Rattle.model.specs.declared.Live.{Live}
@@ -26,11 +25,11 @@ use Rattle.model.specs.contracts.Entry as EntryType
 use Rattle.model.specs.contracts.Station as StationType
 
 -- each element of an array is handed
-each-handed : (F : Field) (P : F.Value → Type 0) → ((x : F.Value) (vs : List Val) → shadow (F.row.own_val (F.into x) vs) → P x)
-    → (xs : List F.Value) (us : List Val) → shadow (each F.row.Denot F.row.own_val (map F.into xs) us) → Every P xs
-each-handed F P h [] us s = tt
-each-handed F P h (x ∷ xs) [] s = absurd s
-each-handed F P h (x ∷ xs) (u ∷ us) s = (h x (u ∷ []) s.0, each-handed F P h xs us s.1)
+each-handed : (R : RattleType) (P : R.Denot → Type 0) → ((x : R.Denot) (vs : List Val) → shadow (R.own_val x vs) → P x)
+    → (xs : List R.Denot) (us : List Val) → shadow (each R.Denot R.own_val xs us) → Every P xs
+each-handed R P h [] us s = tt
+each-handed R P h (x ∷ xs) [] s = absurd s
+each-handed R P h (x ∷ xs) (u ∷ us) s = (h x (u ∷ []) s.0, each-handed R P h xs us s.1)
 
 id-handed : (i : Id) (vs : List Val) → shadow ((IdType.the_row).own_val i vs) → IdFits i
 id-handed i vs s = record { clock64 = s.1.1.0.1; txn32 = s.1.1.1.0.1 }
@@ -59,17 +58,17 @@ live-handed l vs s =
       txn32 = txn.0.1;
       phase = phase-handed l.phase _ phase.0;
       keys64 = keys.0.1;
-      value-places = sym (length-map l.values u64-field.into) ∙ values.0.1.0.1;
-      values = each-handed u64-field (λ v. v < number_range) (λ v vs h. h.1) l.values values.0.0 values.0.1.1;
+      value-places = values.0.1.0.1;
+      values = each-handed u64 (λ v. v < number_range) (λ v vs h. h.1) l.values values.0.0 values.0.1.1;
       reads8 = read_count.0.1;
-      read-places = sym (length-map l.reads (ReadType.the_field).into) ∙ reads.0.1.0.1;
-      reads = each-handed ReadType.the_field ReadFits read-handed l.reads reads.0.0 reads.0.1.1;
+      read-places = reads.0.1.0.1;
+      reads = each-handed ReadType.the_row ReadFits read-handed l.reads reads.0.0 reads.0.1.1;
     }
 
 pub station-handed : (st : Station) (vs : List Val) → shadow ((StationType.the_row).own_val st vs) → StationFits st
 station-handed st vs s = record {
-  live-places = sym (length-map st.live (LiveType.the_field).into) ∙ s.1.1.0.1.0.1;
-  live = each-handed LiveType.the_field LiveFits live-handed st.live s.1.1.0.0 s.1.1.0.1.1;
-  entry-places = sym (length-map st.entries (EntryType.the_field).into) ∙ s.1.1.1.0.1.0.1;
-  entries = each-handed EntryType.the_field EntryFits entry-handed st.entries s.1.1.1.0.0 s.1.1.1.0.1.1;
+  live-places = s.1.1.0.1.0.1;
+  live = each-handed LiveType.the_row LiveFits live-handed st.live s.1.1.0.0 s.1.1.0.1.1;
+  entry-places = s.1.1.1.0.1.0.1;
+  entries = each-handed EntryType.the_row EntryFits entry-handed st.entries s.1.1.1.0.0 s.1.1.1.0.1.1;
 }

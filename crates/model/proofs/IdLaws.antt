@@ -10,7 +10,7 @@ use native.Mathlib.Decide.{ℕ_discrete, dec_lt}
 use native.Mathlib.Omega.{arith}
 use borrow.Author.Tests.{ltb-true, ltb-false, eqb-true, lt-ltb, le-ltb, eq-eqb}
 use Rattle.model.specs.declared.Id.{Id}
-use Rattle.model.specs.Lists.{◌and◌, ◌or◌, same}
+use Rattle.model.specs.Lists.{◌and◌, ◌or◌}
 use Rattle.model.specs.Ids.{older, same_id, no_id, newer_of, greatest}
 use Rattle.model.proofs.Tests.{and_left, and_right, and_intro, and_second, or_left, or_right, or-intro-left, or-intro-right, or_cases, bool_cases}
 

@@ -165,8 +165,8 @@ module _ (κ : Kind) (φ : KindFits κ) where
   pub slots-contents : (cs : List Content) → Every (Fit κ) cs → (m z : ℕ) → contents κ (slots_for κ cs ++ replicate z 0) 0 (map seen_as cs ++ replicate m free) ≡ cs
   unfolding slots_for contents
   slots-contents [] f m z = none_free (replicate z 0) m 0
-  slots-contents (c ∷ cs) f m z = rw (append_assoc (slot_for κ c) (slots_for κ cs) (replicate z 0))
-      (ap₂ (λ (x : Content) (xs : List Content). x ∷ xs) (first-content κ φ c f.0 _) (next-contents κ (slot_for κ c) _ (slot-long κ φ c f.0) 0 (map seen_as cs ++ replicate m free) ∙ slots-contents cs f.1 m z))
+  slots-contents (c ∷ cs) f m z = ap (λ (s : List ℕ). contents κ s 0 (map seen_as (c ∷ cs) ++ replicate m free)) (append_assoc (slot_for κ c) (slots_for κ cs) (replicate z 0))
+      ∙ (ap₂ (λ (x : Content) (xs : List Content). x ∷ xs) (first-content κ φ c f.0 _) (next-contents κ (slot_for κ c) _ (slot-long κ φ c f.0) 0 (map seen_as cs ++ replicate m free) ∙ slots-contents cs f.1 m z))
 
 -- ── slots seen as committed one after the other, and free ones after them ──
 module _ (m : ℕ) where

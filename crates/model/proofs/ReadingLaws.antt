@@ -17,7 +17,7 @@ use Rattle.model.specs.Types.{Entry}
 use Rattle.model.specs.Lists.{◌and◌, any}
 use Rattle.model.specs.Ids.{older, same_id, no_id}
 use Rattle.model.specs.Entries.{no_entry, wrote, wrote_as}
-use Rattle.model.specs.Reading.{lower_bound, conflicts_with, lowest_conflict, conflicts, newest_writer, key_in_the_way, passes, absent, nofit, version, chosen, choose, Atomic}
+use Rattle.model.specs.Reading.{lower_bound, conflicts_with, lowest_conflict, newest_writer, key_in_the_way, passes, absent, nofit, version, chosen, choose, Atomic}
 use Rattle.model.specs.Orders.{newest}
 use Rattle.model.proofs.Tests.{and_left, and_right, and_intro, and_second, not_of_false}
 use Rattle.model.proofs.ListLaws.{any-finds, any_at, any_none, kept-mem, kept_from}

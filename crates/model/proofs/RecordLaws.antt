@@ -23,7 +23,7 @@ use Rattle.model.specs.Entries.{keys_of, mark_in, count_in, key_bytes, entry_in,
 use Rattle.model.specs.Ranges.{Every, IsByte}
 use Rattle.model.specs.Records.{value_in, version_record, zero_record, carries_version, record_place, record_at, with_record}
 use Rattle.model.proofs.Tests.{and_left, and_right, and_intro}
-use Rattle.model.proofs.IdLaws.{same_id, id_same}
+use Rattle.model.proofs.IdLaws.{same_id_lem, id_same}
 
 -- ── numbers and their bytes ──
 pub length-bytes : (n x : ℕ) → length (bytes n x) ≡ n
@@ -186,7 +186,7 @@ carries-keys κ r e h = and_right _ _ h
 
 pub carries-id-of : (κ : Kind) (r : List ℕ) (e : Entry) → carries_entry κ r e ≡ true → id_in r ≡ e.id
 unfolding carries_entry
-carries-id-of κ r e h = same_id (id_in r) e.id (and_right _ _ (and_left _ _ h))
+carries-id-of κ r e h = same_id_lem (id_in r) e.id (and_right _ _ (and_left _ _ h))
 
 pub carries-entry : (κ : Kind) (r : List ℕ) (e : Entry) → KindFits κ → WriteSet κ (keys_of e) → carries_entry κ r e ≡ true → entry_in κ r ≡ e
 unfolding entry_in
@@ -275,7 +275,7 @@ module _ (r : List ℕ) (l : length r ≡ record_size) (b : Bytes r) where
   version-only k i h =
       let c : (eqb (get_or r 0 0) k and eqb (get_or r 1 0) 0 and eqb (get_or r 2 0) 0 and eqb (get_or r 3 0) 0) ≡ true = and_left _ _ h in
       version-parts (eqb-true (get_or r 1 0) 0 (and_right _ _ (and_left _ _ (and_left _ _ c)))) (eqb-true (get_or r 2 0) 0 (and_right _ _ (and_left _ _ c))) (eqb-true (get_or r 3 0) 0 (and_right _ _ c))
-      ∙ ap₂ (λ (x : ℕ) (y : Id). version_record x y (value_in r)) (eqb-true (get_or r 0 0) k (and_left _ _ (and_left _ _ (and_left _ _ c)))) (same_id (id_in r) i (and_right _ _ h))
+      ∙ ap₂ (λ (x : ℕ) (y : Id). version_record x y (value_in r)) (eqb-true (get_or r 0 0) k (and_left _ _ (and_left _ _ (and_left _ _ c)))) (same_id_lem (id_in r) i (and_right _ _ h))
 
 module _ (κ : Kind) (r : List ℕ) (l : length r ≡ record_size) (b : Bytes r) where
   commit-parts : (ks : List ℕ) → mark_in r ≡ κ.mark → get_or r 2 0 ≡ 0 → get_or r 3 0 ≡ 0 → carries_keys κ r ks ≡ true → r ≡ commit_record κ (record { id = id_in r; keys = ks })
@@ -292,7 +292,7 @@ module _ (κ : Kind) (r : List ℕ) (l : length r ≡ record_size) (b : Bytes r)
 -- ── what a version record carries ──
 pub carries-id : (r : List ℕ) (k : ℕ) (i : Id) → carries_version r k i ≡ true → id_in r ≡ i
 unfolding carries_version
-carries-id r k i h = same_id (id_in r) i (and_right _ _ h)
+carries-id r k i h = same_id_lem (id_in r) i (and_right _ _ h)
 
 pub carries-key : (r : List ℕ) (k : ℕ) (i : Id) → carries_version r k i ≡ true → get_or r 0 0 ≡ k
 unfolding carries_version

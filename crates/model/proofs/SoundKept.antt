@@ -239,23 +239,23 @@ commit-keeps st t c h =
 module _ (p : Phase) where
   one_more-closing : is_closing (one_more p) ≡ is_closing p
   unfolding one_more is_closing
-  one_more-closing = elim p [ Unused ↦ refl | Open ↦ refl | Closing d c n ↦ refl ]
+  one_more-closing = elim p as (λ q. is_closing (one_more q) ≡ is_closing q) [ Unused ↦ refl | Open ↦ refl | Closing d c n ↦ refl ]
 
   one_more-mark : slot_mark (one_more p) ≡ slot_mark p
   unfolding one_more slot_mark
-  one_more-mark = elim p [ Unused ↦ refl | Open ↦ refl | Closing d c n ↦ refl ]
+  one_more-mark = elim p as (λ q. slot_mark (one_more q) ≡ slot_mark q) [ Unused ↦ refl | Open ↦ refl | Closing d c n ↦ refl ]
 
   one_more-slot : closing_slot (one_more p) ≡ closing_slot p
   unfolding one_more closing_slot
-  one_more-slot = elim p [ Unused ↦ refl | Open ↦ refl | Closing d c n ↦ refl ]
+  one_more-slot = elim p as (λ q. closing_slot (one_more q) ≡ closing_slot q) [ Unused ↦ refl | Open ↦ refl | Closing d c n ↦ refl ]
 
   one_more-clock : closing_clock (one_more p) ≡ closing_clock p
   unfolding one_more closing_clock
-  one_more-clock = elim p [ Unused ↦ refl | Open ↦ refl | Closing d c n ↦ refl ]
+  one_more-clock = elim p as (λ q. closing_clock (one_more q) ≡ closing_clock q) [ Unused ↦ refl | Open ↦ refl | Closing d c n ↦ refl ]
 
   one_more-stored : records_stored (one_more p) ≤ records_stored p + 1
   unfolding one_more records_stored
-  one_more-stored = elim p [ Unused ↦ omega arith | Open ↦ omega arith | Closing d c n ↦ omega arith ]
+  one_more-stored = elim p as (λ q. records_stored (one_more q) ≤ records_stored q + 1) [ Unused ↦ omega arith | Open ↦ omega arith | Closing d c n ↦ omega arith ]
 
 -- a record is stored, and n keys have at most n + 1
 more-sound : (st : Station) (t : ℕ) → Live-at st t → is_closing (live_at st (place_of t st)).phase ≡ true

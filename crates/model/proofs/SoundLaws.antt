@@ -4,7 +4,6 @@ use mathlib.Core.Path.{◌≡◌, refl, sym, ap, subst, subst₂, ◌∙◌}
 use mathlib.Core.Logic.{◌≢◌, ⊎_elim}
 use mathlib.Core.Bool.{true, false, not, true≢false, false≢true}
 use mathlib.Core.List.{List, ◌++◌, map, Memᴰ}
-use mathlib.Core.Option.{none}
 use lib.Dec.{leb}
 use lib.ListN.{length-map, length, drop, get_or, length-take}
 use lib.Seq.{set_out, get_or-drop}

@@ -4,7 +4,6 @@ use mathlib.Core.Path.{◌≡◌, refl, sym, ap, subst, ◌∙◌}
 use mathlib.Core.Logic.{◌≢◌, ◌⊎◌, inl, inr, ⊎_elim}
 use mathlib.Core.Bool.{Bool, true, false, not, true≢false}
 use mathlib.Core.List.{List, [], ◌∷◌, ◌++◌, append_assoc}
-use mathlib.Core.Option.{none}
 use lib.Dec.{eqb, leb}
 use lib.ListN.{length, get_or, set, length-set, length-append}
 use lib.Seq.{get_or-set_same, get_or-set_other}
@@ -14,7 +13,7 @@ use native.Mathlib.Omega.{arith}
 use borrow.Author.Tests.{not-true, eqb-false, eq-eqb, ne_eqb, le-ltb, lt-ltb, lt-leb}
 use Rattle.model.specs.Types.{Entry, Station}
 use Rattle.model.specs.declared.Answer.TheVariants as A
-use Rattle.model.specs.Lists.{◌and◌, ◌or◌, all, any}
+use Rattle.model.specs.Lists.{◌and◌, ◌or◌, all}
 use Rattle.model.specs.Limits.{sweep_limit}
 use Rattle.model.specs.Kinds.{store_size}
 use Rattle.model.specs.Ids.{older}
@@ -36,7 +35,7 @@ use Rattle.model.proofs.RefusalLaws.{refusals-none, skipped, hit}
 use Rattle.model.proofs.StationLaws.{entry-get, entry_at-same, entry_at-other}
 use Rattle.model.proofs.SoundFacts.{held_below}
 use Rattle.model.proofs.SoundKept.{collect-keeps, Keeps}
-use Rattle.model.proofs.CollectionLaws.{newer-writer, Collected, stored-append, Ends, Goes, ends-or-goes, ends, next_station, next_store, goes, collections-keep, collect-length}
+use Rattle.model.proofs.CollectionLaws.{newer-writer, stored-append, Ends, Goes, ends-or-goes, ends, next_station, next_store, goes, collections-keep, collect-length}
 
 -- ── collecting an entry that is superseded changes no other entry's 15 or 16 ──
 module _ (es : List Entry) (d : ℕ) (sup : superseded es (get_or es d no_entry) ≡ true) where

@@ -7,7 +7,6 @@ use lib.Seq.{take_all}
 use native.Mathlib.Nat.{suc-ne-zero}
 use native.Mathlib.Omega.{arith}
 use Rattle.model.specs.Types.{Write}
-use Rattle.model.specs.Lists.{◌and◌, all}
 use Rattle.model.specs.Lives.{no_write, write_key, write_value}
 use Rattle.model.specs.Listed.{valued}
 use Rattle.model.specs.Ranges.{Every}

@@ -1,6 +1,5 @@
 -- 01 'The run sheet', output: the number and the values a, b, c of each answer.
 use Rattle.std.specs.Prelude.{ℕ}
-use Rattle.model.specs.declared.Phase.TheVariants.{Closing}
 use Rattle.model.specs.declared.Answer.{Answer}
 use Rattle.model.specs.declared.Answer.TheVariants as A
 

@@ -1,5 +1,7 @@
 // The types of the store: a station's live transactions and its commit set, and what a call answers.
 // What each call does to them is defined in specs/.
+#![tactic(auto)]
+
 ghost use Rattle.std.specs.Prelude.{◌≡◌, ◌≤◌, length};
 ghost use Rattle.model.specs.Limits.{read_limit};
 ghost use Rattle.model.specs.Kinds.{narrow_kind, wide_kind, slot_size, store_size};
@@ -10,14 +12,14 @@ ghost use Rattle.model.specs.Entries.{no_entry};
 ghost use Rattle.model.specs.Stations.{empty_station};
 
 // 01's id: the pair (clock, ticket) of a committed transaction.
-#[derive(Drop)]
+#[derive(Clone, Copy)]
 pub struct Id {
     pub clock: u64,
     pub txn: u32,
 }
 
 // How far a live transaction is: 01's open, or closing with its slot (drawer), clock and records (slips) stored so far.
-#[derive(Drop)]
+#[derive(Clone, Copy)]
 pub enum Phase {
     Unused,
     Open,
@@ -25,7 +27,7 @@ pub enum Phase {
 }
 
 // A key of the read set (01's read list) with the id of the version read.
-#[derive(Drop)]
+#[derive(Clone, Copy)]
 pub struct Read {
     pub key: u8,
     pub id: Id,
@@ -33,7 +35,7 @@ pub struct Read {
 
 // A place for a live transaction (01's live ticket). Its write set (01's write list) is a number in which bit k stands for key k (02 §5), and the
 // values of its keys in their order; room for 16, a wide store's limit (02 §6).
-#[derive(Drop)]
+#[derive(Clone, Copy)]
 pub struct Live {
     pub txn: u32,
     pub phase: Phase,
@@ -44,14 +46,14 @@ pub struct Live {
 }
 
 // A committed transaction of the commit set (01's entry, a held drawer): its id and write set, in which bit k stands for key k (02 §5).
-#[derive(Drop)]
+#[derive(Clone, Copy)]
 pub struct Entry {
     pub id: Id,
     pub keys: u64,
 }
 
 // The kind of a store (02 §6): 64 slots of 8 keys, or 32 slots of 16.
-#[derive(Drop)]
+#[derive(Clone, Copy)]
 pub enum Kind {
     Narrow,
     Wide,
@@ -59,7 +61,7 @@ pub enum Kind {
 
 // 01's station, the paper's node: all that is lost when power goes. It is made for a store of its kind; of the wide kind only the first 32 entries are
 // used.
-#[derive(Drop)]
+#[derive(Clone, Copy)]
 pub struct Station {
     pub live: [Live; Station::LIVE],
     pub entries: [Entry; Station::SLOTS],
@@ -68,7 +70,7 @@ pub struct Station {
 
 // What a call answers; the variants are 01's output words, and Swept and Moved, with how many entries a sweep has collected and how many slots a
 // move has filled. Nofit holds the key in the way; Refused the number and, with 18, the slot.
-#[derive(Drop)]
+#[derive(Clone, Copy)]
 pub enum Answer {
     Started,
     Kept,
@@ -90,7 +92,7 @@ pub enum Answer {
 }
 
 // What a call hands back beside the store: its answer, and the station.
-#[derive(Drop)]
+#[derive(Clone, Copy)]
 pub struct Outcome {
     pub station: Station,
     pub answer: Answer,

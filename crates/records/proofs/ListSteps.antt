@@ -10,7 +10,7 @@ use lib.Seq.{get_or-take}
 use native.Mathlib.Omega.{arith}
 use native.Mathlib.Numerals.{add-one}
 use borrow.Author.Tests.{lt-ltb, le-ltb, le-leb, lt-leb, eq-eqb, ne_eqb}
-use Rattle.model.specs.Lists.{◌and◌, ◌or◌, all, ascending}
+use Rattle.model.specs.Lists.{◌and◌, all, ascending}
 use Rattle.model.proofs.Tests.{and_intro, and-none-left, and-none-right}
 use Rattle.model.proofs.RestLaws.{rest-next, all_more, all-stop, all_end}
 

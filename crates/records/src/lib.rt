@@ -1,4 +1,6 @@
 // The bytes of a record and of a slot, read and written. Their meaning is defined in model's specs/Bytes, Entries, Records and Slots.
+#![tactic(auto)]
+
 ghost use Rattle.std.specs.Prelude.{◌≡◌, true, false, ◌≤◌, ◌<◌, ◌-◌, ◌^◌, ◌++◌, eqb, length, take, drop, replicate};
 ghost use Rattle.model.specs.Lists.{all, ascending, same};
 ghost use Rattle.model.specs.Limits.{keys, keys_size, record_size, byte_range};
@@ -19,7 +21,7 @@ use model::{Entry, Id, Kind, Station, mark, same_id};
 const FREE_MARK: u8 = 0;
 
 // What a slot, 01's drawer, is read as.
-#[derive(Drop)]
+#[derive(Clone, Copy)]
 pub enum Slot {
     Free,
     Committed(Entry),
@@ -27,7 +29,7 @@ pub enum Slot {
 }
 
 // What a commit record's bytes say of a write set: its count, and its eight key bytes.
-#[derive(Drop)]
+#[derive(Clone, Copy)]
 struct Fields {
     id: Id,
     count: u8,

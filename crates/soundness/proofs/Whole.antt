@@ -18,7 +18,7 @@ use Rattle.model.specs.Types.{Live}
 use Rattle.model.specs.Types.{Entry, Station}
 use Rattle.model.specs.declared.Phase.{Phase}
 use Rattle.model.specs.declared.Phase.TheVariants.{Unused, Open, Closing}
-use Rattle.model.specs.Lists.{◌and◌, all, any, first, distinct, ascending, same}
+use Rattle.model.specs.Lists.{◌and◌, all, any, first, distinct, ascending}
 use Rattle.model.specs.Lives.{reads_of, write_count, read_key, closing_slot, closing_clock, records_stored, slot_mark}
 use Rattle.model.specs.Entries.{is_no_entry, wrote_as, no_entry, entry_rules}
 use Rattle.model.specs.Stations.{entry_at, live_txns, held_txns, holds, closing_slots}

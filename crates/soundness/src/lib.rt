@@ -1,4 +1,6 @@
 // Whether a station is sound, as model's specs/Sound.antt defines it.
+#![tactic(auto)]
+
 ghost use Rattle.std.specs.Prelude.{◌≡◌, false, ◌+◌, ◌≤◌, eqb, length, drop};
 ghost use Rattle.model.specs.Limits.{live_places, entry_places, write_places};
 ghost use Rattle.model.specs.Lists.{all, count, distinct};

@@ -10,7 +10,7 @@ use native.Mathlib.Nat.{le_of_suc-le-suc, not-suc-le-zero, zero-lt-suc, lt_irref
 use native.Mathlib.Omega.{arith}
 use native.Mathlib.Numerals.{add-one}
 use borrow.Author.Tests.{le-leb, lt-leb}
-use Rattle.model.specs.Lists.{all, first, insert, padded, same}
+use Rattle.model.specs.Lists.{all, first, insert, padded}
 use Rattle.model.proofs.ListLaws.{first-yes, first-no, all_head, all_tail, take-map, drop-map}
 use Rattle.model.proofs.InsertLaws.{insert-rule}
 use Rattle.stations.specs.Found.{at_least, joined}

@@ -24,7 +24,7 @@ abbrev pub station_of : Kind → List Live → List Entry → Station
 station_of κ ls es = record { kind = κ; live = ls; entries = es }
 
 -- ── by the live places and the entries alone, whatever the kind ──
--- the transaction at a place (model's live_at), the place of a transaction (placeOf), and whether it has one (is_live)
+-- the transaction at a place (model's live_at), the place of a transaction (place_of), and whether it has one (is_live)
 abbrev pub live_in : List Live → ℕ → Live
 live_in ls i = get_or ls i live_beyond
 

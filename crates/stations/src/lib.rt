@@ -1,5 +1,7 @@
 // What is found, set and cleared in a station: the transaction at a place, the entry in a slot, a write set and a read set; and what a
 // call comes to, as a change of a station.
+#![tactic(auto)]
+
 ghost use Rattle.std.specs.Prelude.{◌≡◌, true, false, not, cond, map, [], ◌∷◌, ◌<◌, ◌≤◌, max, eqb, leb, length, take};
 ghost use Rattle.model.specs.Lists.{◌and◌, first, member, maximum, any_below};
 ghost use Rattle.model.specs.Limits.{keys, live_places, entry_places, write_places, read_limit};
@@ -436,7 +438,7 @@ pub fn is_closing(p: Phase) -> bool
 }
 
 // A call's transaction: the first of the rows asked for that applies, 0 where none does, and its place.
-#[derive(Drop)]
+#[derive(Clone, Copy)]
 pub struct Named {
     pub row: u8,
     pub place: usize,
@@ -491,7 +493,7 @@ pub fn open_at(live: [Live; Station::LIVE], tested: bool, txn: u32, key: u8) -> 
 // ---- what a call comes to
 // The answer, and what one place and one slot hold afterwards: where nothing changes, what they hold already. Every call but a scan is
 // such a change.
-#[derive(Drop)]
+#[derive(Clone, Copy)]
 pub struct Change {
     pub answer: Answer,
     pub place: usize,

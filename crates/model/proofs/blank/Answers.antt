@@ -1,0 +1,8 @@
+use Rattle.std.proofs.Common.{refl}
+use Rattle.model.specs.KeySets.{key_set, keys_below, with_lowest}
+use Rattle.model.specs.Listed.{valued}
+use Rattle.model.proofs.blank.Goals as goal
+
+pub returns : goal.returns
+unfolding valued key_set keys_below with_lowest
+returns c = refl
