@@ -1,6 +1,8 @@
 // The store's nine public calls and their types, under one name. Each takes whatever comes: any numbers, any station, any store bytes. All
 // but scan (crate recovery; of a wide store scan_wide) test the station's soundness; what they then come to is decided in the crates transactions and storing,
 // a sweep in crate sweeping.
+#![tactic(auto)]
+
 ghost use Rattle.std.specs.Prelude.{◌≡◌};
 ghost use Rattle.model.specs.Listed.{listed, listed_outcome};
 ghost use Rattle.model.specs.Effects.{outcome_of, stored};

@@ -1,5 +1,7 @@
 // Stations compared and changed field by field, whatever is in them: what the cases need to make stations that are not sound, and to
 // see that such a station is handed back as given.
+#![tactic(auto)]
+
 use model::{Entry, Id, Live, Phase, Read, Station, mark, same_id};
 
 fn wide(x: u8) -> u64 {

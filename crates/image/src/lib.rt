@@ -1,4 +1,6 @@
 // The station as an image of fixed length in lent bytes, for hosts in other languages. Its layout is defined in specs/.
+#![tactic(auto)]
+
 ghost use Rattle.std.specs.Prelude.{◌≡◌, ◌*◌, ◌≤◌, true, map, length};
 ghost use Rattle.model.specs.Lists.{all};
 ghost use Rattle.model.specs.Limits.{live_places, entry_places, write_places, read_limit};
@@ -42,14 +44,14 @@ const OPEN: u8 = 1;
 const CLOSING: u8 = 2;
 
 // What bytes are read as; where they are no image, the station says nothing.
-#[derive(Drop)]
+#[derive(Clone, Copy)]
 pub struct Image {
     pub whole: bool,
     pub station: Station,
 }
 
 // A phase as it stands in a place's bytes.
-#[derive(Drop)]
+#[derive(Clone, Copy)]
 struct Marked {
     mark: u8,
     slot: u8,

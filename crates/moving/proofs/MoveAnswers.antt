@@ -1,7 +1,7 @@
 -- What a move answers and leaves in its target, by the tests that the code makes: the lengths, what the scan of the source says, and the write sets
 -- of the entries that it finds.
 use Prim.Native.Nat.{ℕ, ◌-◌, ◌<◌, ◌≤◌}
-use mathlib.Core.Path.{◌≡◌, refl, sym, ap, subst, ◌∙◌}
+use mathlib.Core.Path.{◌≡◌, refl, sym, ap, ◌∙◌}
 use mathlib.Core.Logic.{◌≢◌, ◌⊎◌, inl, inr}
 use mathlib.Core.Bool.{Bool, true, false, cond}
 use mathlib.Core.List.{List, [], ◌∷◌, ◌++◌, map}
@@ -9,11 +9,9 @@ use lib.Dec.{ltb}
 use lib.ListN.{length, take, get_or, replicate, length-map, get_or-map}
 use lib.Seq.{length-take-le}
 use native.Mathlib.Omega.{arith}
-use types.Run.{OneOf, miss}
 use borrow.Author.Tests.{eq-eqb, ne_eqb, lt-ltb, le-ltb, ltb-true, ltb-false}
 use Rattle.model.specs.declared as machine
 use Rattle.model.specs.Types.{Entry, Outcome}
-use Rattle.model.specs.declared.Answer.{Answer}
 use Rattle.model.specs.declared.Answer.TheVariants as A
 use Rattle.model.specs.Lists.{◌or◌, any, count, padded}
 use Rattle.model.specs.Limits.{entry_places}
@@ -121,10 +119,6 @@ pub handed : (m m' : Move) → m ≡ m' → (m'.answer ≡ m.answer) × (m'.targ
 handed m m' e = (ap (λ (x : Move). x.answer) (sym e), ap (λ (x : Move). x.target) (sym e))
 
 -- ── what the scan of the source says ──
--- the tags of the answers but Found
-abbrev pub others : List ℕ
-others = 0 ∷ 1 ∷ 2 ∷ 3 ∷ 4 ∷ 5 ∷ 6 ∷ 7 ∷ 8 ∷ 9 ∷ 10 ∷ 11 ∷ 12 ∷ 14 ∷ 15 ∷ 16 ∷ []
-
 module _ (κ : Kind) (s : List ℕ) (l : length s ≡ store_size κ) (out : machine.Outcome.Outcome) (q : listed_outcome out ≡ outcome_of (scan κ s)) where
   abbrev seens : List Seen
   seens = slots_seen κ s
@@ -169,9 +163,9 @@ module _ (κ : Kind) (s : List ℕ) (l : length s ≡ store_size κ) (out : mach
       go (inr (a, f)) = record { unbroken = f.unbroken; counted = found_number n (count is_committed seens) (sym h ∙ a); entries = f.entries }
 
   -- any other answer
-  pub scan-refuses : OneOf others (denote.Enum.Declared.tag_of Rattle.model.specs.contracts.Answer.the_type out.answer) → Refuses
+  pub scan-refuses : ((n : ℕ) → out.answer ≡ A.Found n → ⊥) → Refuses
   scan-refuses h = go found-or
     where
       go : Refuses ⊎ ((out.answer ≡ A.Found (count is_committed seens)) × Finds (count is_committed seens)) → Refuses
       go (inl r) = r
-      go (inr (a, f)) = absurd (miss others 13 tt (subst (λ (x : Answer). OneOf others (denote.Enum.Declared.tag_of Rattle.model.specs.contracts.Answer.the_type x)) a h))
+      go (inr (a, f)) = absurd (h (count is_committed seens) a)

@@ -1,5 +1,7 @@
 // The moves between a narrow store and a wide one (02 §6). The source is scanned and never written; the target is filled from its first byte to its
 // last, so that what it held plays no part, and a move that was cut short is begun again.
+#![tactic(auto)]
+
 ghost use Rattle.std.specs.Prelude.{◌≡◌, false, ◌++◌, map, ◌+◌, ◌*◌, ◌-◌, ◌<◌, ◌≤◌, length, take, replicate};
 ghost use Rattle.model.specs.Lists.{any, count};
 ghost use Rattle.model.specs.Limits.{record_size};

@@ -1,4 +1,6 @@
 // The scan: from a store alone, the station with no live transaction and an entry for each committed slot.
+#![tactic(auto)]
+
 ghost use Rattle.std.specs.Prelude.{◌≡◌, ◌≤◌, length, take};
 ghost use Rattle.model.specs.Limits.{entry_places};
 ghost use Rattle.model.specs.Kinds.{narrow_kind, wide_kind};

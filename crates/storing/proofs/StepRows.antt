@@ -1,7 +1,7 @@
 -- A step, test by test.
 use Prim.Native.Nat.{ℕ, ◌+◌, ◌<◌, ◌≤◌}
 use mathlib.Core.Path.{◌≡◌, refl, sym, ap, ap₂, ◌∙◌}
-use mathlib.Core.Logic.{◌≢◌, ◌⊎◌, ⊎_elim}
+use mathlib.Core.Logic.{◌≢◌}
 use mathlib.Core.Bool.{Bool, true, false, not}
 use mathlib.Core.List.{List, [], ◌∷◌}
 use lib.Dec.{ltb}
@@ -118,8 +118,8 @@ unfolding IsChange changed_by outcome_of says set_live set_entry
 is-done st a i m d e v u = (v, u, λ j. record { answer = a; station = record { kind = kind_of st.kind; live = lives-set st.live i m j; entries = listed-set st.entries d e j } })
 
 -- a phase that is none of the third kind
-pub not-closing : (p : Phase) → (denote.Enum.Declared.tag_of Rattle.model.specs.contracts.Phase.the_type p ≡ 0) ⊎ (denote.Enum.Declared.tag_of Rattle.model.specs.contracts.Phase.the_type p ≡ 1) → is_closing p ≡ false
+pub not-closing : (p : Phase) → ((d c n : ℕ) → p ≡ Closing d c n → ⊥) → is_closing p ≡ false
 unfolding is_closing
 not-closing Unused h = refl
 not-closing Open h = refl
-not-closing (Closing d c n) h = ⊎_elim (λ (z : ◌≡◌ {A = ℕ} 2 0). absurd (omega arith)) (λ (z : ◌≡◌ {A = ℕ} 2 1). absurd (omega arith)) h
+not-closing (Closing d c n) h = absurd (h d c n refl)

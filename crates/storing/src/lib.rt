@@ -1,6 +1,8 @@
 // The calls over a store: get, step, collect (scan is in crate recovery). Each takes what the soundness test says of the station, and
 // decides the change that its definition makes (model's specs/Get, Step, Collect): the tests in the order of the table of refusals, then
 // the effect. A refusal changes no byte; a record is written whole, into its own 24 bytes lent to the record writer.
+#![tactic(auto)]
+
 ghost use Rattle.std.specs.Prelude.{◌≡◌, true, not, ◌+◌, ◌<◌, ◌≤◌, leb, length};
 ghost use Rattle.model.specs.Lists.{◌and◌};
 ghost use Rattle.model.specs.Limits.{read_limit, record_size};
@@ -83,7 +85,7 @@ fn no_read_room(l: Live, key: u8) -> bool
 }
 
 // A version record as read: whether it carries its key and id, and its value.
-#[derive(Drop)]
+#[derive(Clone, Copy)]
 struct VersionRead {
     carried: bool,
     value: u64,

@@ -1,5 +1,7 @@
 // Many collects in one call: the oldest entries that may be collected, as far as a limit. A collect changes no other entry's being superseded or
 // read (collect-leaves-others, model), so they are found and put in order once, and then cleared one after the other.
+#![tactic(auto)]
+
 ghost use Rattle.std.specs.Prelude.{◌≡◌, true, false, not, [], ◌∷◌, ◌<◌, ◌≤◌, eqb, ltb, length};
 ghost use Rattle.model.specs.Lists.{◌and◌, ◌or◌, any};
 ghost use Rattle.model.specs.Limits as Limits;

@@ -1,6 +1,8 @@
 // The calls that touch no store: start, put, commit, abort. Each takes what the soundness test says of the station, and decides the
 // change that its definition makes (model's specs/Start, Put, Commit, Abort): the tests in the order of the table of refusals, then the
 // effect. Whoever makes many calls tests once: a call leaves a sound station sound (model's proofs/SoundKept).
+#![tactic(auto)]
+
 ghost use Rattle.std.specs.Prelude.{◌≡◌};
 ghost use Rattle.model.specs.Listed.{kind_of, listed_live, listed_lives, listed_entries, listed};
 ghost use Rattle.model.specs.Sound.{sound};

@@ -1,0 +1,11 @@
+-- `calls::step` meets its contract. Assumes nothing.
+use mathlib.Core.Path.{ap, ◌∙◌}
+use Rattle.model.specs.Listed.{listed_outcome}
+use Rattle.stations.proofs.Changes.{comes-to, is-inside}
+use Rattle.calls.proofs.step.Goals as goal
+
+pub changed-requires : goal.changed-requires
+changed-requires c = is-inside _ _ _ c.step-change.ensures.0
+
+pub returns : goal.returns
+returns c = (ap listed_outcome c.changed.ensures ∙ comes-to _ _ _ c.step-change.ensures.0, c.step-change.ensures.1)
