@@ -1,11 +1,13 @@
 // Numbers as decimal digits in bytes: a field read as a number, a number's digits written. Defined in specs/.
+#![tactic(auto)]
+
 ghost use Rattle.std.specs.Prelude.{◌≡◌, suc, ◌+◌, ◌≤◌, [], ◌∷◌, ◌++◌, length};
 ghost use Rattle.decimal.specs.Digits.{digits, number_below};
 ghost use Rattle.decimal.specs.Fields.{field, starts_number, number_read};
 ghost use Rattle.decimal.specs.Written.{written};
 
 // A number's field, with its length.
-#[derive(Drop)]
+#[derive(Clone, Copy)]
 pub enum Number {
     Of(u64, usize),
     Unread,

@@ -1,13 +1,11 @@
 -- What an export answers and leaves in its target, by the tests that the code makes: the lengths, and what the scan says.
 use Prim.Native.Nat.{ℕ, ◌+◌}
-use mathlib.Core.Path.{◌≡◌, sym, ap, subst, ◌∙◌}
-use mathlib.Core.List.{List, [], ◌∷◌, ◌++◌}
+use mathlib.Core.Path.{◌≡◌, sym, ap, ◌∙◌}
+use mathlib.Core.List.{List, ◌++◌}
 use lib.ListN.{length, drop}
 use native.Mathlib.Omega.{arith}
-use types.Run.{OneOf, miss}
 use Rattle.model.specs.declared as machine
 use Rattle.model.specs.Types.{Outcome}
-use Rattle.model.specs.declared.Answer.{Answer}
 use Rattle.model.specs.declared.Answer.TheVariants as A
 use Rattle.model.specs.declared.Kind.TheVariants.{Narrow}
 use Rattle.model.specs.Kinds.{narrow_kind, store_size}
@@ -27,10 +25,6 @@ pub handed : (m m' : Export) → m ≡ m' → (m'.answer ≡ m.answer) × (m'.ta
 handed m m' e = (ap (λ (x : Export). x.answer) (sym e), ap (λ (x : Export). x.target) (sym e))
 
 -- ── what the scan says ──
--- the tags of the answers but Refused
-abbrev pub others : List ℕ
-others = 0 ∷ 1 ∷ 2 ∷ 3 ∷ 4 ∷ 5 ∷ 6 ∷ 7 ∷ 8 ∷ 9 ∷ 10 ∷ 11 ∷ 12 ∷ 13 ∷ 15 ∷ 16 ∷ []
-
 module _ (s : List ℕ) (l : length s ≡ store_size narrow_kind) (out : machine.Outcome.Outcome) (q : listed_outcome out ≡ outcome_of (scan (kind_of Narrow) s)) where
   said-is : out.answer ≡ (scan narrow_kind s).answer
   unfolding kind_of outcome_of
@@ -44,11 +38,9 @@ module _ (s : List ℕ) (l : length s ≡ store_size narrow_kind) (out : machine
   refused-is t a b m h = handed (export s t) _ (export-refused s t l m a b (sym said-is ∙ h))
 
   -- any other answer
-  pub kept : OneOf others (denote.Enum.Declared.tag_of Rattle.model.specs.contracts.Answer.the_type out.answer)
+  pub kept : ((a b : ℕ) → out.answer ≡ A.Refused a b → ⊥)
       → KeepsRules narrow_kind s × (listed_entries out.station.entries ≡ entries_seen (slots_seen narrow_kind s))
-  kept h =
-      let r = scan-kept s l (λ a b e. miss others 14 tt (subst (λ (x : Answer). OneOf others (denote.Enum.Declared.tag_of Rattle.model.specs.contracts.Answer.the_type x)) (said-is ∙ e) h)) in
-      (r.0, entries-are ∙ r.1)
+  kept h = let r = scan-kept s l (λ a b e. h a b (said-is ∙ e)) in (r.0, entries-are ∙ r.1)
 
 -- the stream over the front of the target
 pub stream-exported : (s t u : List ℕ) (n : ℕ) (xs : List Transaction) → length s ≡ store_size narrow_kind → length t ≡ target_size → KeepsRules narrow_kind s

@@ -9,7 +9,7 @@ use borrow.Rule.Slice.PartMut.{mid_len}
 use Rattle.model.specs.declared as machine
 use Rattle.model.specs.declared.Id.{Id}
 use Rattle.model.specs.Types.{Write}
-use Rattle.model.specs.Limits.{record_size, number_range, keys}
+use Rattle.model.specs.Limits.{record_size, number_range}
 use Rattle.model.specs.Kinds.{narrow_kind, slot_size, slot_start}
 use Rattle.model.specs.KeySets.{key_set}
 use Rattle.model.specs.Listed.{listed_entry}
@@ -17,7 +17,6 @@ use Rattle.model.specs.Records.{value_in, record_at}
 use Rattle.model.proofs.KeySetLaws.{set-none, set-ascends}
 use Rattle.keysets.specs.Parts.{IsLowest, IsRest}
 use Rattle.decimal.specs.Digits.{digits}
-use Rattle.decimal.specs.Written.{written}
 use Rattle.decimal.proofs.WrittenLaws.{Wrote, wrote-more}
 use Rattle.resp.specs.Streams.{slash, set_command, id_text, version_name, version_command, commit_name, commit_command, keys_text, versions_text, transaction_text}
 use Rattle.resp.specs.Exports.{writes_at, transaction_at}

@@ -1,4 +1,6 @@
 // A narrow store's committed set as a RESP stream (02 §11), in lent bytes. The store is scanned first and never written.
+#![tactic(auto)]
+
 ghost use Rattle.std.specs.Prelude.{◌≡◌, ◌+◌, ◌*◌, ◌≤◌, ◌<◌, length, get_or};
 ghost use Rattle.model.specs.Limits.{entry_places};
 ghost use Rattle.model.specs.Kinds.{narrow_kind, slot_size, store_size};

@@ -9,7 +9,7 @@ use lib.ListN.{take, drop, get_or, length-take}
 use lib.Seq.{get_or-take}
 use native.Mathlib.Omega.{arith}
 use borrow.Author.Tests.{eqb-false, ne_eqb, not-true}
-use Rattle.model.specs.Lists.{◌and◌, any, first, member, distinct}
+use Rattle.model.specs.Lists.{any, first, member, distinct}
 use Rattle.model.proofs.Tests.{and_left, and_right, and_intro, or_left, or_right, or-none, not_of_false, bool_cases}
 use Rattle.model.proofs.ListLaws.{member-cons, member-finds}
 use Rattle.model.proofs.DistinctLaws.{distinct_tail, distinct_cons, once-apart}

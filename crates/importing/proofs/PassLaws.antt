@@ -9,7 +9,7 @@ use lib.ListN.{length, drop, length-drop, drop_of_length-le}
 use lib.Seq.{drop-drop}
 use native.Mathlib.Omega.{arith}
 use borrow.Author.Tests.{ne_eqb}
-use Rattle.model.specs.Lists.{◌and◌, distinct}
+use Rattle.model.specs.Lists.{distinct}
 use Rattle.model.specs.Kinds.{narrow_kind, store_size}
 use Rattle.model.specs.Effects.{wrong_length}
 use Rattle.model.proofs.Tests.{and-none-right, bool_cases}

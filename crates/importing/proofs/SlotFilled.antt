@@ -26,7 +26,6 @@ use Rattle.resp.specs.Imports.{entry_of, version_records, slot_of}
 use Rattle.resp.proofs.ThenLaws.{then_some, then-none}
 use Rattle.resp.proofs.NumberLaws.{rest_of}
 use Rattle.importing.specs.declared.Versions.{Versions}
-use Rattle.importing.specs.declared.Versions.TheVariants as Versions
 use Rattle.importing.specs.Passes.{CommitSize, VersionsFound, VersionsSay, TakenFound}
 use Rattle.importing.proofs.VersionsRead.{rest-inside}
 

@@ -12,11 +12,8 @@ use Rattle.resp.specs.Streams.{Transaction, oldest_first}
 use Rattle.resp.specs.Inverse as I
 use Rattle.resp.specs.Imports.{version_records, slot_of, slots_down}
 use Rattle.importing.specs.declared.Versions.{Versions}
-use Rattle.importing.specs.declared.Versions.TheVariants as Versions
 use Rattle.importing.specs.declared.Taken.{Taken}
-use Rattle.importing.specs.declared.Taken.TheVariants as Taken
 use Rattle.importing.specs.declared.Pass.{Pass}
-use Rattle.importing.specs.declared.Pass.TheVariants as Pass
 
 -- the slots of a store, and one more
 abbrev pub room_size : ℕ

@@ -1,5 +1,7 @@
 // A narrow store from a RESP stream (02 §11). The whole stream is checked before the first byte of the store is written: what it says goes first into
 // bytes of the function's own.
+#![tactic(auto)]
+
 ghost use Rattle.std.specs.Prelude.{◌≡◌, ◌≤◌, ◌<◌, ltb, length};
 ghost use Rattle.model.specs.Lists.{◌and◌};
 ghost use Rattle.model.specs.Ids.{same_id};
@@ -23,21 +25,21 @@ use resp::{
 const ROOM: usize = Station::STORE + Station::SLOT;
 
 // A transaction's versions read: its entry, and how many bytes they have in the stream.
-#[derive(Drop)]
+#[derive(Clone, Copy)]
 enum Versions {
     Of(Entry, usize),
     Other,
 }
 
 // A transaction read: its id, and how many bytes it has.
-#[derive(Drop)]
+#[derive(Clone, Copy)]
 enum Taken {
     Of(Id, usize),
     Other,
 }
 
 // A stream read once: how many transactions it has, and how many bytes the first 64 have.
-#[derive(Drop)]
+#[derive(Clone, Copy)]
 enum Pass {
     Of(usize, usize),
     Bad,

@@ -46,6 +46,9 @@ rest-next l i o = rw (add-one i) (drop-cons l i 0 o)
 pub line-here : (s : List ℕ) (i : ℕ) → i < length s → get_or s i 0 ≡ newline → first_line (drop i s) ≡ []
 line-here s i o h = ap first_line (rest-next s i o) ∙ line-yes (get_or s i 0) (drop (i + 1) s) (eq-eqb (get_or s i 0) newline h)
 
+-- for a goal that the tactics prove
+pub ruleset stops_here = (line-here)
+
 pub line-next : (s : List ℕ) (i : ℕ) → i < length s → get_or s i 0 ≢ newline → first_line (drop i s) ≡ get_or s i 0 ∷ first_line (drop (i + 1) s)
 line-next s i o h = ap first_line (rest-next s i o) ∙ line-no (get_or s i 0) (drop (i + 1) s) (ne_eqb (get_or s i 0) newline h)
 

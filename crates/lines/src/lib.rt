@@ -1,4 +1,6 @@
 // Text in lines: where a line ends, and the bytes of one that begins in one block and ends in another. Defined in specs/.
+#![tactic(auto)]
+
 ghost use Rattle.std.specs.Prelude.{◌≡◌, ◌+◌, ◌≤◌, length, take, drop};
 ghost use Rattle.model.specs.Lists.{same};
 ghost use Rattle.lines.specs.Lines.{first_line};
@@ -8,7 +10,7 @@ ghost use Rattle.lines.specs.Kept.{joined, joined_with};
 pub const KEPT: usize = 65;
 
 // How many bytes are kept of the line, and where its bytes in the block end.
-#[derive(Drop)]
+#[derive(Clone, Copy)]
 pub struct Filled {
     pub len: usize,
     pub end: usize,
@@ -32,6 +34,7 @@ pub fn same_bytes(a: &[u8], b: &[u8]) -> bool
 }
 
 // The place of the first newline from a place on; the length where there is none.
+#[tactic(auto, using(crate::proofs::JoinLaws::stops_here))]
 pub fn line_end(input: &[u8], start: usize) -> usize
     requires { start ≤ length input.now }
     ensures { result ≡ start + length (first_line (drop start input.now)) }

@@ -6,7 +6,7 @@ use mathlib.Core.List.{List, [], ◌∷◌, ◌++◌}
 use lib.Dec.{eqb}
 use lib.ListN.{length, take, drop, drop_of_length-le}
 use native.Mathlib.Omega.{arith}
-use Rattle.log.specs.declared.Verdict.TheVariants.{Clean}
+use Rattle.shoplog.specs.declared.Verdict.TheVariants.{Clean}
 use Rattle.lines.specs.Lines.{first_line, newline}
 use Rattle.lines.specs.Kept.{joined, joined_with}
 use Rattle.lines.proofs.JoinLaws.{line-none, line-yes, line-no}

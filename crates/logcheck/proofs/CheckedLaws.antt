@@ -7,12 +7,12 @@ use mathlib.Core.Option.{Option, some, none}
 use types.Run.{OneOf, miss}
 use denote.Enum.Declared as declared
 use native.Mathlib.Omega.{arith}
-use Rattle.log.specs.declared.Finding.{Finding}
-use Rattle.log.specs.declared.Finding.TheVariants as F
-use Rattle.log.specs.declared.Verdict.{Verdict}
-use Rattle.log.specs.declared.Verdict.TheVariants.{Clean, Bad, Refused}
-use Rattle.log.specs.Lines.{Line, line_in}
-use Rattle.log.specs.Logs.{finding_at}
+use Rattle.shoplog.specs.declared.Finding.{Finding}
+use Rattle.shoplog.specs.declared.Finding.TheVariants as F
+use Rattle.shoplog.specs.declared.Verdict.{Verdict}
+use Rattle.shoplog.specs.declared.Verdict.TheVariants.{Clean, Bad, Refused}
+use Rattle.shoplog.specs.Lines.{Line, line_in}
+use Rattle.shoplog.specs.Logs.{finding_at}
 use Rattle.logtable.specs.Parts.{if_fine}
 use Rattle.logcheck.specs.Judged.{found, verdict_by, table_after}
 use Rattle.logcheck.specs.Checking.{Checking, checked_with, line_checked, byte_checked, after_bytes, end_verdict, verdict_at}
@@ -24,7 +24,7 @@ bad-apart m e = let z : ◌≡◌ {A = ℕ} 0 1 = cc in absurd (omega arith)
 pub refused-apart : (c m : ℕ) → Refused c m ≢ Clean
 refused-apart c m e = let z : ◌≡◌ {A = ℕ} 0 1 = cc in absurd (omega arith)
 
-pub not-clean : (v : Verdict) → OneOf (1 ∷ 2 ∷ []) (declared.tag_of Rattle.log.specs.contracts.Verdict.the_type v) → v ≢ Clean
+pub not-clean : (v : Verdict) → OneOf (1 ∷ 2 ∷ []) (declared.tag_of Rattle.shoplog.specs.contracts.Verdict.the_type v) → v ≢ Clean
 not-clean Clean h = absurd (miss (1 ∷ 2 ∷ []) 0 tt h)
 not-clean (Bad m) h = bad-apart m
 not-clean (Refused c m) h = refused-apart c m

@@ -5,8 +5,8 @@ use mathlib.Core.Logic.{◌≢◌}
 use mathlib.Core.List.{List, [], ◌∷◌}
 use lib.ListN.{length, take}
 use lib.Seq.{length-take-le}
-use Rattle.log.specs.declared.Verdict.TheVariants.{Clean}
-use Rattle.log.specs.Lines.{line_in}
+use Rattle.shoplog.specs.declared.Verdict.TheVariants.{Clean}
+use Rattle.shoplog.specs.Lines.{line_in}
 use Rattle.logcheck.specs.Judged.{verdict_by}
 use Rattle.logcheck.specs.Checking.{last_checked, end_verdict, verdict_at}
 use Rattle.logcheck.specs.Parts.{checking_of}

@@ -4,18 +4,18 @@ use mathlib.Core.Path.{◌≡◌, refl, ap, ◌∙◌, sym}
 use mathlib.Core.List.{List, ◌∷◌}
 use mathlib.Core.Option.{Option, some, none}
 use native.Mathlib.Omega.{arith}
-use Rattle.log.specs.declared.Finding.{Finding}
-use Rattle.log.specs.declared.Finding.TheVariants as F
-use Rattle.log.specs.declared.Verdict.TheVariants.{Clean}
-use Rattle.log.specs.Lines.{Line, write, commit, read}
-use Rattle.log.specs.Verdicts.{finding_of}
-use Rattle.log.specs.Logs.{finding_at, line_verdict, with_line}
-use Rattle.log.specs.Written.{LineFits}
+use Rattle.shoplog.specs.declared.Finding.{Finding}
+use Rattle.shoplog.specs.declared.Finding.TheVariants as F
+use Rattle.shoplog.specs.declared.Verdict.TheVariants.{Clean}
+use Rattle.shoplog.specs.Lines.{Line, write, commit, read}
+use Rattle.shoplog.specs.Verdicts.{finding_of}
+use Rattle.shoplog.specs.Logs.{finding_at, line_verdict, with_line}
+use Rattle.shoplog.specs.Written.{LineFits}
 use Rattle.logtable.specs.Parts.{if_fine}
 use Rattle.logtable.specs.Holds.{Holds}
 use Rattle.logtable.proofs.HoldsWrite.{write-found, write-held}
 use Rattle.logtable.proofs.HoldsCommit.{commit-found, commit-held}
-use Rattle.logtable.proofs.ReadFound.{read_found}
+use Rattle.logtable.proofs.ReadFound.{read_found_lem}
 use Rattle.logtable.proofs.HoldsRead.{read_held}
 use Rattle.logcheck.specs.Judged.{found, table_with, verdict_by, table_after}
 
@@ -35,7 +35,7 @@ module _ (T : List ℕ) (ls : List Line) (held : Holds T ls) where
   unfolding found
   found-is (write t k) f = write-found T ls t k held f.0.0 f.1
   found-is (commit t c) f = commit-found T ls t c held f.0.0
-  found-is (read t k i) f = read_found T ls t k i held f.0.0 f.1 f.3.0 f.2.0
+  found-is (read t k i) f = read_found_lem T ls t k i held f.0.0 f.1 f.3.0 f.2.0
 
   held_with : (l : Line) → LineFits l → finding_of ls l ≡ F.Fine → Holds (table_with T l) (l ∷ ls)
   unfolding table_with

@@ -5,8 +5,8 @@ use mathlib.Core.List.{List}
 use mathlib.Core.Option.{none}
 use lib.ListN.{take}
 use Rattle.lines.proofs.KeptLaws.{kept-says}
-use Rattle.log.specs.Lines.{line_in}
-use Rattle.log.proofs.LineLaws.{line-long}
+use Rattle.shoplog.specs.Lines.{line_in}
+use Rattle.shoplog.proofs.LineLaws.{line-long}
 use Rattle.logcheck.specs.Checking.{line_checked}
 
 pub kept_line : (l : List ℕ) → line_in (take 65 l) ≡ line_in l

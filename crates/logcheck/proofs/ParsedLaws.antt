@@ -5,13 +5,13 @@ use mathlib.Core.List.{List}
 use mathlib.Core.Option.{Option, some, none}
 use native.Mathlib.Omega.{arith}
 use Rattle.model.specs.declared.Id.{Id}
-use Rattle.log.specs.declared.Finding.{Finding}
-use Rattle.log.specs.declared.Parsed.TheVariants as P
-use Rattle.log.specs.declared.Verdict.{Verdict}
-use Rattle.log.specs.declared.Verdict.TheVariants.{Refused}
-use Rattle.log.specs.Lines.{Line, write, commit, read}
-use Rattle.log.specs.Logs.{finding_at}
-use Rattle.log.specs.Parts.{parsed_of}
+use Rattle.shoplog.specs.declared.Finding.{Finding}
+use Rattle.shoplog.specs.declared.Parsed.TheVariants as P
+use Rattle.shoplog.specs.declared.Verdict.{Verdict}
+use Rattle.shoplog.specs.declared.Verdict.TheVariants.{Refused}
+use Rattle.shoplog.specs.Lines.{Line, write, commit, read}
+use Rattle.shoplog.specs.Logs.{finding_at}
+use Rattle.shoplog.specs.Parts.{parsed_of}
 use Rattle.logtable.specs.Parts.{if_fine}
 use Rattle.logcheck.specs.Judged.{found, table_with, verdict_by, table_after}
 

@@ -6,11 +6,11 @@ use mathlib.Core.List.{List, [], ◌∷◌, ◌++◌, append-nil, append_assoc, 
 use lib.Dec.{eqb}
 use lib.ListN.{take, replicate}
 use borrow.Author.Tests.{eqb-true}
-use Rattle.log.specs.declared.Verdict.{Verdict}
-use Rattle.log.specs.declared.Verdict.TheVariants.{Clean, Bad, Refused}
-use Rattle.log.specs.Lines.{Line, line_in}
-use Rattle.log.specs.Logs.{line_verdict, or_else, with_line, verdict_from, verdict_of}
-use Rattle.log.proofs.LineRanges.{line-fits}
+use Rattle.shoplog.specs.declared.Verdict.{Verdict}
+use Rattle.shoplog.specs.declared.Verdict.TheVariants.{Clean, Bad, Refused}
+use Rattle.shoplog.specs.Lines.{Line, line_in}
+use Rattle.shoplog.specs.Logs.{line_verdict, or_else, with_line, verdict_from, verdict_of}
+use Rattle.shoplog.proofs.LineRanges.{line-fits}
 use Rattle.logtable.specs.Tables.{table_size}
 use Rattle.logtable.specs.Holds.{Holds}
 use Rattle.logtable.proofs.HoldsNone.{holds-none}

@@ -2,9 +2,9 @@
 use Rattle.std.specs.Prelude.{ℕ, ◌+◌, cond, List, [], ◌∷◌, eqb, replicate}
 use Rattle.lines.specs.Lines.{newline}
 use Rattle.lines.specs.Kept.{joined}
-use Rattle.log.specs.declared.Verdict.{Verdict}
-use Rattle.log.specs.declared.Verdict.TheVariants.{Clean, Bad, Refused}
-use Rattle.log.specs.Lines.{line_in}
+use Rattle.shoplog.specs.declared.Verdict.{Verdict}
+use Rattle.shoplog.specs.declared.Verdict.TheVariants.{Clean, Bad, Refused}
+use Rattle.shoplog.specs.Lines.{line_in}
 use Rattle.logtable.specs.Tables.{table_size}
 use Rattle.logcheck.specs.Judged.{verdict_by, table_after}
 

@@ -1,11 +1,11 @@
 -- What the table of the lines above says of a line, and the table after it.
 use Rattle.std.specs.Prelude.{ℕ, List}
 use Rattle.std.proofs.Math.Option.{Option, some, none}
-use Rattle.log.specs.declared.Finding.{Finding}
-use Rattle.log.specs.declared.Verdict.{Verdict}
-use Rattle.log.specs.declared.Verdict.TheVariants.{Refused}
-use Rattle.log.specs.Lines.{Line, write, commit, read}
-use Rattle.log.specs.Logs.{finding_at}
+use Rattle.shoplog.specs.declared.Finding.{Finding}
+use Rattle.shoplog.specs.declared.Verdict.{Verdict}
+use Rattle.shoplog.specs.declared.Verdict.TheVariants.{Refused}
+use Rattle.shoplog.specs.Lines.{Line, write, commit, read}
+use Rattle.shoplog.specs.Logs.{finding_at}
 use Rattle.logtable.specs.Tables.{seat_of, after_write, after_commit, after_read}
 use Rattle.logtable.specs.Findings.{write_found, commit_found, read_found}
 use Rattle.logtable.specs.Parts.{if_fine}

@@ -1,6 +1,6 @@
 -- What is kept between two blocks, as the code holds it.
 use Rattle.std.specs.Prelude.{ℕ, List, take}
-use Rattle.log.specs.declared.Verdict.{Verdict}
+use Rattle.shoplog.specs.declared.Verdict.{Verdict}
 use Rattle.logcheck.specs.Checking.{Checking}
 
 -- the line is the first len bytes of the part that is kept

@@ -1,20 +1,22 @@
-// A log checked: as lent bytes, or block by block in the same memory however long it is. The verdict is defined in log's specs/Logs; what is kept
+// A log checked: as lent bytes, or block by block in the same memory however long it is. The verdict is defined in shoplog's specs/Logs; what is kept
 // between two blocks in specs/Checking.
+#![tactic(auto)]
+
 ghost use Rattle.std.specs.Prelude.{◌≡◌, ◌+◌, ◌^◌, ◌≤◌, ◌<◌, length, take, drop};
-ghost use Rattle.log.specs.declared.Verdict.TheVariants.{Clean};
-ghost use Rattle.log.specs.Lines.{line_in};
-ghost use Rattle.log.specs.Logs.{finding_at, verdict_of};
+ghost use Rattle.shoplog.specs.declared.Verdict.TheVariants.{Clean};
+ghost use Rattle.shoplog.specs.Lines.{line_in};
+ghost use Rattle.shoplog.specs.Logs.{finding_at, verdict_of};
 ghost use Rattle.logtable.specs.Tables.{table_size};
 ghost use Rattle.logcheck.specs.Judged.{verdict_by, table_after};
 ghost use Rattle.logcheck.specs.Checking.{after_bytes, verdict_at};
 ghost use Rattle.logcheck.specs.Parts.{checking_of};
 
 use lines::{KEPT, fill, line_end};
-use log::{Finding, Parsed, Verdict, parse_log_line};
 use logtable::{TABLE, judge_commit, judge_read, judge_write};
+use shoplog::{Finding, Parsed, Verdict, parse_log_line};
 
 // The verdict on the lines so far, how many they are, and how many bytes are kept of the line that has begun.
-#[derive(Drop)]
+#[derive(Clone, Copy)]
 pub struct Checked {
     pub verdict: Verdict,
     pub above: u64,

@@ -16,11 +16,11 @@ use Rattle.model.specs.KeySets.{key_set}
 use Rattle.model.proofs.Tests.{and_intro, or-none, or-false, or-intro-right, not-of-true, not_of_false, bool_cases, same_test}
 use Rattle.model.proofs.ListLaws.{any-none-of, get_or-mem, mem-map, map-mem}
 use Rattle.model.proofs.IdLaws.{same_id_lem, id_same}
-use Rattle.log.specs.Lines.{Line}
-use Rattle.log.specs.Verdicts.{read_set, keys_read, is_atomic, at_another}
-use Rattle.log.specs.Claims.{CleanLog}
-use Rattle.log.proofs.GatheredLaws.{any-mem, member-mem, mem-member}
-use Rattle.log.proofs.CleanMeans.{fine-clean}
+use Rattle.shoplog.specs.Lines.{Line}
+use Rattle.shoplog.specs.Verdicts.{read_set, keys_read, is_atomic, at_another}
+use Rattle.shoplog.specs.Claims.{CleanLog}
+use Rattle.shoplog.proofs.GatheredLaws.{any-mem, member-mem, mem-member}
+use Rattle.shoplog.proofs.CleanMeans.{fine-clean}
 use Rattle.logtable.specs.Tables.{txn_at, read_at, reads_at, key_of, author_of, read_word, id_at}
 use Rattle.logtable.specs.Findings.{is_another, unfit}
 use Rattle.logtable.specs.Holds.{Holds, HoldsAt, ReadsHeld}

@@ -7,9 +7,9 @@ use native.Mathlib.Omega.{arith}
 use Rattle.model.specs.Lists.{any, member}
 use Rattle.model.specs.KeySets.{key_set}
 use Rattle.model.proofs.Tests.{same_test}
-use Rattle.log.specs.Lines.{Line}
-use Rattle.log.specs.Verdicts.{read_set, has_written}
-use Rattle.log.proofs.GatheredLaws.{any-mem, any-one}
+use Rattle.shoplog.specs.Lines.{Line}
+use Rattle.shoplog.specs.Verdicts.{read_set, has_written}
+use Rattle.shoplog.proofs.GatheredLaws.{any-mem, any-one}
 use Rattle.logtable.specs.Tables.{txn_at, written_at, reads_at, key_of, author_of, id_at}
 use Rattle.logtable.specs.Findings.{older_at, clash, clashes}
 use Rattle.logtable.specs.Holds.{Holds, ReadsHeld}

@@ -3,26 +3,24 @@ use Prim.Native.Nat.{ℕ, ◌<◌}
 use mathlib.Core.Path.{◌≡◌, refl}
 use mathlib.Core.Logic.{◌≢◌}
 use mathlib.Core.Bool.{Bool, true, false, not, cond}
-use mathlib.Core.List.{List, [], ◌∷◌}
+use mathlib.Core.List.{List}
 use lib.Dec.{eqb, leb}
 use lib.ListN.{length}
 use native.Mathlib.Omega.{arith}
 use borrow.Author.Tests.{leb-false}
-use types.Run.{OneOf, miss}
-use denote.Enum.Declared as declared
 use Rattle.model.specs.Lists.{◌or◌, member}
 use Rattle.model.specs.KeySets.{key_set}
 use Rattle.model.proofs.Tests.{and_second, or_left, or_right, not_of_false}
-use Rattle.log.specs.declared.Finding.{Finding}
-use Rattle.log.specs.declared.Finding.TheVariants.{Fine, Over, Bad}
+use Rattle.shoplog.specs.declared.Finding.{Finding}
+use Rattle.shoplog.specs.declared.Finding.TheVariants.{Fine, Over, Bad}
 use Rattle.logtable.specs.Tables.{places, clock_at, written_at, read_at}
 use Rattle.logtable.specs.Findings.{full_for, unfit, is_unknown, write_found, commit_found, read_found}
 use Rattle.logtable.specs.Parts.{if_fine}
 
 -- ── not fine: the table stays ──
-pub not-fine : (f : Finding) (after before : List ℕ) → OneOf (1 ∷ 2 ∷ []) (declared.tag_of Rattle.log.specs.contracts.Finding.the_type f) → before ≡ if_fine f after before
+pub not-fine : (f : Finding) (after before : List ℕ) → f ≢ Fine → before ≡ if_fine f after before
 unfolding if_fine
-not-fine Fine after before h = absurd (miss (1 ∷ 2 ∷ []) 0 tt h)
+not-fine Fine after before h = absurd (h refl)
 not-fine Over after before h = refl
 not-fine Bad after before h = refl
 

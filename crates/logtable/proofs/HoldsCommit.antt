@@ -11,10 +11,10 @@ use native.Mathlib.Omega.{arith}
 use borrow.Author.Tests.{leb-false, eqb-true, not-false}
 use Rattle.model.specs.Lists.{◌or◌}
 use Rattle.model.proofs.Tests.{or-intro-right}
-use Rattle.log.specs.declared.Finding.TheVariants.{Fine, Bad}
-use Rattle.log.specs.Lines.{Line, commit}
-use Rattle.log.specs.Verdicts.{write_set, read_set, keys_read, is_committed, is_over, is_bad, finding_of}
-use Rattle.log.proofs.FineLaws.{fine-good, commit-written}
+use Rattle.shoplog.specs.declared.Finding.TheVariants.{Fine, Bad}
+use Rattle.shoplog.specs.Lines.{Line, commit}
+use Rattle.shoplog.specs.Verdicts.{write_set, read_set, keys_read, is_committed, is_over, is_bad, finding_of}
+use Rattle.shoplog.proofs.FineLaws.{fine-good, commit-written}
 use Rattle.logtable.specs.Tables.{places, table_size, txn_at, clock_at, written_at, read_at, reads_at, seat_of, after_commit}
 use Rattle.logtable.specs.Findings.{commit_found}
 use Rattle.logtable.specs.Holds.{HoldsAt, Holds}

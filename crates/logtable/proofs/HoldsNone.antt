@@ -6,8 +6,8 @@ use lib.ListN.{take, replicate, length-replicate}
 use borrow.Author.Tests.{ne_eqb}
 use Rattle.model.specs.Lists.{◌or◌, any, count, member, distinct}
 use Rattle.model.proofs.ListLaws.{get_or-all, member-no}
-use Rattle.log.specs.Verdicts.{actors, gathered, once}
-use Rattle.log.specs.Claims.{AllFine}
+use Rattle.shoplog.specs.Verdicts.{actors, gathered, once}
+use Rattle.shoplog.specs.Claims.{AllFine}
 use Rattle.logtable.specs.Tables.{places, table_size}
 use Rattle.logtable.specs.Holds.{BlankAt, SeatsHeld, Holds}
 

@@ -10,15 +10,15 @@ use native.Mathlib.Omega.{arith}
 use borrow.Author.Tests.{leb-false}
 use Rattle.model.specs.declared.Id.{Id}
 use Rattle.model.specs.declared.Read.{Read}
-use Rattle.model.specs.Lists.{◌and◌, any, member}
+use Rattle.model.specs.Lists.{any, member}
 use Rattle.model.specs.KeySets.{key_set}
 use Rattle.model.proofs.Tests.{or_left, or_right, and_second, not_of_false}
 use Rattle.model.proofs.ListLaws.{mem-map}
-use Rattle.log.specs.declared.Finding.TheVariants.{Fine}
-use Rattle.log.specs.Lines.{Line, read}
-use Rattle.log.specs.Verdicts.{actors, read_set, keys_read, one_too_many, is_over, finding_of}
-use Rattle.log.proofs.GatheredLaws.{member-mem}
-use Rattle.log.proofs.FineLaws.{fine-good, read-fine, same_version}
+use Rattle.shoplog.specs.declared.Finding.TheVariants.{Fine}
+use Rattle.shoplog.specs.Lines.{Line, read}
+use Rattle.shoplog.specs.Verdicts.{actors, read_set, keys_read, one_too_many, is_over, finding_of}
+use Rattle.shoplog.proofs.GatheredLaws.{member-mem}
+use Rattle.shoplog.proofs.FineLaws.{fine-good, read-fine, same_version}
 use Rattle.logtable.specs.Tables.{places, table_size, txn_at, clock_at, written_at, read_at, read_count, reads_at, reads_start, read_word, id_at, seat_of, with_key, after_read}
 use Rattle.logtable.specs.Findings.{full_for}
 use Rattle.logtable.specs.Holds.{ReadsHeld, HoldsAt, SeatsHeld, Holds}

@@ -11,10 +11,10 @@ use native.Mathlib.Omega.{arith}
 use borrow.Author.Tests.{leb-false}
 use Rattle.model.specs.Lists.{◌or◌}
 use Rattle.model.proofs.Tests.{or_left}
-use Rattle.log.specs.declared.Finding.TheVariants.{Fine, Over, Bad}
-use Rattle.log.specs.Lines.{Line, write}
-use Rattle.log.specs.Verdicts.{actors, write_set, read_set, keys_read, is_committed, one_too_many, is_over, is_bad, finding_of}
-use Rattle.log.proofs.FineLaws.{fine-good}
+use Rattle.shoplog.specs.declared.Finding.TheVariants.{Fine, Over, Bad}
+use Rattle.shoplog.specs.Lines.{Line, write}
+use Rattle.shoplog.specs.Verdicts.{actors, write_set, read_set, keys_read, is_committed, one_too_many, is_over, is_bad, finding_of}
+use Rattle.shoplog.proofs.FineLaws.{fine-good}
 use Rattle.logtable.specs.Tables.{places, table_size, txn_at, clock_at, written_at, read_at, reads_at, seat_of, with_key, after_write}
 use Rattle.logtable.specs.Findings.{full_for, write_found}
 use Rattle.logtable.specs.Holds.{HoldsAt, SeatsHeld, Holds}

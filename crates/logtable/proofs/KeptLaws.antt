@@ -8,10 +8,10 @@ use native.Mathlib.Decide.{ℕ_discrete}
 use native.Mathlib.Omega.{arith}
 use Rattle.model.specs.declared.Id.{Id}
 use Rattle.model.specs.declared.Read.{Read}
-use Rattle.log.specs.declared.Finding.TheVariants.{Fine}
-use Rattle.log.specs.Lines.{Line}
-use Rattle.log.specs.Verdicts.{actors, read_set, keys_read, finding_of}
-use Rattle.log.specs.Claims.{AllFine}
+use Rattle.shoplog.specs.declared.Finding.TheVariants.{Fine}
+use Rattle.shoplog.specs.Lines.{Line}
+use Rattle.shoplog.specs.Verdicts.{actors, read_set, keys_read, finding_of}
+use Rattle.shoplog.specs.Claims.{AllFine}
 use Rattle.logtable.specs.Tables.{places, txn_at, clock_at, reads_at, key_of, author_of, id_at}
 use Rattle.logtable.specs.Holds.{ReadsHeld, HoldsAt, BlankAt, SeatsHeld, Holds}
 use Rattle.logtable.proofs.SeatedLaws.{one_place}

@@ -15,11 +15,11 @@ use Rattle.model.proofs.Tests.{same_test}
 use Rattle.model.proofs.ListLaws.{member-yes, member-no, member-cons}
 use Rattle.model.proofs.InsertLaws.{insert-rule, insert-ascending, insert-member, insert-length-member}
 use Rattle.model.proofs.KeySetLaws.{number-below, number-set, set-number, set-ascends, set-none}
-use Rattle.log.specs.Verdicts.{once, one_too_many}
+use Rattle.shoplog.specs.Verdicts.{once, one_too_many}
 use Rattle.logtable.specs.Tables.{with_key}
 use Rattle.logtable.specs.Findings.{full_for}
 use Rattle.logtable.specs.Holds.{KeysHeld}
-use Rattle.log.proofs.OnceLaws.{once-again, once-new, once-none}
+use Rattle.shoplog.proofs.OnceLaws.{once-again, once-new, once-none}
 
 -- ── a key put into a set ──
 map_same : (ks : List ℕ) → map (λ (x : ℕ). x) ks ≡ ks

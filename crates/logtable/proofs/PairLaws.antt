@@ -14,10 +14,10 @@ use Rattle.model.specs.Ids.{older}
 use Rattle.model.proofs.Tests.{and_left, and_right, and-none-left, and-none-right, not-of-true, or_cases, or_left, or_right, not_of_false, bool_cases}
 use Rattle.model.proofs.ListLaws.{all_of, any_none, get_or-mem}
 use Rattle.model.proofs.IdLaws.{older-irrefl}
-use Rattle.log.specs.Lines.{Line}
-use Rattle.log.specs.Verdicts.{has_written, is_atomic}
-use Rattle.log.proofs.GatheredLaws.{any-one}
-use Rattle.log.proofs.FineLaws.{atomic-reads}
+use Rattle.shoplog.specs.Lines.{Line}
+use Rattle.shoplog.specs.Verdicts.{has_written, is_atomic}
+use Rattle.shoplog.proofs.GatheredLaws.{any-one}
+use Rattle.shoplog.proofs.FineLaws.{atomic-reads}
 
 -- a read of key k in version i, and an earlier one
 unfoldable pub apart : List Line → ℕ → Id → Read → Bool

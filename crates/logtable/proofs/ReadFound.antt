@@ -10,8 +10,8 @@ use Rattle.model.specs.declared.Id.{Id}
 use Rattle.model.specs.Lists.{◌or◌, member}
 use Rattle.model.specs.KeySets.{key_set}
 use Rattle.model.proofs.Tests.{or_left}
-use Rattle.log.specs.Lines.{Line, read}
-use Rattle.log.specs.Verdicts.{write_set, read_set, keys_read, has_written, committed_as, is_over, is_atomic, at_another, is_bad, finding_of}
+use Rattle.shoplog.specs.Lines.{Line, read}
+use Rattle.shoplog.specs.Verdicts.{write_set, read_set, keys_read, has_written, committed_as, is_over, is_atomic, at_another, is_bad, finding_of}
 use Rattle.logtable.specs.Tables.{places, txn_at, clock_at, written_at, read_at, id_at, seat_of}
 use Rattle.logtable.specs.Findings.{unfit, is_unknown, read_found}
 use Rattle.logtable.specs.Holds.{Holds}

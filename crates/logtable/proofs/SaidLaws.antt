@@ -11,8 +11,8 @@ use Rattle.model.specs.Lists.{◌and◌}
 use Rattle.model.specs.Ids.{same_id}
 use Rattle.model.proofs.Tests.{and-none-right}
 use Rattle.model.proofs.ListLaws.{any-yes, any-no}
-use Rattle.log.specs.Lines.{Line, write, commit, read}
-use Rattle.log.specs.Verdicts.{gathered, actor_in, written_in, read_in, commit_in, actors, write_set, read_set, is_committed, committed_as}
+use Rattle.shoplog.specs.Lines.{Line, write, commit, read}
+use Rattle.shoplog.specs.Verdicts.{gathered, actor_in, written_in, read_in, commit_in, actors, write_set, read_set, is_committed, committed_as}
 use Rattle.logtable.specs.Holds.{ClockHeld}
 
 -- ms say of u what ls say

@@ -12,9 +12,9 @@ use native.Mathlib.Omega.{arith}
 use borrow.Author.Tests.{ne_eqb}
 use Rattle.model.specs.Lists.{member}
 use Rattle.model.proofs.KeySetLaws.{set-none}
-use Rattle.log.specs.Lines.{Line}
-use Rattle.log.specs.Verdicts.{actors, keys_read, one_too_many}
-use Rattle.log.specs.Claims.{AllFine}
+use Rattle.shoplog.specs.Lines.{Line}
+use Rattle.shoplog.specs.Verdicts.{actors, keys_read, one_too_many}
+use Rattle.shoplog.specs.Claims.{AllFine}
 use Rattle.logtable.specs.Tables.{places, txn_at, reads_at, read_count, seat_of}
 use Rattle.logtable.specs.Holds.{BlankAt, HoldsAt, SeatsHeld, Holds}
 use Rattle.logtable.proofs.KeysHeldLaws.{keys_none}

@@ -10,14 +10,14 @@ use lib.Seq.{length-take-le, set-get_or, get_or-take}
 use native.Mathlib.Nat.{le_of_suc-le-suc, not-suc-le-zero}
 use native.Mathlib.Omega.{arith}
 use borrow.Author.Tests.{eqb-true, eqb-false, eq-eqb, ne_eqb, le-leb, lt-leb, leb-true}
-use Rattle.model.specs.Lists.{◌and◌, ◌or◌, any, first, count, member, distinct}
+use Rattle.model.specs.Lists.{◌and◌, ◌or◌, any, count, member, distinct}
 use Rattle.model.proofs.Tests.{or_swap, and-none-right, not-of-true, not_of_false}
 use Rattle.model.proofs.ListLaws.{member-yes, member-no, member-cons, member-finds, member-at, member-none, first-none, count_yes, count_no, count_most}
 use Rattle.model.proofs.DistinctLaws.{once-at, distinct-set, member-never}
-use Rattle.log.specs.Verdicts.{once, one_too_many}
+use Rattle.shoplog.specs.Verdicts.{once, one_too_many}
 use Rattle.logtable.specs.Tables.{places, table_size, txn_at, place_of, seat_of}
 use Rattle.logtable.specs.Holds.{SeatsHeld}
-use Rattle.log.proofs.OnceLaws.{once-again, once-new}
+use Rattle.shoplog.proofs.OnceLaws.{once-again, once-new}
 
 abbrev is_used : ℕ → Bool
 is_used t = not (eqb t 0)

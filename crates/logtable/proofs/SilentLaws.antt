@@ -9,11 +9,11 @@ use Rattle.model.specs.declared.Id.{Id}
 use Rattle.model.specs.Lists.{any, member}
 use Rattle.model.proofs.Tests.{or_left, or_right}
 use Rattle.model.proofs.ListLaws.{any-no, member-cons}
-use Rattle.log.specs.Lines.{Line, write, commit, read}
-use Rattle.log.specs.Verdicts.{gathered, actor_in, written_in, read_in, commit_in, actors, write_set, read_set, is_committed, committed_as}
-use Rattle.log.specs.Claims.{AllFine}
-use Rattle.log.proofs.GatheredLaws.{as-is-committed}
-use Rattle.log.proofs.FineLaws.{fine-good, commit-written}
+use Rattle.shoplog.specs.Lines.{Line, write, commit, read}
+use Rattle.shoplog.specs.Verdicts.{gathered, actor_in, written_in, read_in, commit_in, actors, write_set, read_set, is_committed, committed_as}
+use Rattle.shoplog.specs.Claims.{AllFine}
+use Rattle.shoplog.proofs.GatheredLaws.{as-is-committed}
+use Rattle.shoplog.proofs.FineLaws.{fine-good, commit-written}
 
 -- not among the transactions of one line more
 not_there : (t u : ℕ) (ts : List ℕ) → member t (u ∷ ts) ≡ false → (eqb t u ≡ false) × (member t ts ≡ false)

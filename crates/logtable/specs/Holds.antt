@@ -5,9 +5,9 @@ use Rattle.model.specs.declared.Read.{Read}
 use Rattle.model.specs.Limits.{number_range}
 use Rattle.model.specs.Lists.{count, distinct, member}
 use Rattle.model.specs.KeySets.{key_set}
-use Rattle.log.specs.Lines.{Line}
-use Rattle.log.specs.Verdicts.{actors, write_set, read_set, keys_read, is_committed, committed_as, once}
-use Rattle.log.specs.Claims.{AllFine}
+use Rattle.shoplog.specs.Lines.{Line}
+use Rattle.shoplog.specs.Verdicts.{actors, write_set, read_set, keys_read, is_committed, committed_as, once}
+use Rattle.shoplog.specs.Claims.{AllFine}
 use Rattle.logtable.specs.Tables.{places, table_size, txn_at, clock_at, written_at, read_at, reads_at, key_of, author_of, read_word, id_at}
 
 -- a clock, 0 before its transaction t commits

@@ -1,7 +1,7 @@
 -- What a finding decides.
 use Rattle.std.specs.Prelude.{List, ℕ}
-use Rattle.log.specs.declared.Finding.{Finding}
-use Rattle.log.specs.declared.Finding.TheVariants.{Fine, Over, Bad}
+use Rattle.shoplog.specs.declared.Finding.{Finding}
+use Rattle.shoplog.specs.declared.Finding.TheVariants.{Fine, Over, Bad}
 
 -- the table after a line that is fine, or as it was
 unfoldable pub if_fine : Finding → List ℕ → List ℕ → List ℕ

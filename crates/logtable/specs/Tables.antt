@@ -1,5 +1,5 @@
 -- What the code keeps of the lines above, as one list of numbers: 64 transactions in the order in which they first wrote or read. It is no part of
--- the verdict's definition (log's specs/Verdicts): that it says the same is `Holds` and the laws about it.
+-- the verdict's definition (shoplog's specs/Verdicts): that it says the same is `Holds` and the laws about it.
 use Rattle.std.specs.Prelude.{ℕ, ◌+◌, ◌*◌, ◌/◌, ◌%◌, min, cond, List, eqb, length, take, drop, get_or, set}
 use Rattle.model.specs.declared.Id.{Id}
 use Rattle.model.specs.Lists.{first, member, insert}

@@ -1,5 +1,7 @@
 // What is kept of a log's lines, 64 transactions with the keys that they wrote and read, and what is found of the next line by it. The table is
 // defined in specs/Tables; that it says what the lines say is in specs/Holds.
+#![tactic(auto)]
+
 ghost use Rattle.std.specs.Prelude.{◌≡◌, ◌<◌, length};
 ghost use Rattle.model.specs.Limits.{keys};
 ghost use Rattle.model.specs.Lists.{◌and◌, member};
@@ -9,8 +11,8 @@ ghost use Rattle.logtable.specs.Findings.{full_for, older_at, clash, clashes, is
 ghost use Rattle.logtable.specs.Parts.{if_fine};
 
 use keysets::{has_key, key_count, with_key};
-use log::Finding;
 use model::Id;
+use shoplog::Finding;
 
 // The numbers of a table.
 pub const TABLE: usize = 1280;

@@ -12,9 +12,9 @@ use Rattle.model.specs.Lists.{distinct}
 use Rattle.model.specs.Ranges.{Every}
 use Rattle.history.specs.Ledger.{Draft, Committed, Ledger, empty_ledger, draft_of, committed_of}
 use Rattle.history.specs.CutRule.{Wrote}
-use Rattle.log.specs.Lines.{Line, write, commit, read}
-use Rattle.log.specs.Verdicts.{is_bad}
-use Rattle.log.specs.Written.{LineFits}
+use Rattle.shoplog.specs.Lines.{Line, write, commit, read}
+use Rattle.shoplog.specs.Verdicts.{is_bad}
+use Rattle.shoplog.specs.Written.{LineFits}
 use Rattle.ourlog.specs.OurLog.{commit_line}
 use Rattle.ourlog.proofs.Lines.{ticket_of, NoneBad, SameOf, same-others}
 

@@ -34,8 +34,8 @@ use Rattle.history.specs.Ledger.{Ledger, feed}
 use Rattle.history.proofs.Invariant.{Core, Lasting, Inv}
 use Rattle.history.proofs.Acknowledged.{undrafted}
 use Rattle.history.proofs.Recovering.{scan-is}
-use Rattle.log.specs.Lines.{Line}
-use Rattle.log.specs.Claims.{onto}
+use Rattle.shoplog.specs.Lines.{Line}
+use Rattle.shoplog.specs.Claims.{onto}
 use Rattle.ourlog.specs.OurLog.{logged, started_in}
 use Rattle.ourlog.proofs.Agrees.{Agrees}
 use Rattle.ourlog.proofs.Rows.{agrees-torn, agrees-cleared, agrees-struck, agrees-started}

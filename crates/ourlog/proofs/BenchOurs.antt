@@ -29,7 +29,7 @@ use Rattle.model.specs.Answers.{swept_in}
 use Rattle.model.specs.Calls.{Start, Put, Get, Commit, Step, Abort, Scan, does, is_scan, is_sweep, txn_of, key_of, number_of}
 use Rattle.history.specs.Ledger.{empty_ledger, draft_of, without, revised, with_drafts, at, committed_from, clocks_in, feed}
 use Rattle.history.specs.Histories.{Event, called, cut, begin, handed, reports, fed, given_after, after_call, after_cut, next}
-use Rattle.log.specs.Lines as log
+use Rattle.shoplog.specs.Lines as log
 use Rattle.ourlog.specs.OurLog.{logged, reports_for, reports_of, lines_of, log_of, started_in, starts_in, starts_of}
 
 pub day : List Event

@@ -12,9 +12,9 @@ use borrow.Author.Tests.{eqb-true, eqb-false}
 use Rattle.model.specs.Lists.{any, member}
 use Rattle.model.proofs.Tests.{same_test}
 use Rattle.model.proofs.ListLaws.{member-yes, member-no}
-use Rattle.log.specs.Verdicts.{once}
-use Rattle.log.proofs.GatheredLaws.{member-mem, mem-member}
-use Rattle.log.proofs.OnceLaws.{once-seen, once-new}
+use Rattle.shoplog.specs.Verdicts.{once}
+use Rattle.shoplog.proofs.GatheredLaws.{member-mem, mem-member}
+use Rattle.shoplog.proofs.OnceLaws.{once-seen, once-new}
 
 -- all but n
 unfoldable others : ℕ → List ℕ → List ℕ

@@ -14,9 +14,9 @@ use Rattle.model.specs.Ids.{older}
 use Rattle.model.proofs.Tests.{and_left, and_right, or-none, not-of-true, not_of_false}
 use Rattle.model.proofs.ListLaws.{all_cons}
 use Rattle.model.proofs.IdLaws.{id_same}
-use Rattle.log.specs.Lines.{Line, write, commit, read}
-use Rattle.log.specs.Verdicts.{written_in, write_set, read_set, has_written, is_committed, is_atomic, at_another, is_bad}
-use Rattle.log.proofs.GatheredLaws.{any-one, mem-gathered, written-own, has-written, write-above, committed-clock, committed-as}
+use Rattle.shoplog.specs.Lines.{Line, write, commit, read}
+use Rattle.shoplog.specs.Verdicts.{written_in, write_set, read_set, has_written, is_committed, is_atomic, at_another, is_bad}
+use Rattle.shoplog.proofs.GatheredLaws.{any-one, mem-gathered, written-own, has-written, write-above, committed-clock, committed-as}
 use Rattle.ourlog.proofs.Agrees.{Uncommitted}
 
 -- a test that cannot be true

@@ -11,15 +11,15 @@ use borrow.Author.Tests.{not-true, leb-true}
 use Rattle.model.specs.declared.Read.{Read}
 use Rattle.model.specs.Lists.{◌or◌}
 use Rattle.model.proofs.Tests.{and_left, and_right, or-none}
-use Rattle.log.specs.Lines.{Line, write, commit, read}
-use Rattle.log.specs.Verdicts.{gathered, actor_in, written_in, read_in, actors, write_set, read_set, keys_read, once, one_too_many, ticket_limit, keys_written_limit, keys_read_limit, is_over}
-use Rattle.log.specs.Claims.{AllFine}
-use Rattle.log.proofs.FineLaws.{good-fine}
-use Rattle.log.proofs.GatheredLaws.{mem-gathered, gathered-mem, written-own, read-own}
+use Rattle.shoplog.specs.Lines.{Line, write, commit, read}
+use Rattle.shoplog.specs.Verdicts.{gathered, actor_in, written_in, read_in, actors, write_set, read_set, keys_read, once, one_too_many, ticket_limit, keys_written_limit, keys_read_limit, is_over}
+use Rattle.shoplog.specs.Claims.{AllFine}
+use Rattle.shoplog.proofs.FineLaws.{good-fine}
+use Rattle.shoplog.proofs.GatheredLaws.{mem-gathered, gathered-mem, written-own, read-own}
 use Rattle.ourlog.specs.OurLog.{KeepsLimits}
 use Rattle.ourlog.proofs.Lines.{NoneBad}
 use Rattle.ourlog.proofs.Findings.{refuted}
-use Rattle.log.proofs.OnceLaws.{once-new}
+use Rattle.shoplog.proofs.OnceLaws.{once-new}
 use Rattle.ourlog.proofs.Counting.{once-most}
 
 -- one more of a part is not too many, where the whole is not

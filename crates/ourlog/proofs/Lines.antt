@@ -6,9 +6,9 @@ use mathlib.Core.Bool.{false}
 use mathlib.Core.List.Memᴰ
 use mathlib.Core.List.{List, [], ◌∷◌, ◌++◌, Memᴰ}
 use Rattle.model.specs.Ranges.{Every}
-use Rattle.log.specs.Lines.{Line, write, commit, read}
-use Rattle.log.specs.Verdicts.{is_bad}
-use Rattle.log.specs.Claims.{onto}
+use Rattle.shoplog.specs.Lines.{Line, write, commit, read}
+use Rattle.shoplog.specs.Verdicts.{is_bad}
+use Rattle.shoplog.specs.Claims.{onto}
 
 -- whose line it is
 unfoldable pub ticket_of : Line → ℕ

@@ -24,11 +24,11 @@ use Rattle.history.proofs.Lasting.{lasting}
 use Rattle.history.proofs.Collecting.{collect-keeps}
 use Rattle.history.proofs.Recovering.{scan-keeps}
 use Rattle.history.proofs.Theorem.{call-keeps, only-scan, down-kind, Running, State, next-keeps, begin-state}
-use Rattle.log.specs.Lines.{Line}
-use Rattle.log.specs.Logs.{verdict_from, verdict_of}
-use Rattle.log.specs.Claims.{onto}
-use Rattle.log.proofs.CleanLines.{fine-from}
-use Rattle.log.proofs.WrittenLaws.{log_back}
+use Rattle.shoplog.specs.Lines.{Line}
+use Rattle.shoplog.specs.Logs.{verdict_from, verdict_of}
+use Rattle.shoplog.specs.Claims.{onto}
+use Rattle.shoplog.proofs.CleanLines.{fine-from}
+use Rattle.shoplog.proofs.WrittenLaws.{log_back}
 use Rattle.ourlog.specs.OurLog.{reports_for, reports_of, lines_of, log_of, started_in, starts_in, starts_of, logged, OursIsClean}
 use Rattle.ourlog.proofs.Lines.{onto-append, onto-mem, every-onto}
 use Rattle.ourlog.proofs.Agrees.{Agrees, agrees-empty}

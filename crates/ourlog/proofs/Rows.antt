@@ -17,9 +17,9 @@ use Rattle.history.specs.Ledger.{Draft, Ledger, draft_of, without, revised, with
 use Rattle.history.specs.CutRule.{Wrote}
 use Rattle.history.proofs.DraftLaws.{some_inj, at_same, at_other, mapped, draft-txn, draft-without, draft-new, draft-revised}
 use Rattle.history.proofs.CommittedLaws.{strike-keeps}
-use Rattle.log.specs.Lines.{Line, write, commit, read}
-use Rattle.log.specs.Verdicts.{is_bad}
-use Rattle.log.specs.Written.{LineFits}
+use Rattle.shoplog.specs.Lines.{Line, write, commit, read}
+use Rattle.shoplog.specs.Verdicts.{is_bad}
+use Rattle.shoplog.specs.Written.{LineFits}
 use Rattle.ourlog.proofs.Lines.{ticket_of, same-all, stands-above}
 use Rattle.ourlog.proofs.Agrees.{Uncommitted, Noted, Logged, Agrees, noted-same, line-more}
 

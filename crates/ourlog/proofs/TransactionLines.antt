@@ -36,12 +36,12 @@ use Rattle.history.proofs.DraftLaws.{mapped, at_same, draft-txn, draft-revised, 
 use Rattle.history.proofs.CommittedLaws.{stands-in, committed-id}
 use Rattle.history.proofs.SlotOwners.{not_free, unseen}
 use Rattle.history.proofs.Storing.{lookup_first}
-use Rattle.log.specs.Lines as L
-use Rattle.log.specs.Lines.{Line}
-use Rattle.log.specs.Verdicts.{read_set}
-use Rattle.log.specs.Claims.{onto}
-use Rattle.log.specs.Written.{LineFits, IsTxn, IsClock}
-use Rattle.log.proofs.GatheredLaws.{read_above}
+use Rattle.shoplog.specs.Lines as L
+use Rattle.shoplog.specs.Lines.{Line}
+use Rattle.shoplog.specs.Verdicts.{read_set}
+use Rattle.shoplog.specs.Claims.{onto}
+use Rattle.shoplog.specs.Written.{LineFits, IsTxn, IsClock}
+use Rattle.shoplog.proofs.GatheredLaws.{read_above}
 use Rattle.ourlog.specs.OurLog.{commit_line, logged, started_in}
 use Rattle.ourlog.proofs.Agrees.{Uncommitted, Agrees}
 use Rattle.ourlog.proofs.Findings.{refuted, write-good, commit-good, read-good}

@@ -10,11 +10,11 @@ use Rattle.model.specs.Lists.{distinct}
 use Rattle.model.specs.Calls.{Call, does, txn_of, key_of}
 use Rattle.history.specs.Ledger.{Committed, Ledger, draft_of, committed_from, feed}
 use Rattle.history.specs.Histories.{Event, called, cut, World, begin, handed, Report, reports, given_after, next, AllInRange}
-use Rattle.log.specs.declared.Verdict.TheVariants.{Clean}
-use Rattle.log.specs.Lines.{Line, write, commit, read}
-use Rattle.log.specs.Verdicts.{actors, write_set, keys_read, once, ticket_limit, keys_written_limit, keys_read_limit}
-use Rattle.log.specs.Logs.{verdict_of}
-use Rattle.log.specs.Written.{log_written}
+use Rattle.shoplog.specs.declared.Verdict.TheVariants.{Clean}
+use Rattle.shoplog.specs.Lines.{Line, write, commit, read}
+use Rattle.shoplog.specs.Verdicts.{actors, write_set, keys_read, once, ticket_limit, keys_written_limit, keys_read_limit}
+use Rattle.shoplog.specs.Logs.{verdict_of}
+use Rattle.shoplog.specs.Written.{log_written}
 
 -- ── the lines of one answer, with the ledger before it ──
 -- the commit line of a transaction

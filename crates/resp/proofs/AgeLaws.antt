@@ -7,7 +7,6 @@ use mathlib.Core.List.Memᴰ
 use mathlib.Core.List.{List, [], ◌∷◌, Memᴰ}
 use lib.ListN.{length}
 use Rattle.model.specs.declared.Id.{Id}
-use Rattle.model.specs.Lists.{◌and◌}
 use Rattle.model.specs.Ids.{older}
 use Rattle.model.proofs.Tests.{and_intro, bool_cases}
 use Rattle.model.proofs.IdLaws.{older-irrefl, older-asym, older-trans, older-total}

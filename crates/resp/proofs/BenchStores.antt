@@ -3,7 +3,7 @@ use Prim.Native.Nat.{ℕ}
 use mathlib.Core.Path.{◌≡◌, refl}
 use mathlib.Core.List.{List, [], ◌∷◌, map}
 use lib.ListN.{length, replicate}
-use Rattle.model.specs.Lists.{◌and◌, ◌or◌, all, same, ascending, first, from, padded}
+use Rattle.model.specs.Lists.{◌and◌, ◌or◌, same, ascending, from, padded}
 use Rattle.model.specs.Kinds.{narrow_kind, slot_start}
 use Rattle.model.specs.Ids.{older, same_id}
 use Rattle.model.specs.Bytes.{bytes, number, head_bytes, id_in}

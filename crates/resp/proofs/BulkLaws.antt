@@ -12,13 +12,11 @@ use native.Mathlib.Omega.{arith}
 use borrow.Author.Tests.{eq-eqb, ne_eqb}
 use Rattle.model.specs.Limits.{number_range}
 use Rattle.decimal.specs.declared.Number.{Number}
-use Rattle.decimal.specs.declared.Number.TheVariants as Number
 use Rattle.decimal.specs.Digits.{number_below}
 use Rattle.decimal.specs.Fields.{field, after_field, number_read}
 use Rattle.decimal.proofs.FieldLaws.{rest-next, rest_part}
 use Rattle.lines.specs.Lines.{newline}
 use Rattle.resp.specs.declared.Span.{Span}
-use Rattle.resp.specs.declared.Span.TheVariants as Span
 use Rattle.resp.specs.Streams.{carriage, line_end}
 use Rattle.resp.specs.Inverse.{◌then◌, after, bulk_of, bulk_in}
 use Rattle.resp.specs.Parts.{Begins, span_of, SpanFits}

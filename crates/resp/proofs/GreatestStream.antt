@@ -11,7 +11,7 @@ use native.Mathlib.Omega.{arith}
 use Rattle.model.specs.declared.Id.{Id}
 use Rattle.model.specs.Types.{Write}
 use Rattle.model.specs.Lists.{◌and◌, from, ascending}
-use Rattle.model.specs.Limits.{keys, number_range}
+use Rattle.model.specs.Limits.{number_range}
 use Rattle.model.specs.Lives.{write_key}
 use Rattle.model.proofs.Tests.{and_intro}
 use Rattle.model.proofs.ListLaws.{from-length, from_at, map_at, every-from}

@@ -19,9 +19,7 @@ use Rattle.decimal.specs.Digits.{number_below}
 use Rattle.decimal.specs.Fields.{field, after_field, number_read}
 use Rattle.decimal.proofs.FieldLaws.{rest_part}
 use Rattle.resp.specs.declared.IdRead.{IdRead}
-use Rattle.resp.specs.declared.IdRead.TheVariants as IdRead
 use Rattle.resp.specs.declared.NameRead.{NameRead}
-use Rattle.resp.specs.declared.NameRead.TheVariants as NameRead
 use Rattle.resp.specs.Streams.{slash}
 use Rattle.resp.specs.Inverse.{◌then◌, after, id_from, id_text_in, name_in}
 use Rattle.resp.specs.Parts.{id_read, name_read}

@@ -15,7 +15,7 @@ use Rattle.model.specs.Limits.{keys, number_range}
 use Rattle.model.specs.Lives.{write_key}
 use Rattle.model.specs.Ranges.{Every}
 use Rattle.model.proofs.Tests.{and_left, and_right, and_intro}
-use Rattle.model.proofs.IdLaws.{same_id, id_same}
+use Rattle.model.proofs.IdLaws.{same_id_lem, id_same}
 use Rattle.model.proofs.InsertLaws.{ascending-head, ascending-tail, ascending-cons}
 use Rattle.resp.specs.Streams.{Transaction, version_command, commit_command, versions_text, transaction_text, TransactionFits}
 use Rattle.resp.specs.Inverse.{Version, version_in, Taken, closed, goes_on, onward, versions_from, transaction_in}
@@ -126,7 +126,7 @@ further-one : (more : ℕ) (i : Id) (k : ℕ) (ws : List Write) (bs : List ℕ) 
     → Further more i v.write.key (ws ++ (v.write ∷ [])) v.rest t → Further (suc more) i k ws bs t
 unfolding goes_on versions_text
 further-one more i k ws bs t v p g f =
-    let e : v.id ≡ i = same_id v.id i (and_left _ _ g) in
+    let e : v.id ≡ i = same_id_lem v.id i (and_left _ _ g) in
     record {
       further = v.write ∷ f.further;
       bytes-are =

@@ -11,10 +11,8 @@ use Rattle.model.specs.Limits.{number_range}
 use Rattle.decimal.specs.Digits.{number_below}
 use Rattle.decimal.proofs.FieldLaws.{rest_part}
 use Rattle.resp.specs.declared.Span.{Span}
-use Rattle.resp.specs.declared.Span.TheVariants as Span
 use Rattle.resp.specs.declared.VersionRead.{VersionRead}
-use Rattle.resp.specs.declared.VersionRead.TheVariants as VersionRead
-use Rattle.resp.specs.Streams.{bulk, set_begins}
+use Rattle.resp.specs.Streams.{set_begins}
 use Rattle.resp.specs.Inverse.{◌then◌, after, bulk_in, Name, name_in, valued, version_in}
 use Rattle.resp.specs.Parts.{span_of, SpanFits, version_read, ReadFits}
 use Rattle.resp.proofs.NumberLaws.{rest_of, rest-of-rest}

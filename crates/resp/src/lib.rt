@@ -1,4 +1,6 @@
 // The RESP stream of a committed set (02 §11): its commands written into lent bytes, and read off them. Defined in specs/.
+#![tactic(auto)]
+
 ghost use Rattle.std.specs.Prelude.{◌≡◌, ◌+◌, ◌≤◌, ◌∷◌, ◌++◌, length, take};
 ghost use Rattle.model.specs.KeySets.{key_set};
 ghost use Rattle.decimal.specs.Digits.{digits};
@@ -29,35 +31,35 @@ pub const COMMAND: usize = 256;
 const SET: usize = 13;
 
 // What an export or an import comes to: the stream's length or the number of transactions; or the number of a refusal, with the slot.
-#[derive(Drop)]
+#[derive(Clone, Copy)]
 pub enum Transfer {
     Done(usize),
     Refused(u8, u8),
 }
 
 // A bulk string's bytes: where they begin and where they end.
-#[derive(Drop)]
+#[derive(Clone, Copy)]
 pub enum Span {
     Of(usize, usize),
     Unread,
 }
 
 // An id read off its text.
-#[derive(Drop)]
+#[derive(Clone, Copy)]
 pub enum IdRead {
     Of(Id),
     Other,
 }
 
 // A version's name: its key and id.
-#[derive(Drop)]
+#[derive(Clone, Copy)]
 pub enum NameRead {
     Of(u8, Id),
     Other,
 }
 
 // A version's command: its key, id and value, and how many bytes it has.
-#[derive(Drop)]
+#[derive(Clone, Copy)]
 pub enum VersionRead {
     Of(u8, Id, u64, usize),
     Other,

@@ -1,6 +1,5 @@
 -- The verbs, the answers and the header, as ASCII bytes.
 use Rattle.std.specs.Prelude.{ℕ, List, [], ◌∷◌}
-use Rattle.model.specs.declared.Phase.TheVariants.{Closing}
 use Rattle.model.specs.declared.Answer.{Answer}
 use Rattle.model.specs.declared.Answer.TheVariants as A
 

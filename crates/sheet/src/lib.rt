@@ -1,4 +1,6 @@
 // The run sheet: lines of calls in, lines of answers out. Their bytes are defined in specs/.
+#![tactic(auto)]
+
 ghost use Rattle.std.specs.Prelude.{◌≡◌, ◌+◌, ◌≤◌, [], ◌∷◌, ◌++◌, eqb, length, take, drop};
 ghost use Rattle.std.proofs.Math.Option.{some};
 ghost use Rattle.model.specs.Answers.{values_of};
@@ -29,7 +31,7 @@ const WORDS: [u8; 114] =
     *b"started,kept,own,version,none,nofit,closing,empty,done,stored,slipped,dropped,collected,found,refused,swept,moved,";
 
 // What a line asks, or a host's request: a sweep is only a request's.
-#[derive(Drop)]
+#[derive(Clone, Copy)]
 pub enum Command {
     Start(u32),
     Put(u32, u8, u64),
@@ -44,7 +46,7 @@ pub enum Command {
 }
 
 // A line's first field.
-#[derive(Drop)]
+#[derive(Clone, Copy)]
 pub enum Word {
     Start,
     Put,
@@ -58,14 +60,14 @@ pub enum Word {
 }
 
 // A part of the words.
-#[derive(Drop)]
+#[derive(Clone, Copy)]
 struct Part {
     at: usize,
     size: usize,
 }
 
 // The values a, b, c of an answer.
-#[derive(Drop)]
+#[derive(Clone, Copy)]
 pub struct Values {
     pub a: u64,
     pub b: u64,
