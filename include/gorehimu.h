@@ -18,7 +18,7 @@
  * All else is the same for both: keys are 0 to 63, 8 transactions live at most, a read set has 16 keys at most, a sweep collects 64 at most.
  * gorehimu_move_out and gorehimu_move_back copy what is committed into a store of the other kind.
  *
- * Build: rt staticlib interface, then link target/staticlib/libinterface.a. Its functions are proved to do what is said here for any
+ * Build: tools/prove staticlib interface, then link target/staticlib/libinterface.a. Its functions are proved to do what is said here for any
  * bytes whatever; the definitions are in crates/interface/specs and crates/model/specs.
  *
  * To survive a loss of power, bring the record that a request wrote, 24 bytes, whole or not at all, to where the store lasts before the

@@ -1,4 +1,4 @@
-//! Links the proved library, which `rt staticlib interface` puts into target/staticlib at the repository's root.
+//! Links the proved library, which `tools/prove staticlib interface` puts into target/staticlib at the repository's root.
 
 fn main() {
     let root = std::path::Path::new(env!("CARGO_MANIFEST_DIR")).join("../../target/staticlib");

@@ -1,5 +1,7 @@
 // Work for the benchmarks: a station of a given size, and one call made many times over it. Only numbers and lent bytes cross the
-// boundary; what is timed is on the other side.
+// boundary, by the exports of bench_c; what is timed is on the other side.
+#![tactic(auto)]
+
 ghost use Rattle.std.specs.Prelude.{◌<◌};
 
 use calls::{
@@ -113,8 +115,7 @@ fn code(a: Answer) -> u64
     }
 }
 
-#[unsafe(no_mangle)]
-pub extern "C" fn bench_put(rounds: u64, entries: u8, lives: u8, reads: u8, base: u8) -> u64 {
+pub fn bench_put(rounds: u64, entries: u8, lives: u8, reads: u8, base: u8) -> u64 {
     let mut s = station(entries, lives, reads, base);
     let mut last = 0;
     let mut i: u64 = 0;
@@ -130,8 +131,7 @@ pub extern "C" fn bench_put(rounds: u64, entries: u8, lives: u8, reads: u8, base
 }
 
 // Start and abort.
-#[unsafe(no_mangle)]
-pub extern "C" fn bench_start(rounds: u64, entries: u8, lives: u8, reads: u8, base: u8) -> u64 {
+pub fn bench_start(rounds: u64, entries: u8, lives: u8, reads: u8, base: u8) -> u64 {
     let mut s = station(entries, lives, reads, base);
     let mut last = 0;
     let mut i: u64 = 0;
@@ -150,8 +150,7 @@ pub extern "C" fn bench_start(rounds: u64, entries: u8, lives: u8, reads: u8, ba
 }
 
 // A commit of a held transaction.
-#[unsafe(no_mangle)]
-pub extern "C" fn bench_retry(rounds: u64, entries: u8, lives: u8, reads: u8, base: u8) -> u64 {
+pub fn bench_retry(rounds: u64, entries: u8, lives: u8, reads: u8, base: u8) -> u64 {
     let mut s = station(entries, lives, reads, base);
     let mut last = 0;
     let mut i: u64 = 0;
@@ -166,8 +165,7 @@ pub extern "C" fn bench_retry(rounds: u64, entries: u8, lives: u8, reads: u8, ba
     last
 }
 
-#[unsafe(no_mangle)]
-pub extern "C" fn bench_get(
+pub fn bench_get(
     store: &[u8],
     rounds: u64,
     entries: u8,
@@ -206,8 +204,7 @@ fn asked(verb: u8, i: u64) -> Command {
     }
 }
 
-#[unsafe(no_mangle)]
-pub extern "C" fn bench_known(
+pub fn bench_known(
     store: &mut [u8],
     verb: u8,
     rounds: u64,
@@ -268,7 +265,7 @@ fn stored(station: Station, store: &mut [u8], txn: u32) -> Outcome {
     step(s3, store, txn)
 }
 
-#[derive(Drop)]
+#[derive(Clone, Copy)]
 struct Turn {
     station: Station,
     before: u8,
@@ -294,8 +291,7 @@ fn take_turn(station: Station, store: &mut [u8], before: u8, i: u64) -> Turn {
     }
 }
 
-#[unsafe(no_mangle)]
-pub extern "C" fn bench_transaction(
+pub fn bench_transaction(
     store: &mut [u8],
     rounds: u64,
     entries: u8,
@@ -318,8 +314,7 @@ pub extern "C" fn bench_transaction(
     sum
 }
 
-#[unsafe(no_mangle)]
-pub extern "C" fn bench_scan(store: &[u8], rounds: u64) -> u64 {
+pub fn bench_scan(store: &[u8], rounds: u64) -> u64 {
     let mut last = 0;
     let mut i: u64 = 0;
     while i < rounds {
@@ -332,8 +327,7 @@ pub extern "C" fn bench_scan(store: &[u8], rounds: u64) -> u64 {
 }
 
 // A wide store.
-#[unsafe(no_mangle)]
-pub extern "C" fn bench_scan_wide(store: &[u8], rounds: u64) -> u64 {
+pub fn bench_scan_wide(store: &[u8], rounds: u64) -> u64 {
     let mut last = 0;
     let mut i: u64 = 0;
     while i < rounds {
@@ -347,8 +341,7 @@ pub extern "C" fn bench_scan_wide(store: &[u8], rounds: u64) -> u64 {
 
 // ---- clearing: over a store of its own each round, one after the other in what is lent
 // A sweep of the station.
-#[unsafe(no_mangle)]
-pub extern "C" fn bench_sweep(
+pub fn bench_sweep(
     stores: &mut [u8],
     entries: u8,
     lives: u8,
@@ -385,8 +378,7 @@ fn collects(station: Station, store: &mut [u8], first: u8, limit: u8) -> u64 {
     last
 }
 
-#[unsafe(no_mangle)]
-pub extern "C" fn bench_collects(
+pub fn bench_collects(
     stores: &mut [u8],
     entries: u8,
     lives: u8,
@@ -408,14 +400,7 @@ pub extern "C" fn bench_collects(
 
 // ---- printing
 // Lines of a version's answer, each over the one before; the length of the last.
-#[unsafe(no_mangle)]
-pub extern "C" fn bench_print(
-    out: &mut [u8],
-    rounds: u64,
-    value: u64,
-    clock: u64,
-    txn: u32,
-) -> u64 {
+pub fn bench_print(out: &mut [u8], rounds: u64, value: u64, clock: u64, txn: u32) -> u64 {
     if out.len() < 96 {
         return 0;
     }
@@ -431,8 +416,7 @@ pub extern "C" fn bench_print(
 }
 
 // ---- the moves
-#[unsafe(no_mangle)]
-pub extern "C" fn bench_move_out(narrow: &[u8], wide: &mut [u8], rounds: u64) -> u64 {
+pub fn bench_move_out(narrow: &[u8], wide: &mut [u8], rounds: u64) -> u64 {
     let mut last = 0;
     let mut i: u64 = 0;
     while i < rounds {
@@ -443,8 +427,7 @@ pub extern "C" fn bench_move_out(narrow: &[u8], wide: &mut [u8], rounds: u64) ->
     last
 }
 
-#[unsafe(no_mangle)]
-pub extern "C" fn bench_move_back(wide: &[u8], narrow: &mut [u8], rounds: u64) -> u64 {
+pub fn bench_move_back(wide: &[u8], narrow: &mut [u8], rounds: u64) -> u64 {
     let mut last = 0;
     let mut i: u64 = 0;
     while i < rounds {

@@ -5,7 +5,6 @@ use mathlib.Core.Logic.{◌⊎◌, inl, inr}
 use mathlib.Core.Bool.{Bool, true, false, not, true≢false}
 use mathlib.Core.List.{List, [], ◌∷◌}
 use mathlib.Core.Option.{Option, some, none}
-use types.Run.{OneOf, miss}
 use Rattle.model.specs.declared.Station as machine
 use Rattle.model.specs.Types.{Station, Outcome}
 use Rattle.model.specs.declared.Answer.TheVariants as A
@@ -115,7 +114,7 @@ unfolding asks_scan
 scan-asked none h = absurd (true≢false (sym h))
 scan-asked (some c) h = ap some (scan-only c h)
 
-pub not-scan : (c : Command) → OneOf (0 ∷ 1 ∷ 2 ∷ 3 ∷ 4 ∷ 5 ∷ 6 ∷ 8 ∷ 9 ∷ []) (denote.Enum.Declared.tag_of Rattle.sheet.specs.contracts.Command.the_type c) → asks_scan (call_of c) ≡ false
+pub not-scan : (c : Command) → (c ≡ C.Cut → ⊥) → asks_scan (call_of c) ≡ false
 unfolding call_of asks_scan is_scan
 not-scan (C.Start t) h = refl
 not-scan (C.Put t k v) h = refl
@@ -124,12 +123,12 @@ not-scan (C.Commit t c) h = refl
 not-scan (C.Step t) h = refl
 not-scan (C.Abort t) h = refl
 not-scan (C.Collect d) h = refl
-not-scan C.Cut h = absurd (miss (0 ∷ 1 ∷ 2 ∷ 3 ∷ 4 ∷ 5 ∷ 6 ∷ 8 ∷ 9 ∷ []) 7 tt h)
+not-scan C.Cut h = absurd (h refl)
 not-scan C.Malformed h = refl
 not-scan (C.Sweep n) h = refl
 
 -- ── a sweep, told by its command ──
-pub not-sweep : (c : Command) → OneOf (0 ∷ 1 ∷ 2 ∷ 3 ∷ 4 ∷ 5 ∷ 6 ∷ 7 ∷ 8 ∷ []) (denote.Enum.Declared.tag_of Rattle.sheet.specs.contracts.Command.the_type c) → asks_sweep (call_of c) ≡ false
+pub not-sweep : (c : Command) → ((n : ℕ) → c ≡ C.Sweep n → ⊥) → asks_sweep (call_of c) ≡ false
 unfolding call_of asks_sweep is_sweep
 not-sweep (C.Start t) h = refl
 not-sweep (C.Put t k v) h = refl
@@ -140,7 +139,7 @@ not-sweep (C.Abort t) h = refl
 not-sweep (C.Collect d) h = refl
 not-sweep C.Cut h = refl
 not-sweep C.Malformed h = refl
-not-sweep (C.Sweep n) h = absurd (miss (0 ∷ 1 ∷ 2 ∷ 3 ∷ 4 ∷ 5 ∷ 6 ∷ 7 ∷ 8 ∷ []) 9 tt h)
+not-sweep (C.Sweep n) h = absurd (h n refl)
 
 pub sweep-acts : (st : Station) (s : List ℕ) (q : Request) (n : ℕ) → q.command ≡ C.Sweep n → (o : Outcome) → o ≡ outcome_of (sweep st s n) → (s' : List ℕ) → s' ≡ stored (sweep st s n).stores s → (o ≡ acted st s q) × (s' ≡ kept st s q)
 unfolding acted does call_of

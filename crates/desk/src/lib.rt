@@ -1,5 +1,7 @@
 // A command of a sheet's line or of a host's request, carried out: as a change, and by value. Who calls these knows what the soundness test
 // says of the station; the public calls (crate calls) are for who does not.
+#![tactic(auto)]
+
 ghost use Rattle.std.specs.Prelude.{◌≡◌, false};
 ghost use Rattle.model.specs.Lists.{◌or◌};
 ghost use Rattle.model.specs.Listed.{listed, listed_outcome};
@@ -15,7 +17,7 @@ use sweeping::sweep;
 use transactions::{abort, commit, put, start};
 
 // A command as it was read, and what the soundness test says of the station.
-#[derive(Drop)]
+#[derive(Clone, Copy)]
 pub struct Request {
     pub command: Command,
     pub tested: bool,

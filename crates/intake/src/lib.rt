@@ -1,4 +1,6 @@
 // The run sheet as it comes in: blocks of input, cut anywhere, run line by line.
+#![tactic(auto)]
+
 ghost use Rattle.std.specs.Prelude.{◌≡◌, ◌+◌, ◌*◌, ◌^◌, ◌≤◌, ◌<◌, length, take, drop};
 ghost use Rattle.model.specs.Listed.{listed, listed_outcome};
 ghost use Rattle.model.specs.Sound.{sound};
@@ -16,7 +18,7 @@ use sheet::{parse_line, print_line};
 use soundness::is_sound;
 
 // The station after a line, what the soundness test says of it, and the bytes of the line's output.
-#[derive(Drop)]
+#[derive(Clone, Copy)]
 struct Ran {
     pub station: Station,
     pub tested: bool,
@@ -24,7 +26,7 @@ struct Ran {
 }
 
 // The station after a block, the bytes kept of the line that has begun, the next line's number, and the bytes of output.
-#[derive(Drop)]
+#[derive(Clone, Copy)]
 pub struct Fed {
     pub station: Station,
     pub len: usize,

@@ -1,8 +1,8 @@
 -- 02 §10 for hosts in other languages: a verdict as an answer of 32 bytes. 18 clean; 19 bad, with the line in a; 15 refused, with its number in a
 -- and the line in b.
 use Rattle.std.specs.Prelude.{ℕ, List}
-use Rattle.log.specs.declared.Verdict.{Verdict}
-use Rattle.log.specs.declared.Verdict.TheVariants.{Clean, Bad, Refused}
+use Rattle.shoplog.specs.declared.Verdict.{Verdict}
+use Rattle.shoplog.specs.declared.Verdict.TheVariants.{Clean, Bad, Refused}
 use Rattle.interface.specs.Exchange.{four_bytes}
 
 unfoldable pub verdict_bytes : Verdict → List ℕ

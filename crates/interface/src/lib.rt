@@ -1,5 +1,7 @@
 // The store for hosts in other languages: requests, answers, the station and the store are lent bytes, and nothing is kept between two
-// calls. What the bytes mean is defined in specs/.
+// calls. What the bytes mean is defined in specs/. The crate interface_c exports it to C.
+#![tactic(auto)]
+
 ghost use Rattle.std.specs.Prelude.{◌≡◌, true, cond, ◌*◌, ◌/◌, ◌%◌, eqb, length};
 ghost use Rattle.model.specs.Kinds.{narrow_kind, wide_kind};
 ghost use Rattle.model.specs.Lists.{◌and◌};
@@ -14,7 +16,7 @@ ghost use Rattle.model.specs.Scan.{scan};
 ghost use Rattle.model.specs.Moves.{move, move_out, move_back};
 ghost use Rattle.sheet.specs.Commands.{command_of};
 ghost use Rattle.sheet.specs.Parts.{verb_of};
-ghost use Rattle.log.specs.Logs.{verdict_of};
+ghost use Rattle.shoplog.specs.Logs.{verdict_of};
 ghost use Rattle.resp.specs.Exports.{export};
 ghost use Rattle.resp.specs.Imports.{import};
 ghost use Rattle.image.specs.Layout.{image_size};
@@ -29,13 +31,13 @@ use desk::{Request, asks_scan, decide};
 use exporting::export;
 use image::{IMAGE, read_image, write_image};
 use importing::import;
-use log::Verdict;
 use logcheck::check_log;
 use model::empty_of;
 use moving::move_between;
 use records::{id_in, write_number};
 use resp::Transfer;
 use sheet::{Command, Word, command_for, values_in};
+use shoplog::Verdict;
 use soundness::is_sound;
 use sweeping::sweep;
 
@@ -59,7 +61,7 @@ const IMPORTED: u64 = 21;
 const SWEEP: u8 = 9;
 
 // The station between two requests, what the soundness test says of it, and whether the image is to be its own.
-#[derive(Drop)]
+#[derive(Clone, Copy)]
 struct Current {
     whole: bool,
     tested: bool,
@@ -309,13 +311,7 @@ fn lengths_fit(image: usize, requests: usize, answers: usize) -> bool
 
 // Carries out requests over a station's image and a store, and answers each: 0. Where a length is wrong: 1, and nothing is written.
 // What is held afterwards is all in the image and the store, so that requests may come in one call or in several.
-#[unsafe(no_mangle)]
-pub extern "C" fn gorehimu_run(
-    image: &mut [u8],
-    store: &mut [u8],
-    requests: &[u8],
-    answers: &mut [u8],
-) -> u32
+pub fn gorehimu_run(image: &mut [u8], store: &mut [u8], requests: &[u8], answers: &mut [u8]) -> u32
     ensures value { result ≡ cond (fits (length image.old) (length requests.now) (length answers.old)) 0 1 }
     ensures image_after { image.new ≡ cond (fits (length image.old) (length requests.now) (length answers.old)) (image_after image.old (after_run image.old store.old requests.now)) image.old }
     ensures store_after { store.new ≡ cond (fits (length image.old) (length requests.now) (length answers.old)) (after_run image.old store.old requests.now).store store.old }
@@ -345,16 +341,14 @@ fn write_empty(kind: Kind, image: &mut [u8]) -> u32
 }
 
 // That of a narrow store's station, and of a wide one's.
-#[unsafe(no_mangle)]
-pub extern "C" fn gorehimu_empty(image: &mut [u8]) -> u32
+pub fn gorehimu_empty(image: &mut [u8]) -> u32
     ensures value { result ≡ cond (eqb (length image.old) image_size) 0 1 }
     ensures image_after { image.new ≡ cond (eqb (length image.old) image_size) (image_of (empty_station narrow_kind)) image.old }
 {
     write_empty(Kind::Narrow, image)
 }
 
-#[unsafe(no_mangle)]
-pub extern "C" fn gorehimu_empty_wide(image: &mut [u8]) -> u32
+pub fn gorehimu_empty_wide(image: &mut [u8]) -> u32
     ensures value { result ≡ cond (eqb (length image.old) image_size) 0 1 }
     ensures image_after { image.new ≡ cond (eqb (length image.old) image_size) (image_of (empty_station wide_kind)) image.old }
 {
@@ -374,13 +368,7 @@ fn one_fits(image: usize, request: usize, answer: usize) -> bool
 }
 
 // One request over a station's image and a store, answered: 0. Where a length is wrong: 1, and nothing is written.
-#[unsafe(no_mangle)]
-pub extern "C" fn gorehimu_call(
-    image: &mut [u8],
-    store: &mut [u8],
-    request: &[u8],
-    answer: &mut [u8],
-) -> u32
+pub fn gorehimu_call(image: &mut [u8], store: &mut [u8], request: &[u8], answer: &mut [u8]) -> u32
     ensures value { result ≡ cond (fits_one (length image.old) (length request.now) (length answer.old)) 0 1 }
     ensures image_after { image.new ≡ cond (fits_one (length image.old) (length request.now) (length answer.old)) (image_after image.old (after_request request.now (held_in image.old store.old))) image.old }
     ensures store_after { store.new ≡ cond (fits_one (length image.old) (length request.now) (length answer.old)) (after_request request.now (held_in image.old store.old)).store store.old }
@@ -412,8 +400,7 @@ fn recover_of(kind: Kind, image: &mut [u8], store: &[u8], answer: &mut [u8]) -> 
 }
 
 // Off a narrow store, and off a wide one.
-#[unsafe(no_mangle)]
-pub extern "C" fn gorehimu_recover(image: &mut [u8], store: &[u8], answer: &mut [u8]) -> u32
+pub fn gorehimu_recover(image: &mut [u8], store: &[u8], answer: &mut [u8]) -> u32
     ensures value { result ≡ cond (fits_one (length image.old) request_size (length answer.old)) 0 1 }
     ensures image_after { image.new ≡ cond (fits_one (length image.old) request_size (length answer.old)) (image_of (scan narrow_kind store.now).station) image.old }
     ensures answer_after { answer.new ≡ cond (fits_one (length image.old) request_size (length answer.old)) (answer_bytes (scan narrow_kind store.now).answer) answer.old }
@@ -421,8 +408,7 @@ pub extern "C" fn gorehimu_recover(image: &mut [u8], store: &[u8], answer: &mut 
     recover_of(Kind::Narrow, image, store, answer)
 }
 
-#[unsafe(no_mangle)]
-pub extern "C" fn gorehimu_recover_wide(image: &mut [u8], store: &[u8], answer: &mut [u8]) -> u32
+pub fn gorehimu_recover_wide(image: &mut [u8], store: &[u8], answer: &mut [u8]) -> u32
     ensures value { result ≡ cond (fits_one (length image.old) request_size (length answer.old)) 0 1 }
     ensures image_after { image.new ≡ cond (fits_one (length image.old) request_size (length answer.old)) (image_of (scan wide_kind store.now).station) image.old }
     ensures answer_after { answer.new ≡ cond (fits_one (length image.old) request_size (length answer.old)) (answer_bytes (scan wide_kind store.now).answer) answer.old }
@@ -445,8 +431,7 @@ fn answer_move(from: Kind, to: Kind, source: &[u8], target: &mut [u8], answer: &
 }
 
 // A narrow store into a wide one, and a wide one into a narrow one.
-#[unsafe(no_mangle)]
-pub extern "C" fn gorehimu_move_out(narrow: &[u8], wide: &mut [u8], answer: &mut [u8]) -> u32
+pub fn gorehimu_move_out(narrow: &[u8], wide: &mut [u8], answer: &mut [u8]) -> u32
     ensures value { result ≡ cond (eqb (length answer.old) answer_size) 0 1 }
     ensures wide_after { wide.new ≡ cond (eqb (length answer.old) answer_size) (move_out narrow.now wide.old).target wide.old }
     ensures answer_after { answer.new ≡ cond (eqb (length answer.old) answer_size) (answer_bytes (move_out narrow.now wide.old).answer) answer.old }
@@ -454,8 +439,7 @@ pub extern "C" fn gorehimu_move_out(narrow: &[u8], wide: &mut [u8], answer: &mut
     answer_move(Kind::Narrow, Kind::Wide, narrow, wide, answer)
 }
 
-#[unsafe(no_mangle)]
-pub extern "C" fn gorehimu_move_back(wide: &[u8], narrow: &mut [u8], answer: &mut [u8]) -> u32
+pub fn gorehimu_move_back(wide: &[u8], narrow: &mut [u8], answer: &mut [u8]) -> u32
     ensures value { result ≡ cond (eqb (length answer.old) answer_size) 0 1 }
     ensures narrow_after { narrow.new ≡ cond (eqb (length answer.old) answer_size) (move_back wide.now narrow.old).target narrow.old }
     ensures answer_after { answer.new ≡ cond (eqb (length answer.old) answer_size) (answer_bytes (move_back wide.now narrow.old).answer) answer.old }
@@ -482,8 +466,7 @@ fn write_verdict(out: &mut [u8], verdict: Verdict)
 }
 
 // The verdict on another shop's log: 0. Where the answer's length is wrong: 1, and nothing is written.
-#[unsafe(no_mangle)]
-pub extern "C" fn gorehimu_check_log(log: &[u8], answer: &mut [u8]) -> u32
+pub fn gorehimu_check_log(log: &[u8], answer: &mut [u8]) -> u32
     ensures value { result ≡ cond (eqb (length answer.old) answer_size) 0 1 }
     ensures answer_after { answer.new ≡ cond (eqb (length answer.old) answer_size) (verdict_bytes (verdict_of log.now)) answer.old }
 {
@@ -511,8 +494,7 @@ fn write_transfer(out: &mut [u8], kind: u64, transfer: Transfer)
 }
 
 // A narrow store's committed set as a stream over the target: 0. Where the answer's length is wrong: 1, and nothing is written.
-#[unsafe(no_mangle)]
-pub extern "C" fn gorehimu_export(store: &[u8], target: &mut [u8], answer: &mut [u8]) -> u32
+pub fn gorehimu_export(store: &[u8], target: &mut [u8], answer: &mut [u8]) -> u32
     ensures value { result ≡ cond (eqb (length answer.old) answer_size) 0 1 }
     ensures target_after { target.new ≡ cond (eqb (length answer.old) answer_size) (export store.now target.old).target target.old }
     ensures answer_after { answer.new ≡ cond (eqb (length answer.old) answer_size) (transfer_bytes exported_kind (export store.now target.old).answer) answer.old }
@@ -526,8 +508,7 @@ pub extern "C" fn gorehimu_export(store: &[u8], target: &mut [u8], answer: &mut 
 }
 
 // A stream into a narrow store, likewise.
-#[unsafe(no_mangle)]
-pub extern "C" fn gorehimu_import(stream: &[u8], store: &mut [u8], answer: &mut [u8]) -> u32
+pub fn gorehimu_import(stream: &[u8], store: &mut [u8], answer: &mut [u8]) -> u32
     ensures value { result ≡ cond (eqb (length answer.old) answer_size) 0 1 }
     ensures store_after { store.new ≡ cond (eqb (length answer.old) answer_size) (import stream.now store.old).store store.old }
     ensures answer_after { answer.new ≡ cond (eqb (length answer.old) answer_size) (transfer_bytes imported_kind (import stream.now store.old).answer) answer.old }

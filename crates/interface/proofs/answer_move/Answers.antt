@@ -1,0 +1,24 @@
+-- `interface::answer_move` meets its contract.
+use mathlib.Core.Path.{◌≡◌, ap, ◌∙◌}
+use mathlib.Core.Bool.{true}
+use lib.Dec.{eqb}
+use lib.ListN.{length}
+use borrow.Author.Tests.{eq-eqb, ne_eqb}
+use Rattle.interface.specs.Exchange.{answer_size, answer_bytes}
+use Rattle.interface.proofs.LengthLaws.{cond_yes, cond_no}
+use Rattle.interface.proofs.answer_move.Goals.{Else-answer-ne-ANSWER}
+use Rattle.interface.proofs.answer_move.Goals as goal
+
+pub returns-then-answer-ne-ANSWER : goal.returns-then-answer-ne-ANSWER
+returns-then-answer-ne-ANSWER c =
+    let e = ne_eqb (length c.args.answer.now) answer_size c.if-answer-ne-ANSWER.true in
+    record { value = cond_no _ _ _ e; target_after = cond_no _ _ _ e; answer_after = cond_no _ _ _ e }
+
+fit : (c : Else-answer-ne-ANSWER) → eqb (length c.args.answer.now) answer_size ≡ true
+fit c = eq-eqb _ _ c.if-answer-ne-ANSWER.false
+
+pub returns : goal.returns
+returns c =
+    let e = fit (goal.at.returns c).Else-answer-ne-ANSWER in
+    let r = c.move_between-said.ensures in
+    record { value = cond_yes _ _ _ e; target_after = r.1 ∙ cond_yes _ _ _ e; answer_after = c.write_answer.ensures ∙ ap answer_bytes r.0 ∙ cond_yes _ _ _ e }
