@@ -12,6 +12,8 @@
 //   !slot SLOT,byte AT,BYTE              a byte of a slot is changed
 //   ~FIELD name,place PLACE,POSITION,VALUE   a field of the station is changed; crate edits numbers the fields
 // A store is as long as the station's kind has it, where no length is given. Of the last two only the digits are read. A title ends in the answers that 01 gives to its last lines; tests/cases.rs tests that.
+#![tactic(auto)]
+
 ghost use Rattle.std.specs.Prelude.{◌≡◌, ◌≤◌, length};
 
 use calls::{
@@ -19,11 +21,12 @@ use calls::{
 };
 use decimal::field_end;
 use edits::{low8, low32, same_station};
-use libc::STDOUT_FILENO;
+use input::read_full;
 use lines::same_bytes;
 use model::{empty_of, store_size};
 use moving::{move_back, move_out};
 use sheet::Command;
+use std::io::Stdout;
 
 // A store and one byte more, to lend a store that is too long.
 const SPACE: usize = Station::STORE + 1;
@@ -142,62 +145,70 @@ fn damage(kind: Kind, bytes: &mut [u8], line: &[u8]) {
 }
 
 // ---- what is written
-fn say(text: &[u8]) {
-    io::write_all(STDOUT_FILENO, text);
+// A write that fails is not told.
+fn say(stdout: Stdout, text: &[u8]) {
+    let _ = stdout.write_all(text);
 }
 
-fn say_line(line: &[u8], is_quiet: bool) {
+fn say_line(stdout: Stdout, line: &[u8], is_quiet: bool) {
     if is_quiet {
         return;
     }
-    say(line);
-    say(b"\n");
+    say(stdout, line);
+    say(stdout, b"\n");
 }
 
 // The answer's line without its number and its newline.
-fn say_part(out: &[u8], n: usize) {
+fn say_part(stdout: Stdout, out: &[u8], n: usize) {
     if n > out.len() {
         return;
     }
     if n > 3 {
         let end = n - 1;
-        say(&out[2..end]);
+        say(stdout, &out[2..end]);
     }
 }
 
-fn say_answer(o: Outcome) {
+fn say_answer(stdout: Stdout, o: Outcome) {
     let a = o.answer;
     let mut out = [0u8; 96];
     let n = sheet::print_line(&mut out, 0, a);
-    say_part(&out, n);
+    say_part(stdout, &out, n);
 }
 
-fn say_change(before: Station, after: Station, is_kept: bool) {
+fn say_change(stdout: Stdout, before: Station, after: Station, is_kept: bool) {
     if same_station(before, after) {
         if is_kept {
-            return say(b"; as given\n");
+            return say(stdout, b"; as given\n");
         }
-        return say(b"; new store\n");
+        return say(stdout, b"; new store\n");
     }
     if !is_kept {
-        return say(b"; new station and store\n");
+        return say(stdout, b"; new station and store\n");
     }
     let kind = after.kind;
     if same_station(after, empty_of(kind)) {
-        return say(b"; empty station\n");
+        return say(stdout, b"; empty station\n");
     }
-    say(b"; new station\n")
+    say(stdout, b"; new station\n")
 }
 
-fn report(line: &[u8], before: Station, o: Outcome, is_kept: bool, is_quiet: bool) -> Station {
+fn report(
+    stdout: Stdout,
+    line: &[u8],
+    before: Station,
+    o: Outcome,
+    is_kept: bool,
+    is_quiet: bool,
+) -> Station {
     let after = o.station;
     if is_quiet {
         return after;
     }
-    say(line);
-    say(b": ");
-    say_answer(o);
-    say_change(before, after, is_kept);
+    say(stdout, line);
+    say(stdout, b": ");
+    say_answer(stdout, o);
+    say_change(stdout, before, after, is_kept);
     after
 }
 
@@ -229,6 +240,7 @@ fn acted(station: Station, store: &mut [u8], command: Command) -> Outcome {
 }
 
 fn act_damage(
+    stdout: Stdout,
     station: Station,
     bytes: &mut [u8],
     copy: &mut [u8],
@@ -242,23 +254,24 @@ fn act_damage(
     if is_quiet {
         return station;
     }
-    say(line);
-    say_change(station, station, is_kept);
+    say(stdout, line);
+    say_change(stdout, station, station, is_kept);
     station
 }
 
-fn act_edit(station: Station, line: &[u8], is_quiet: bool) -> Station {
+fn act_edit(stdout: Stdout, station: Station, line: &[u8], is_quiet: bool) -> Station {
     let after = edit(station, line);
     if is_quiet {
         return after;
     }
-    say(line);
-    say_change(station, after, true);
+    say(stdout, line);
+    say_change(stdout, station, after, true);
     after
 }
 
 // A command with this much of the store.
 fn act(
+    stdout: Stdout,
     station: Station,
     bytes: &mut [u8],
     copy: &mut [u8],
@@ -273,11 +286,12 @@ fn act(
     copy_over(copy, bytes);
     let o = acted(station, &mut bytes[..size], command);
     let is_kept = same_bytes(bytes, copy);
-    report(line, station, o, is_kept, is_quiet)
+    report(stdout, line, station, o, is_kept, is_quiet)
 }
 
 // A sheet's line with as much of the store as its first field says.
 fn act_short(
+    stdout: Stdout,
     station: Station,
     bytes: &mut [u8],
     copy: &mut [u8],
@@ -290,11 +304,12 @@ fn act_short(
         return station;
     }
     let command = sheet::parse_line(&line[at + 1..]);
-    act(station, bytes, copy, line, command, size, is_quiet)
+    act(stdout, station, bytes, copy, line, command, size, is_quiet)
 }
 
 // A sweep with its first field's limit and as much of the store as its second says.
 fn act_sweep(
+    stdout: Stdout,
     station: Station,
     bytes: &mut [u8],
     copy: &mut [u8],
@@ -304,6 +319,7 @@ fn act_sweep(
     let limit = number_in(line, 0);
     let size = index(number_in(line, 1));
     act(
+        stdout,
         station,
         bytes,
         copy,
@@ -346,6 +362,7 @@ fn moved(station: Station, source: &[u8], target: &mut [u8]) -> Outcome {
 
 // A move of so many bytes into so many.
 fn act_move(
+    stdout: Stdout,
     station: Station,
     bytes: &mut [u8],
     copy: &mut [u8],
@@ -363,7 +380,7 @@ fn act_move(
     copy_over(copy, bytes);
     let o = moved(station, &copy[0..from], &mut bytes[0..to]);
     let is_kept = same_bytes(bytes, copy);
-    report(line, station, o, is_kept, is_quiet)
+    report(stdout, line, station, o, is_kept, is_quiet)
 }
 
 // Three steps: one key's version record, the commit record, the entry.
@@ -386,6 +403,7 @@ fn whole(station: Station, store: &mut [u8], txn: u32, key: u8, number: u64) -> 
 }
 
 fn act_whole(
+    stdout: Stdout,
     station: Station,
     bytes: &mut [u8],
     copy: &mut [u8],
@@ -403,7 +421,7 @@ fn act_whole(
     copy_over(copy, bytes);
     let o = whole(station, &mut bytes[0..size], txn, key, number);
     let is_kept = same_bytes(bytes, copy);
-    report(line, station, o, is_kept, is_quiet)
+    report(stdout, line, station, o, is_kept, is_quiet)
 }
 
 fn first_byte(line: &[u8]) -> u8 {
@@ -420,6 +438,7 @@ fn begun(kind: Kind, bytes: &mut [u8]) -> Station {
 
 // Any line but a busy case's title.
 fn carried_out(
+    stdout: Stdout,
     station: Station,
     bytes: &mut [u8],
     copy: &mut [u8],
@@ -428,76 +447,83 @@ fn carried_out(
 ) -> Station {
     let first = first_byte(line);
     if first == b'#' {
-        say_line(line, is_quiet);
+        say_line(stdout, line, is_quiet);
         return begun(Kind::Narrow, bytes);
     }
     if first == b'$' {
-        say_line(line, is_quiet);
+        say_line(stdout, line, is_quiet);
         return begun(Kind::Wide, bytes);
     }
     if first == b'>' {
-        return act_move(station, bytes, copy, line, is_quiet);
+        return act_move(stdout, station, bytes, copy, line, is_quiet);
     }
     if first == b'!' {
-        return act_damage(station, bytes, copy, line, is_quiet);
+        return act_damage(stdout, station, bytes, copy, line, is_quiet);
     }
     if first == b'~' {
-        return act_edit(station, line, is_quiet);
+        return act_edit(stdout, station, line, is_quiet);
     }
     if first == b'*' {
-        return act_whole(station, bytes, copy, line, is_quiet);
+        return act_whole(stdout, station, bytes, copy, line, is_quiet);
     }
     if first == b'<' {
-        return act_short(station, bytes, copy, line, is_quiet);
+        return act_short(stdout, station, bytes, copy, line, is_quiet);
     }
     if first == b'^' {
-        return act_sweep(station, bytes, copy, line, is_quiet);
+        return act_sweep(stdout, station, bytes, copy, line, is_quiet);
     }
     let command = sheet::parse_line(line);
     let kind = station.kind;
     let size = store_size(kind);
-    act(station, bytes, copy, line, command, size, is_quiet)
+    act(stdout, station, bytes, copy, line, command, size, is_quiet)
 }
 
 // The busy station and its store.
-fn busy(head: &[u8], bytes: &mut [u8], copy: &mut [u8]) -> Station {
+fn busy(stdout: Stdout, head: &[u8], bytes: &mut [u8], copy: &mut [u8]) -> Station {
     let mut s = begun(Kind::Narrow, bytes);
     let mut at = 0;
     while at < head.len() {
         let end = find(head, at, b'\n');
-        s = carried_out(s, bytes, copy, &head[at..end], true);
+        s = carried_out(stdout, s, bytes, copy, &head[at..end], true);
         at = end + 1;
     }
     s
 }
 
-fn turn(station: Station, bytes: &mut [u8], copy: &mut [u8], line: &[u8], head: &[u8]) -> Station {
+fn turn(
+    stdout: Stdout,
+    station: Station,
+    bytes: &mut [u8],
+    copy: &mut [u8],
+    line: &[u8],
+    head: &[u8],
+) -> Station {
     if first_byte(line) == b'%' {
-        say_line(line, false);
-        return busy(head, bytes, copy);
+        say_line(stdout, line, false);
+        return busy(stdout, head, bytes, copy);
     }
-    carried_out(station, bytes, copy, line, false)
+    carried_out(stdout, station, bytes, copy, line, false)
 }
 
-fn run(text: &[u8], head: &[u8], bytes: &mut [u8], copy: &mut [u8]) {
+fn run(stdout: Stdout, text: &[u8], head: &[u8], bytes: &mut [u8], copy: &mut [u8]) {
     let mut s = begun(Kind::Narrow, bytes);
     let mut at = 0;
     while at < text.len() {
         let end = find(text, at, b'\n');
-        s = turn(s, bytes, copy, &text[at..end], head);
+        s = turn(stdout, s, bytes, copy, &text[at..end], head);
         at = end + 1;
     }
 }
 
-fn run_cases(text: &[u8]) {
+fn run_cases(stdout: Stdout, text: &[u8]) {
     let mut bytes = [0u8; SPACE];
     let mut copy = [0u8; SPACE];
     let cut = find(text, 0, b'%');
-    run(text, &text[..cut], &mut bytes, &mut copy);
+    run(stdout, text, &text[..cut], &mut bytes, &mut copy);
 }
 
-fn main() {
-    let mut input = io::large_buffer();
-    let n = io::read_full(0, &mut input);
-    run_cases(&input[..n]);
+fn main(rt: HostRuntime) {
+    let mut input = [0u8; 65536];
+    let n = read_full(&mut rt.stdin(), &mut input);
+    run_cases(rt.stdout(), &input[..n]);
 }

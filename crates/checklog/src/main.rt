@@ -2,13 +2,15 @@
 //
 // A block that was read is checked before more is read. The memory is the same for a log of any length, and what comes after the first line that is
 // not clean is not read.
+#![tactic(auto)]
+
 ghost use Rattle.std.specs.Prelude.{◌≡◌, length};
 
-use libc::{STDERR_FILENO, STDIN_FILENO, STDOUT_FILENO};
 use lines::KEPT;
-use log::{Verdict, print_verdict};
 use logcheck::{check_block, check_end};
 use logtable::TABLE;
+use shoplog::{Verdict, print_verdict};
+use std::io::{Read, Stderr, Stdin, Stdout};
 
 // The bytes of a read and of the verdict's line.
 const READ: usize = 65536;
@@ -19,7 +21,7 @@ const OUT: usize = 64;
 const READS: u64 = 70368744177664;
 
 // Why the program stops.
-#[derive(Drop)]
+#[derive(Clone, Copy)]
 enum Stop {
     Found,
     Unread,
@@ -28,7 +30,7 @@ enum Stop {
 }
 
 // What came of the reading: the verdict counts where one was found.
-#[derive(Drop)]
+#[derive(Clone, Copy)]
 struct Ended {
     stop: Stop,
     verdict: Verdict,
@@ -49,18 +51,16 @@ fn stopped(stop: Stop) -> Ended {
 }
 
 // Reads and checks until the input ends, or a line is not clean.
-fn check_input(table: &mut [u64], part: &mut [u8], input: &mut [u8]) -> Ended
+fn check_input(stdin: &mut Stdin, table: &mut [u64], part: &mut [u8], input: &mut [u8]) -> Ended
     requires { (length table.old ≡ 1280) × (length part.old ≡ 65) × (length input.old ≡ 65536) }
 {
     let mut len = 0;
     let mut above = 0;
     let mut turns = READS;
     while turns > 0 {
-        let got = libc::read(STDIN_FILENO, input);
-        if got < 0 {
+        let Ok(n) = stdin.read(input) else {
             return stopped(Stop::Unread);
-        }
-        let n = io::count(got, input);
+        };
         if n == 0 {
             return found(check_end(table, part, len, above));
         }
@@ -77,7 +77,7 @@ fn check_input(table: &mut [u64], part: &mut [u8], input: &mut [u8]) -> Ended
 }
 
 // Prints the verdict, where there is one.
-fn answer(ended: Ended) -> Stop {
+fn answer(stdout: Stdout, ended: Ended) -> Stop {
     let stop = ended.stop;
     let Stop::Found = stop else {
         return stop;
@@ -85,37 +85,30 @@ fn answer(ended: Ended) -> Stop {
     let verdict = ended.verdict;
     let mut out = [0u8; OUT];
     let n = print_verdict(&mut out, verdict);
-    if io::write_all(STDOUT_FILENO, &out[..n]) {
+    if stdout.write_all(&out[..n]).is_ok() {
         return Stop::Found;
     }
     Stop::Unwritten
 }
 
-// Says why there is no verdict. A program of this language has no exit status.
-fn report(stop: Stop) {
-    match stop {
-        Stop::Found => {
-            return;
-        }
-        Stop::Unread => {
-            io::write_all(STDERR_FILENO, b"checklog: standard input cannot be read\n");
-        }
-        Stop::Unwritten => {
-            io::write_all(
-                STDERR_FILENO,
-                b"checklog: standard output cannot be written\n",
-            );
-        }
-        Stop::TooLong => {
-            io::write_all(STDERR_FILENO, b"checklog: the input is too long\n");
-        }
-    }
+// Says why there is no verdict. The exit status is 0 all the same.
+fn report(stderr: Stderr, stop: Stop) {
+    let said = match stop {
+        Stop::Found => Ok(()),
+        Stop::Unread => stderr.write_all(b"checklog: standard input cannot be read\n"),
+        Stop::Unwritten => stderr.write_all(b"checklog: standard output cannot be written\n"),
+        Stop::TooLong => stderr.write_all(b"checklog: the input is too long\n"),
+    };
+    // Where standard error cannot be written either, nothing is left to say.
+    let _ = said;
 }
 
-fn main() {
+fn main(rt: HostRuntime) {
     let mut table = [0u64; TABLE];
     let mut part = [0u8; KEPT];
     let mut input = [0u8; READ];
-    let ended = check_input(&mut table, &mut part, &mut input);
-    report(answer(ended));
+    let mut stdin = rt.stdin();
+    let ended = check_input(&mut stdin, &mut table, &mut part, &mut input);
+    let stop = answer(rt.stdout(), ended);
+    report(rt.stderr(), stop);
 }

@@ -1,10 +1,13 @@
 // A narrow store on standard input, 13,824 bytes; its committed set as a RESP stream on standard output. Where the store is refused nothing is written
 // there, and the refusal stands on standard error: refused,18,5 with the slot.
+#![tactic(auto)]
+
 ghost use Rattle.std.specs.Prelude.{◌≤◌, length};
 
 use exporting::export;
-use libc::{STDERR_FILENO, STDIN_FILENO, STDOUT_FILENO};
+use input::read_full;
 use resp::Transfer;
+use std::io::{Read, Stderr, Stdin, Stdout};
 
 // The bytes of a store and one more, which tells a longer input; of the target.
 const INPUT: usize = 13825;
@@ -12,7 +15,7 @@ const INPUT: usize = 13825;
 const TARGET: usize = 65536;
 
 // Why the program stops.
-#[derive(Drop)]
+#[derive(Clone, Copy)]
 enum Stop {
     Written,
     Refused(u8, u8),
@@ -21,18 +24,21 @@ enum Stop {
 }
 
 // The input has ended. A read that fails leaves off like one at the end: another one tells them apart.
-fn has_ended() -> bool {
+fn has_ended(stdin: &mut Stdin) -> bool {
     let mut more = [0u8; 1];
-    libc::read(STDIN_FILENO, &mut more) == 0
+    let Ok(n) = stdin.read(&mut more) else {
+        return false;
+    };
+    n == 0
 }
 
 // The stream of a store, written out.
-fn write_stream(store: &[u8]) -> Stop {
+fn write_stream(stdout: Stdout, store: &[u8]) -> Stop {
     let mut target = [0u8; TARGET];
     let said = export(store, &mut target);
     match said {
         Transfer::Done(n) => {
-            if io::write_all(STDOUT_FILENO, &target[..n]) {
+            if stdout.write_all(&target[..n]).is_ok() {
                 return Stop::Written;
             }
             return Stop::Unwritten;
@@ -43,46 +49,33 @@ fn write_stream(store: &[u8]) -> Stop {
     }
 }
 
-fn run() -> Stop {
+fn run(stdin: &mut Stdin, stdout: Stdout) -> Stop {
     let mut input = [0u8; INPUT];
-    let n = io::read_full(STDIN_FILENO, &mut input);
+    let n = read_full(stdin, &mut input);
     if n < INPUT {
-        if !has_ended() {
+        if !has_ended(stdin) {
             return Stop::Unread;
         }
     }
-    write_stream(&input[..n])
+    write_stream(stdout, &input[..n])
 }
 
-// Says why there is no stream. A program of this language has no exit status.
-fn report(stop: Stop) {
-    match stop {
-        Stop::Written => {
-            return;
-        }
+// Says why there is no stream. The exit status is 0 all the same.
+fn report(stderr: Stderr, stop: Stop) {
+    let said = match stop {
+        Stop::Written => Ok(()),
         Stop::Refused(number, slot) => {
-            io::write_all(STDERR_FILENO, b"exportstore: refused,");
-            io::print_decimal(STDERR_FILENO, number as u64);
-            io::write_all(STDERR_FILENO, b",");
-            io::print_decimal(STDERR_FILENO, slot as u64);
-            io::write_all(STDERR_FILENO, b"\n");
+            stderr.eprintln(format_args!("exportstore: refused,{number},{slot}"))
         }
-        Stop::Unread => {
-            io::write_all(
-                STDERR_FILENO,
-                b"exportstore: standard input cannot be read\n",
-            );
-        }
-        Stop::Unwritten => {
-            io::write_all(
-                STDERR_FILENO,
-                b"exportstore: standard output cannot be written\n",
-            );
-        }
-    }
+        Stop::Unread => stderr.write_all(b"exportstore: standard input cannot be read\n"),
+        Stop::Unwritten => stderr.write_all(b"exportstore: standard output cannot be written\n"),
+    };
+    // Where standard error cannot be written either, nothing is left to say.
+    let _ = said;
 }
 
-fn main() {
-    let stop = run();
-    report(stop);
+fn main(rt: HostRuntime) {
+    let mut stdin = rt.stdin();
+    let stop = run(&mut stdin, rt.stdout());
+    report(rt.stderr(), stop);
 }

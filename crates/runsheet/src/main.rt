@@ -1,13 +1,15 @@
 // The run sheet: calls on standard input, a line each; their answers on standard output.
 //
 // What was read is answered and written before more is read. The memory is the same for an input of any length.
+#![tactic(auto)]
+
 ghost use Rattle.std.specs.Prelude.{◌≡◌, ◌+◌, ◌^◌, ◌≤◌, ◌<◌, length};
 
 use calls::{Station, scan};
 use intake::{finish, run_block};
-use libc::{STDERR_FILENO, STDIN_FILENO, STDOUT_FILENO};
 use lines::KEPT;
 use sheet::print_header;
+use std::io::{Read, Stderr, Stdin, Stdout};
 
 // The bytes of a read and of the output's buffer.
 const READ: usize = 65536;
@@ -23,14 +25,14 @@ const FULL: usize = 81920;
 const READS: u64 = 70368744177664;
 
 // Where the next answers go in the output's buffer, and whether those that made way for them were written.
-#[derive(Drop)]
+#[derive(Clone, Copy)]
 struct Room {
     start: usize,
     written: bool,
 }
 
 // The station, the bytes kept of a line that has begun and the next line's number, and whether all answers were written.
-#[derive(Drop)]
+#[derive(Clone, Copy)]
 struct Progress {
     station: Station,
     len: usize,
@@ -39,7 +41,7 @@ struct Progress {
 }
 
 // Why the program stops.
-#[derive(Drop)]
+#[derive(Clone, Copy)]
 enum Stop {
     Ended,
     Unread,
@@ -48,7 +50,7 @@ enum Stop {
 }
 
 // Makes room for the answers of a block: the buffer is written where it is too full for them.
-fn make_room(out: &[u8], used: usize) -> Room
+fn make_room(stdout: Stdout, out: &[u8], used: usize) -> Room
     requires { used ≤ length out.now }
     ensures { result.start ≤ 81920 }
 {
@@ -58,7 +60,7 @@ fn make_room(out: &[u8], used: usize) -> Room
             written: true,
         };
     }
-    let written = io::write_all(STDOUT_FILENO, &out[..used]);
+    let written = stdout.write_all(&out[..used]).is_ok();
     Room { start: 0, written }
 }
 
@@ -86,6 +88,7 @@ fn after_read(station: Station, len: usize, number: u64, written: bool) -> Progr
 
 // Runs what was read, block by block, and writes all answers.
 fn run_read(
+    stdout: Stdout,
     station: Station,
     store: &mut [u8],
     part: &mut [u8],
@@ -103,7 +106,7 @@ fn run_read(
     let mut used = 0;
     let mut at = 0;
     while at < input.len() {
-        let room = make_room(out, used);
+        let room = make_room(stdout, out, used);
         if !room.written {
             return after_read(s, n, next, false);
         }
@@ -117,12 +120,13 @@ fn run_read(
         used = start + fed.used;
         at = end;
     }
-    let written = io::write_all(STDOUT_FILENO, &out[..used]);
+    let written = stdout.write_all(&out[..used]).is_ok();
     after_read(s, n, next, written)
 }
 
 // The input has ended: a last line without a newline is answered.
 fn run_end(
+    stdout: Stdout,
     station: Station,
     store: &mut [u8],
     part: &mut [u8],
@@ -133,7 +137,7 @@ fn run_end(
     requires { (length part.old ≡ 65) × (len ≤ 65) × (number + 1 < 2 ^ 64) × (length out.old ≡ 475136) }
 {
     let used = finish(station, store, part, len, number, out);
-    if io::write_all(STDOUT_FILENO, &out[..used]) {
+    if stdout.write_all(&out[..used]).is_ok() {
         return Stop::Ended;
     }
     Stop::Unwritten
@@ -141,6 +145,8 @@ fn run_end(
 
 // Reads, answers and writes until the input ends.
 fn run_sheet(
+    stdin: &mut Stdin,
+    stdout: Stdout,
     started: Station,
     store: &mut [u8],
     part: &mut [u8],
@@ -154,15 +160,13 @@ fn run_sheet(
     let mut number = 1;
     let mut turns = READS;
     while turns > 0 {
-        let got = libc::read(STDIN_FILENO, input);
-        if got < 0 {
+        let Ok(n) = stdin.read(input) else {
             return Stop::Unread;
-        }
-        let n = io::count(got, input);
+        };
         if n == 0 {
-            return run_end(station, store, part, len, number, out);
+            return run_end(stdout, station, store, part, len, number, out);
         }
-        let p = run_read(station, store, part, len, number, &input[..n], out);
+        let p = run_read(stdout, station, store, part, len, number, &input[..n], out);
         if !p.written {
             return Stop::Unwritten;
         }
@@ -177,6 +181,8 @@ fn run_sheet(
 
 // Prints the header, then runs the sheet.
 fn run_all(
+    stdin: &mut Stdin,
+    stdout: Stdout,
     started: Station,
     store: &mut [u8],
     part: &mut [u8],
@@ -186,41 +192,41 @@ fn run_all(
     requires { (length part.old ≡ 65) × (length input.old ≡ 65536) × (length out.old ≡ 475136) }
 {
     let n = print_header(out);
-    if !io::write_all(STDOUT_FILENO, &out[..n]) {
+    if !stdout.write_all(&out[..n]).is_ok() {
         return Stop::Unwritten;
     }
-    run_sheet(started, store, part, input, out)
+    run_sheet(stdin, stdout, started, store, part, input, out)
 }
 
-// Says why the sheet was not run to its end. A program of this language has no exit status.
-fn report(stop: Stop) {
-    match stop {
-        Stop::Ended => {
-            return;
-        }
-        Stop::Unread => {
-            io::write_all(STDERR_FILENO, b"runsheet: standard input cannot be read\n");
-        }
-        Stop::Unwritten => {
-            io::write_all(
-                STDERR_FILENO,
-                b"runsheet: standard output cannot be written\n",
-            );
-        }
-        Stop::TooLong => {
-            io::write_all(STDERR_FILENO, b"runsheet: the input is too long\n");
-        }
-    }
+// Says why the sheet was not run to its end. The exit status is 0 all the same.
+fn report(stderr: Stderr, stop: Stop) {
+    let said = match stop {
+        Stop::Ended => Ok(()),
+        Stop::Unread => stderr.write_all(b"runsheet: standard input cannot be read\n"),
+        Stop::Unwritten => stderr.write_all(b"runsheet: standard output cannot be written\n"),
+        Stop::TooLong => stderr.write_all(b"runsheet: the input is too long\n"),
+    };
+    // Where standard error cannot be written either, nothing is left to say.
+    let _ = said;
 }
 
 // The desk starts as it does after a cut: with a scan of its store, here of zeros.
-fn main() {
+fn main(rt: HostRuntime) {
     let mut store = [0u8; Station::STORE];
     let scanned = scan(&store);
     let station = scanned.station;
     let mut part = [0u8; KEPT];
     let mut input = [0u8; READ];
     let mut out = [0u8; OUT];
-    let stop = run_all(station, &mut store, &mut part, &mut input, &mut out);
-    report(stop);
+    let mut stdin = rt.stdin();
+    let stop = run_all(
+        &mut stdin,
+        rt.stdout(),
+        station,
+        &mut store,
+        &mut part,
+        &mut input,
+        &mut out,
+    );
+    report(rt.stderr(), stop);
 }
