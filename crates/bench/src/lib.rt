@@ -5,8 +5,8 @@
 ghost use Rattle.std.specs.Prelude.{◌<◌};
 
 use calls::{
-    Answer, Entry, Id, Live, Outcome, Phase, Read, Station, abort, collect, commit, get, put, scan,
-    scan_wide, start, step, sweep,
+    Answer, Entry, Id, Kind, Live, Outcome, Phase, Read, Station, abort, collect, commit, get, put,
+    scan, scan_wide, start, step, sweep,
 };
 use desk::{Request, act};
 use moving::{move_back, move_out};
@@ -18,45 +18,39 @@ fn keys(slot: u8) -> u64 {
     if slot % 2 == 0 { 255 } else { 65280 }
 }
 
+// The id of a slot's entry; the slot after the last has one too.
+fn id(slot: u16) -> Id {
+    Id {
+        clock: u64::from(slot) + 1,
+        txn: u32::from(slot) + 1,
+    }
+}
+
 fn entry(slot: u8) -> Entry {
-    let id = Id {
-        clock: slot as u64 + 1,
-        txn: slot as u32 + 1,
-    };
     Entry {
-        id,
+        id: id(u16::from(slot)),
         keys: keys(slot),
     }
 }
 
 // A read of a key at the version of the slot `base` for even key sets, of the slot after it for odd ones.
 fn read(key: u8, base: u8) -> Read {
-    if key < 8 {
-        let id = Id {
-            clock: base as u64 + 1,
-            txn: base as u32 + 1,
-        };
-        return Read { key, id };
+    let slot = u16::from(base);
+    Read {
+        key,
+        id: if key < 8 { id(slot) } else { id(slot + 1) },
     }
-    let id = Id {
-        clock: base as u64 + 2,
-        txn: base as u32 + 2,
-    };
-    Read { key, id }
 }
 
 // An open transaction with a number of reads.
 fn live(txn: u32, reads: u8, base: u8) -> Live {
-    let none = Id { clock: 0, txn: 0 };
-    let unread = Read { key: 0, id: none };
-    let mut list = [unread; 16];
-    let mut i: u8 = 0;
-    while i < 16 {
-        if i < reads {
-            let r = read(i, base);
-            list[i as usize] = r;
-        }
-        i += 1;
+    let unread = Read {
+        key: 0,
+        id: Id { clock: 0, txn: 0 },
+    };
+    let mut list = [unread; Station::READS];
+    for (place, key) in list.iter_mut().zip(0..reads) {
+        *place = read(key, base);
     }
     Live {
         txn,
@@ -70,22 +64,12 @@ fn live(txn: u32, reads: u8, base: u8) -> Live {
 
 // Slots below `entries` are held; places below `lives` are open with `reads` reads at the versions of slots `base` and `base + 1`.
 fn station(entries: u8, lives: u8, reads: u8, base: u8) -> Station {
-    let mut s = Station::empty();
-    let mut d: u8 = 0;
-    while d < 64 {
-        if d < entries {
-            let e = entry(d);
-            s.entries[d as usize] = e;
-        }
-        d += 1;
+    let mut s = Station::empty(Kind::Narrow);
+    for (place, slot) in s.entries.iter_mut().zip(0..entries) {
+        *place = entry(slot);
     }
-    let mut i: u8 = 0;
-    while i < 8 {
-        if i < lives {
-            let l = live(1000 + i as u32, reads, base);
-            s.live[i as usize] = l;
-        }
-        i += 1;
+    for (place, i) in s.live.iter_mut().zip(0..lives) {
+        *place = live(1000 + u32::from(i), reads, base);
     }
     s
 }
@@ -100,32 +84,28 @@ fn code(a: Answer) -> u64
         Answer::Own(v) => v % 65536 + 16,
         Answer::Version(v, _) => v % 65536 + 17,
         Answer::None => 3,
-        Answer::Nofit(k) => k as u64 + 22,
-        Answer::Closing(d) => d as u64 + 18,
+        Answer::Nofit(k) => u64::from(k) + 22,
+        Answer::Closing(d) => u64::from(d) + 18,
         Answer::Empty => 5,
         Answer::Done(_) => 6,
-        Answer::Stored(k) => k as u64 + 19,
-        Answer::Slipped(d) => d as u64 + 20,
+        Answer::Stored(k) => u64::from(k) + 19,
+        Answer::Slipped(d) => u64::from(d) + 20,
         Answer::Dropped => 7,
         Answer::Collected(_) => 8,
-        Answer::Found(n) => n as u64 + 21,
-        Answer::Refused(n, _) => n as u64 + 100000,
-        Answer::Swept(n) => n as u64 + 23,
-        Answer::Moved(n) => n as u64 + 29,
+        Answer::Found(n) => u64::from(n) + 21,
+        Answer::Refused(n, _) => u64::from(n) + 100000,
+        Answer::Swept(n) => u64::from(n) + 23,
+        Answer::Moved(n) => u64::from(n) + 29,
     }
 }
 
 pub fn bench_put(rounds: u64, entries: u8, lives: u8, reads: u8, base: u8) -> u64 {
     let mut s = station(entries, lives, reads, base);
     let mut last = 0;
-    let mut i: u64 = 0;
-    while i < rounds {
+    for i in 0..rounds {
         let o = put(s, 1000, (i % 8) as u8, i);
-        let next = o.station;
-        s = next;
-        let a = o.answer;
-        last = code(a);
-        i += 1;
+        s = o.station;
+        last = code(o.answer);
     }
     last
 }
@@ -134,17 +114,11 @@ pub fn bench_put(rounds: u64, entries: u8, lives: u8, reads: u8, base: u8) -> u6
 pub fn bench_start(rounds: u64, entries: u8, lives: u8, reads: u8, base: u8) -> u64 {
     let mut s = station(entries, lives, reads, base);
     let mut last = 0;
-    let mut i: u64 = 0;
-    while i < rounds {
-        let o = start(s, 77);
-        let begun = o.station;
-        let a = o.answer;
-        let p = abort(begun, 77);
-        let next = p.station;
-        s = next;
-        let b = p.answer;
-        last = code(a) + code(b);
-        i += 1;
+    for i in 0..rounds {
+        let begun = start(s, 77);
+        let ended = abort(begun.station, 77);
+        s = ended.station;
+        last = code(begun.answer) + code(ended.answer);
     }
     last
 }
@@ -153,14 +127,10 @@ pub fn bench_start(rounds: u64, entries: u8, lives: u8, reads: u8, base: u8) -> 
 pub fn bench_retry(rounds: u64, entries: u8, lives: u8, reads: u8, base: u8) -> u64 {
     let mut s = station(entries, lives, reads, base);
     let mut last = 0;
-    let mut i: u64 = 0;
-    while i < rounds {
+    for _ in 0..rounds {
         let o = commit(s, 1, 5);
-        let next = o.station;
-        s = next;
-        let a = o.answer;
-        last = code(a);
-        i += 1;
+        s = o.station;
+        last = code(o.answer);
     }
     last
 }
@@ -176,14 +146,10 @@ pub fn bench_get(
 ) -> u64 {
     let mut s = station(entries, lives, reads, base);
     let mut last = 0;
-    let mut i: u64 = 0;
-    while i < rounds {
+    for _ in 0..rounds {
         let o = get(s, store, 1000, key);
-        let next = o.station;
-        s = next;
-        let a = o.answer;
-        last = code(a);
-        i += 1;
+        s = o.station;
+        last = code(o.answer);
     }
     last
 }
@@ -218,51 +184,32 @@ pub fn bench_known(
         return 0;
     }
     let mut last = 0;
-    let mut i: u64 = 0;
-    while i < rounds {
-        let command = asked(verb, i);
+    for i in 0..rounds {
         let request = Request {
-            command,
+            command: asked(verb, i),
             tested: true,
         };
         let o = act(s, store, request);
-        let next = o.station;
-        s = next;
-        let a = o.answer;
-        last = code(a);
-        i += 1;
+        s = o.station;
+        last = code(o.answer);
     }
     last
 }
 
-// The slot of an answer that begins to close; 64 of any other.
-fn slot_of(a: Answer) -> u8 {
-    match a {
-        Answer::Closing(d) => d,
-        _ => 64,
-    }
-}
-
 // Start, two puts and commit.
 fn closing(station: Station, txn: u32, value: u64) -> Outcome {
-    let begun = start(station, txn);
-    let s0 = begun.station;
-    let one = put(s0, txn, 40, value);
-    let s1 = one.station;
-    let two = put(s1, txn, 41, value);
-    let s2 = two.station;
-    commit(s2, txn, 1000 + value % 1000000)
+    let begun = start(station, txn).station;
+    let one = put(begun, txn, 40, value).station;
+    let two = put(one, txn, 41, value).station;
+    commit(two, txn, 1000 + value % 1000000)
 }
 
 // Four steps.
 fn stored(station: Station, store: &mut [u8], txn: u32) -> Outcome {
-    let one = step(station, store, txn);
-    let s1 = one.station;
-    let two = step(s1, store, txn);
-    let s2 = two.station;
-    let three = step(s2, store, txn);
-    let s3 = three.station;
-    step(s3, store, txn)
+    let one = step(station, store, txn).station;
+    let two = step(one, store, txn).station;
+    let three = step(two, store, txn).station;
+    step(three, store, txn)
 }
 
 #[derive(Clone, Copy)]
@@ -272,22 +219,19 @@ struct Turn {
     sum: u64,
 }
 
-// A whole transaction, and a collect of the one before it.
+// A whole transaction, and a collect of the one before it. The slot of a commit that does not begin to close is 64.
 fn take_turn(station: Station, store: &mut [u8], before: u8, i: u64) -> Turn {
     let txn = 5000 + (i % 2) as u32;
-    let c = closing(station, txn, i);
-    let s1 = c.station;
-    let slot = c.answer;
-    let d = stored(s1, store, txn);
-    let s2 = d.station;
-    let a = d.answer;
-    let g = collect(s2, store, before);
-    let s3 = g.station;
-    let b = g.answer;
+    let begun = closing(station, txn, i);
+    let done = stored(begun.station, store, txn);
+    let collected = collect(done.station, store, before);
     Turn {
-        station: s3,
-        before: slot_of(slot),
-        sum: code(a) + code(b),
+        station: collected.station,
+        before: match begun.answer {
+            Answer::Closing(slot) => slot,
+            _ => 64,
+        },
+        sum: code(done.answer) + code(collected.answer),
     }
 }
 
@@ -301,27 +245,20 @@ pub fn bench_transaction(
 ) -> u64 {
     let mut s = station(entries, lives, reads, base);
     let mut sum = 0;
-    let mut before: u8 = 64;
-    let mut i: u64 = 0;
-    while i < rounds {
-        let r = take_turn(s, store, before, i);
-        let next = r.station;
-        s = next;
-        before = r.before;
-        sum = r.sum;
-        i += 1;
+    let mut before = 64;
+    for i in 0..rounds {
+        let turn = take_turn(s, store, before, i);
+        s = turn.station;
+        before = turn.before;
+        sum = turn.sum;
     }
     sum
 }
 
 pub fn bench_scan(store: &[u8], rounds: u64) -> u64 {
     let mut last = 0;
-    let mut i: u64 = 0;
-    while i < rounds {
-        let o = scan(store);
-        let a = o.answer;
-        last = code(a);
-        i += 1;
+    for _ in 0..rounds {
+        last = code(scan(store).answer);
     }
     last
 }
@@ -329,12 +266,8 @@ pub fn bench_scan(store: &[u8], rounds: u64) -> u64 {
 // A wide store.
 pub fn bench_scan_wide(store: &[u8], rounds: u64) -> u64 {
     let mut last = 0;
-    let mut i: u64 = 0;
-    while i < rounds {
-        let o = scan_wide(store);
-        let a = o.answer;
-        last = code(a);
-        i += 1;
+    for _ in 0..rounds {
+        last = code(scan_wide(store).answer);
     }
     last
 }
@@ -351,13 +284,8 @@ pub fn bench_sweep(
 ) -> u64 {
     let s = station(entries, lives, reads, base);
     let mut last = 0;
-    let mut at: usize = 0;
-    while stores.len() - at >= Station::STORE {
-        let end = at + Station::STORE;
-        let o = sweep(s, &mut stores[at..end], limit);
-        let a = o.answer;
-        last = code(a);
-        at = end;
+    for store in stores.chunks_exact_mut(Station::STORE) {
+        last = code(sweep(s, store, limit).answer);
     }
     last
 }
@@ -366,14 +294,10 @@ pub fn bench_sweep(
 fn collects(station: Station, store: &mut [u8], first: u8, limit: u8) -> u64 {
     let mut s = station;
     let mut last = 0;
-    let mut i: u8 = 0;
-    while i < limit {
+    for i in 0..limit {
         let o = collect(s, store, first % 64 + i % 64);
-        let next = o.station;
-        s = next;
-        let a = o.answer;
-        last = code(a);
-        i += 1;
+        s = o.station;
+        last = code(o.answer);
     }
     last
 }
@@ -389,11 +313,8 @@ pub fn bench_collects(
 ) -> u64 {
     let s = station(entries, lives, reads, base);
     let mut last = 0;
-    let mut at: usize = 0;
-    while stores.len() - at >= Station::STORE {
-        let end = at + Station::STORE;
-        last = collects(s, &mut stores[at..end], first, limit);
-        at = end;
+    for store in stores.chunks_exact_mut(Station::STORE) {
+        last = collects(s, store, first, limit);
     }
     last
 }
@@ -406,11 +327,8 @@ pub fn bench_print(out: &mut [u8], rounds: u64, value: u64, clock: u64, txn: u32
     }
     let id = Id { clock, txn };
     let mut last = 0;
-    let mut i: u64 = 0;
-    while i < rounds {
-        i += 1;
-        let n = print_line(out, i, Answer::Version(value, id));
-        last = n as u64;
+    for i in 0..rounds {
+        last = print_line(out, i + 1, Answer::Version(value, id)) as u64;
     }
     last
 }
@@ -418,22 +336,16 @@ pub fn bench_print(out: &mut [u8], rounds: u64, value: u64, clock: u64, txn: u32
 // ---- the moves
 pub fn bench_move_out(narrow: &[u8], wide: &mut [u8], rounds: u64) -> u64 {
     let mut last = 0;
-    let mut i: u64 = 0;
-    while i < rounds {
-        let a = move_out(narrow, wide);
-        last = code(a);
-        i += 1;
+    for _ in 0..rounds {
+        last = code(move_out(narrow, wide));
     }
     last
 }
 
 pub fn bench_move_back(wide: &[u8], narrow: &mut [u8], rounds: u64) -> u64 {
     let mut last = 0;
-    let mut i: u64 = 0;
-    while i < rounds {
-        let a = move_back(wide, narrow);
-        last = code(a);
-        i += 1;
+    for _ in 0..rounds {
+        last = code(move_back(wide, narrow));
     }
     last
 }

@@ -14,16 +14,13 @@
 // A store is as long as the station's kind has it, where no length is given. Of the last two only the digits are read. A title ends in the answers that 01 gives to its last lines; tests/cases.rs tests that.
 #![tactic(auto)]
 
-ghost use Rattle.std.specs.Prelude.{◌≡◌, ◌≤◌, length};
+ghost use Rattle.std.specs.Prelude.{◌≤◌};
 
 use calls::{
     Answer, Kind, Outcome, Station, abort, collect, commit, get, put, scan_of, start, step, sweep,
 };
-use decimal::field_end;
-use edits::{low8, low32, same_station};
+use edits::{low8, low32};
 use input::read_full;
-use lines::same_bytes;
-use model::{empty_of, store_size};
 use moving::{move_back, move_out};
 use sheet::Command;
 use std::io::Stdout;
@@ -31,195 +28,23 @@ use std::io::Stdout;
 // A store and one byte more, to lend a store that is too long.
 const SPACE: usize = Station::STORE + 1;
 
-fn wide(x: u8) -> u64
-    ensures { result ≡ x }
-{
-    x as u64
-}
-
-fn index(x: u64) -> usize {
-    x as usize
-}
-
-// ---- fields of a line
-fn counted(commas: usize, b: u8) -> usize {
-    if b != b',' {
-        return commas;
-    }
-    if commas > 9 {
-        return commas;
-    }
-    commas + 1
-}
-
-fn summed(sum: u64, b: u8) -> u64 {
-    if b < b'0' {
-        return sum;
-    }
-    if b > b'9' {
-        return sum;
-    }
-    if sum > 100000000000000000 {
-        return sum;
-    }
-    sum * 10 + wide(b - b'0')
-}
-
-fn summed_in(sum: u64, b: u8, field: usize, wanted: usize) -> u64 {
-    if field != wanted {
-        return sum;
-    }
-    summed(sum, b)
-}
+// A field's number grows no more once it is greater.
+const GREAT: u64 = 100000000000000000;
 
 // The digits of a field, counted from 0.
 fn number_in(line: &[u8], wanted: usize) -> u64 {
-    let mut sum: u64 = 0;
-    let mut field: usize = 0;
-    let mut i = 0;
-    while i < line.len() {
-        let b = line[i];
-        field = counted(field, b);
-        sum = summed_in(sum, b, field, wanted);
-        i += 1;
-    }
-    sum
-}
-
-// The place of the first such byte from a place on; the length where there is none.
-fn find(text: &[u8], from: usize, b: u8) -> usize
-    requires { from ≤ length text.now }
-    ensures { (from ≤ result) × (result ≤ length text.now) }
-{
-    from + field_end(&text[from..], b)
-}
-
-// ---- bytes
-fn clear(bytes: &mut [u8]) {
-    let mut i = 0;
-    while i < bytes.len() {
-        bytes[i] = 0;
-        i += 1;
-    }
-}
-
-fn copy_over(to: &mut [u8], from: &[u8]) {
-    let mut i = 0;
-    while i < to.len() {
-        if i >= from.len() {
-            return;
+    let mut number = 0;
+    if let Some(field) = line.split(|b| *b == b',').nth(wanted) {
+        for b in field {
+            if b.is_ascii_digit() && number <= GREAT {
+                number = number * 10 + u64::from(*b - b'0');
+            }
         }
-        to[i] = from[i];
-        i += 1;
     }
+    number
 }
 
-// ---- a station's field changed
-fn edit(station: Station, line: &[u8]) -> Station {
-    let field = number_in(line, 0);
-    let place = index(number_in(line, 1));
-    let i = index(number_in(line, 2));
-    let x = number_in(line, 3);
-    edits::edited(station, field, place, i, x)
-}
-
-// ---- a store's byte changed
-// Where a slot begins.
-fn slot_place(kind: Kind, slot: u8) -> usize
-    ensures { result ≤ 200000 }
-{
-    match kind {
-        Kind::Narrow => slot as usize * Station::SLOT,
-        Kind::Wide => slot as usize * Station::WIDE_SLOT,
-    }
-}
-
-fn damage(kind: Kind, bytes: &mut [u8], line: &[u8]) {
-    let slot = low8(number_in(line, 0));
-    let at = low8(number_in(line, 1)) as usize;
-    let x = low8(number_in(line, 2));
-    let i = slot_place(kind, slot) + at;
-    if i < bytes.len() {
-        bytes[i] = x;
-    }
-}
-
-// ---- what is written
-// A write that fails is not told.
-fn say(stdout: Stdout, text: &[u8]) {
-    let _ = stdout.write_all(text);
-}
-
-fn say_line(stdout: Stdout, line: &[u8], is_quiet: bool) {
-    if is_quiet {
-        return;
-    }
-    say(stdout, line);
-    say(stdout, b"\n");
-}
-
-// The answer's line without its number and its newline.
-fn say_part(stdout: Stdout, out: &[u8], n: usize) {
-    if n > out.len() {
-        return;
-    }
-    if n > 3 {
-        let end = n - 1;
-        say(stdout, &out[2..end]);
-    }
-}
-
-fn say_answer(stdout: Stdout, o: Outcome) {
-    let a = o.answer;
-    let mut out = [0u8; 96];
-    let n = sheet::print_line(&mut out, 0, a);
-    say_part(stdout, &out, n);
-}
-
-fn say_change(stdout: Stdout, before: Station, after: Station, is_kept: bool) {
-    if same_station(before, after) {
-        if is_kept {
-            return say(stdout, b"; as given\n");
-        }
-        return say(stdout, b"; new store\n");
-    }
-    if !is_kept {
-        return say(stdout, b"; new station and store\n");
-    }
-    let kind = after.kind;
-    if same_station(after, empty_of(kind)) {
-        return say(stdout, b"; empty station\n");
-    }
-    say(stdout, b"; new station\n")
-}
-
-fn report(
-    stdout: Stdout,
-    line: &[u8],
-    before: Station,
-    o: Outcome,
-    is_kept: bool,
-    is_quiet: bool,
-) -> Station {
-    let after = o.station;
-    if is_quiet {
-        return after;
-    }
-    say(stdout, line);
-    say(stdout, b": ");
-    say_answer(stdout, o);
-    say_change(stdout, before, after, is_kept);
-    after
-}
-
-// ---- lines carried out
-fn malformed(station: Station) -> Outcome {
-    Outcome {
-        station,
-        answer: Answer::Refused(19, 0),
-    }
-}
-
+// ---- calls
 // The public calls themselves, for any station.
 fn acted(station: Station, store: &mut [u8], command: Command) -> Outcome {
     match command {
@@ -230,300 +55,247 @@ fn acted(station: Station, store: &mut [u8], command: Command) -> Outcome {
         Command::Step(txn) => step(station, store, txn),
         Command::Abort(txn) => abort(station, txn),
         Command::Collect(slot) => collect(station, store, slot),
-        Command::Cut => {
-            let kind = station.kind;
-            scan_of(kind, store)
-        }
-        Command::Malformed => malformed(station),
+        Command::Cut => scan_of(station.kind, store),
+        Command::Malformed => Outcome {
+            station,
+            answer: Answer::Refused(19, 0),
+        },
         Command::Sweep(limit) => sweep(station, store, limit),
     }
 }
 
-fn act_damage(
-    stdout: Stdout,
-    station: Station,
-    bytes: &mut [u8],
-    copy: &mut [u8],
-    line: &[u8],
-    is_quiet: bool,
-) -> Station {
-    copy_over(copy, bytes);
-    let kind = station.kind;
-    damage(kind, bytes, line);
-    let is_kept = same_bytes(bytes, copy);
-    if is_quiet {
-        return station;
+// Three steps: one key's version record, the commit record, the entry.
+fn whole(station: Station, store: &mut [u8], txn: u32, key: u8, number: u64) -> Outcome {
+    let begun = start(station, txn).station;
+    let written = put(begun, txn, key, number).station;
+    let mut closing = commit(written, txn, number).station;
+    for _ in 0..2 {
+        closing = step(closing, store, txn).station;
     }
-    say(stdout, line);
-    say_change(stdout, station, station, is_kept);
-    station
-}
-
-fn act_edit(stdout: Stdout, station: Station, line: &[u8], is_quiet: bool) -> Station {
-    let after = edit(station, line);
-    if is_quiet {
-        return after;
-    }
-    say(stdout, line);
-    say_change(stdout, station, after, true);
-    after
-}
-
-// A command with this much of the store.
-fn act(
-    stdout: Stdout,
-    station: Station,
-    bytes: &mut [u8],
-    copy: &mut [u8],
-    line: &[u8],
-    command: Command,
-    size: usize,
-    is_quiet: bool,
-) -> Station {
-    if size > bytes.len() {
-        return station;
-    }
-    copy_over(copy, bytes);
-    let o = acted(station, &mut bytes[..size], command);
-    let is_kept = same_bytes(bytes, copy);
-    report(stdout, line, station, o, is_kept, is_quiet)
-}
-
-// A sheet's line with as much of the store as its first field says.
-fn act_short(
-    stdout: Stdout,
-    station: Station,
-    bytes: &mut [u8],
-    copy: &mut [u8],
-    line: &[u8],
-    is_quiet: bool,
-) -> Station {
-    let size = index(number_in(line, 0));
-    let at = find(line, 0, b',');
-    if at >= line.len() {
-        return station;
-    }
-    let command = sheet::parse_line(&line[at + 1..]);
-    act(stdout, station, bytes, copy, line, command, size, is_quiet)
-}
-
-// A sweep with its first field's limit and as much of the store as its second says.
-fn act_sweep(
-    stdout: Stdout,
-    station: Station,
-    bytes: &mut [u8],
-    copy: &mut [u8],
-    line: &[u8],
-    is_quiet: bool,
-) -> Station {
-    let limit = number_in(line, 0);
-    let size = index(number_in(line, 1));
-    act(
-        stdout,
-        station,
-        bytes,
-        copy,
-        line,
-        Command::Sweep(limit),
-        size,
-        is_quiet,
-    )
+    step(closing, store, txn)
 }
 
 // What a move comes to: not refused, the station is what a scan of the target gives.
-fn after_move(station: Station, to: Kind, target: &[u8], said: Answer) -> Outcome {
-    if let Answer::Moved(_) = said {
-        let scanned = scan_of(to, target);
-        let next = scanned.station;
-        return Outcome {
-            station: next,
-            answer: said,
-        };
-    }
-    Outcome {
-        station,
-        answer: said,
-    }
-}
-
 fn moved(station: Station, source: &[u8], target: &mut [u8]) -> Outcome {
-    let kind = station.kind;
+    let (kind, answer) = match station.kind {
+        Kind::Narrow => (Kind::Wide, move_out(source, target)),
+        Kind::Wide => (Kind::Narrow, move_back(source, target)),
+    };
+    if matches!(answer, Answer::Moved(_)) {
+        Outcome {
+            station: scan_of(kind, target).station,
+            answer,
+        }
+    } else {
+        Outcome { station, answer }
+    }
+}
+
+// Where a slot begins.
+fn slot_place(kind: Kind, slot: u8) -> usize
+    ensures { result ≤ 200000 }
+{
     match kind {
-        Kind::Narrow => {
-            let out = move_out(source, target);
-            after_move(station, Kind::Wide, target, out)
+        Kind::Narrow => usize::from(slot) * Station::SLOT,
+        Kind::Wide => usize::from(slot) * Station::WIDE_SLOT,
+    }
+}
+
+// ---- a case
+// What lines act on: a station and a store, beside the store as it was before the line. Of a quiet case nothing is written.
+#[derive(Drop)]
+struct Case {
+    stdout: Stdout,
+    is_quiet: bool,
+    station: Station,
+    store: [u8; SPACE],
+    given: [u8; SPACE],
+}
+
+impl Case {
+    fn begin(&mut self, kind: Kind) {
+        self.store.fill(0);
+        self.station = Station::empty(kind);
+    }
+
+    // A write that fails is not told.
+    fn say(&self, text: &[u8]) {
+        if !self.is_quiet {
+            let _ = self.stdout.write_all(text);
         }
-        Kind::Wide => {
-            let back = move_back(source, target);
-            after_move(station, Kind::Narrow, target, back)
+    }
+
+    fn say_title(&self, line: &[u8]) {
+        self.say(line);
+        self.say(b"\n");
+    }
+
+    // The answer's line without its number and its newline.
+    fn say_answer(&self, answer: Answer) {
+        let mut out = [0; 96];
+        let n = sheet::print_line(&mut out, 0, answer);
+        if 3 < n {
+            self.say(&out[2..n - 1]);
         }
     }
-}
 
-// A move of so many bytes into so many.
-fn act_move(
-    stdout: Stdout,
-    station: Station,
-    bytes: &mut [u8],
-    copy: &mut [u8],
-    line: &[u8],
-    is_quiet: bool,
-) -> Station {
-    let from = index(number_in(line, 0));
-    let to = index(number_in(line, 1));
-    if from > copy.len() {
-        return station;
+    fn say_change(&self, before: &Station, is_kept: bool) {
+        let text: &[u8] = match (self.station == *before, is_kept) {
+            (true, true) => b"; as given\n",
+            (true, false) => b"; new store\n",
+            (false, false) => b"; new station and store\n",
+            (false, true) if self.station == Station::empty(self.station.kind) =>
+                b"; empty station\n",
+            (false, true) => b"; new station\n",
+        };
+        self.say(text);
     }
-    if to > bytes.len() {
-        return station;
-    }
-    copy_over(copy, bytes);
-    let o = moved(station, &copy[0..from], &mut bytes[0..to]);
-    let is_kept = same_bytes(bytes, copy);
-    report(stdout, line, station, o, is_kept, is_quiet)
-}
 
-// Three steps: one key's version record, the commit record, the entry.
-fn stepped(station: Station, store: &mut [u8], txn: u32) -> Outcome {
-    let a = step(station, store, txn);
-    let s1 = a.station;
-    let b = step(s1, store, txn);
-    let s2 = b.station;
-    step(s2, store, txn)
-}
+    fn report(&mut self, line: &[u8], outcome: Outcome) {
+        let before = self.station;
+        self.station = outcome.station;
+        if !self.is_quiet {
+            self.say(line);
+            self.say(b": ");
+            self.say_answer(outcome.answer);
+            self.say_change(&before, self.store == self.given);
+        }
+    }
 
-fn whole(station: Station, store: &mut [u8], txn: u32, key: u8, number: u64) -> Outcome {
-    let a = start(station, txn);
-    let s1 = a.station;
-    let b = put(s1, txn, key, number);
-    let s2 = b.station;
-    let c = commit(s2, txn, number);
-    let s3 = c.station;
-    stepped(s3, store, txn)
-}
+    // A command with this much of the store.
+    fn act(&mut self, line: &[u8], command: Command, size: usize) {
+        if size <= SPACE {
+            self.given.copy_from_slice(&self.store);
+            let store = &mut self.store[..];
+            let outcome = acted(self.station, &mut store[..size], command);
+            self.report(line, outcome);
+        }
+    }
 
-fn act_whole(
-    stdout: Stdout,
-    station: Station,
-    bytes: &mut [u8],
-    copy: &mut [u8],
-    line: &[u8],
-    is_quiet: bool,
-) -> Station {
-    let txn = low32(number_in(line, 0));
-    let key = low8(number_in(line, 1));
-    let number = number_in(line, 2);
-    let kind = station.kind;
-    let size = store_size(kind);
-    if size > bytes.len() {
-        return station;
+    // A sheet's line with as much of the store as its first field says.
+    fn act_short(&mut self, line: &[u8]) {
+        if let Some(at) = line.iter().position(|b| *b == b',') {
+            let command = sheet::parse_line(&line[at + 1..]);
+            self.act(line, command, number_in(line, 0) as usize);
+        }
     }
-    copy_over(copy, bytes);
-    let o = whole(station, &mut bytes[0..size], txn, key, number);
-    let is_kept = same_bytes(bytes, copy);
-    report(stdout, line, station, o, is_kept, is_quiet)
-}
 
-fn first_byte(line: &[u8]) -> u8 {
-    if line.len() == 0 {
-        return 0;
+    // A sweep with its first field's limit and as much of the store as its second says.
+    fn act_sweep(&mut self, line: &[u8]) {
+        let limit = number_in(line, 0);
+        self.act(line, Command::Sweep(limit), number_in(line, 1) as usize);
     }
-    line[0]
-}
 
-fn begun(kind: Kind, bytes: &mut [u8]) -> Station {
-    clear(bytes);
-    empty_of(kind)
-}
+    // A move of so many bytes into so many.
+    fn act_move(&mut self, line: &[u8]) {
+        let from = number_in(line, 0) as usize;
+        let to = number_in(line, 1) as usize;
+        if from <= SPACE && to <= SPACE {
+            self.given.copy_from_slice(&self.store);
+            let store = &mut self.store[..];
+            let outcome = moved(self.station, &self.given[..from], &mut store[..to]);
+            self.report(line, outcome);
+        }
+    }
 
-// Any line but a busy case's title.
-fn carried_out(
-    stdout: Stdout,
-    station: Station,
-    bytes: &mut [u8],
-    copy: &mut [u8],
-    line: &[u8],
-    is_quiet: bool,
-) -> Station {
-    let first = first_byte(line);
-    if first == b'#' {
-        say_line(stdout, line, is_quiet);
-        return begun(Kind::Narrow, bytes);
+    fn act_whole(&mut self, line: &[u8]) {
+        let txn = low32(number_in(line, 0));
+        let key = low8(number_in(line, 1));
+        let size = self.station.kind.store_size();
+        if size <= SPACE {
+            self.given.copy_from_slice(&self.store);
+            let store = &mut self.store[..];
+            let number = number_in(line, 2);
+            let outcome = whole(self.station, &mut store[..size], txn, key, number);
+            self.report(line, outcome);
+        }
     }
-    if first == b'$' {
-        say_line(stdout, line, is_quiet);
-        return begun(Kind::Wide, bytes);
-    }
-    if first == b'>' {
-        return act_move(stdout, station, bytes, copy, line, is_quiet);
-    }
-    if first == b'!' {
-        return act_damage(stdout, station, bytes, copy, line, is_quiet);
-    }
-    if first == b'~' {
-        return act_edit(stdout, station, line, is_quiet);
-    }
-    if first == b'*' {
-        return act_whole(stdout, station, bytes, copy, line, is_quiet);
-    }
-    if first == b'<' {
-        return act_short(stdout, station, bytes, copy, line, is_quiet);
-    }
-    if first == b'^' {
-        return act_sweep(stdout, station, bytes, copy, line, is_quiet);
-    }
-    let command = sheet::parse_line(line);
-    let kind = station.kind;
-    let size = store_size(kind);
-    act(stdout, station, bytes, copy, line, command, size, is_quiet)
-}
 
-// The busy station and its store.
-fn busy(stdout: Stdout, head: &[u8], bytes: &mut [u8], copy: &mut [u8]) -> Station {
-    let mut s = begun(Kind::Narrow, bytes);
-    let mut at = 0;
-    while at < head.len() {
-        let end = find(head, at, b'\n');
-        s = carried_out(stdout, s, bytes, copy, &head[at..end], true);
-        at = end + 1;
+    fn damage(&mut self, line: &[u8]) {
+        let slot = slot_place(self.station.kind, low8(number_in(line, 0)));
+        let at = slot + usize::from(low8(number_in(line, 1)));
+        self.given.copy_from_slice(&self.store);
+        if let Some(byte) = self.store.get_mut(at) {
+            *byte = low8(number_in(line, 2));
+        }
+        self.say(line);
+        self.say_change(&self.station, self.store == self.given);
     }
-    s
-}
 
-fn turn(
-    stdout: Stdout,
-    station: Station,
-    bytes: &mut [u8],
-    copy: &mut [u8],
-    line: &[u8],
-    head: &[u8],
-) -> Station {
-    if first_byte(line) == b'%' {
-        say_line(stdout, line, false);
-        return busy(stdout, head, bytes, copy);
+    fn edit(&mut self, line: &[u8]) {
+        let before = self.station;
+        let place = number_in(line, 1) as usize;
+        let position = number_in(line, 2) as usize;
+        self.station = edits::edited(
+            before,
+            number_in(line, 0),
+            place,
+            position,
+            number_in(line, 3),
+        );
+        self.say(line);
+        self.say_change(&before, true);
     }
-    carried_out(stdout, station, bytes, copy, line, false)
-}
 
-fn run(stdout: Stdout, text: &[u8], head: &[u8], bytes: &mut [u8], copy: &mut [u8]) {
-    let mut s = begun(Kind::Narrow, bytes);
-    let mut at = 0;
-    while at < text.len() {
-        let end = find(text, at, b'\n');
-        s = turn(stdout, s, bytes, copy, &text[at..end], head);
-        at = end + 1;
+    // Any line but a busy case's title.
+    fn carry_out(&mut self, line: &[u8]) {
+        match line {
+            [b'#', ..] => {
+                self.say_title(line);
+                self.begin(Kind::Narrow);
+            }
+            [b'$', ..] => {
+                self.say_title(line);
+                self.begin(Kind::Wide);
+            }
+            [b'>', ..] => self.act_move(line),
+            [b'!', ..] => self.damage(line),
+            [b'~', ..] => self.edit(line),
+            [b'*', ..] => self.act_whole(line),
+            [b'<', ..] => self.act_short(line),
+            [b'^', ..] => self.act_sweep(line),
+            _ => self.act(
+                line,
+                sheet::parse_line(line),
+                self.station.kind.store_size(),
+            ),
+        }
     }
-}
 
-fn run_cases(stdout: Stdout, text: &[u8]) {
-    let mut bytes = [0u8; SPACE];
-    let mut copy = [0u8; SPACE];
-    let cut = find(text, 0, b'%');
-    run(stdout, text, &text[..cut], &mut bytes, &mut copy);
+    // The busy station and its store.
+    fn make_busy(&mut self, head: &[u8]) {
+        self.begin(Kind::Narrow);
+        self.is_quiet = true;
+        for line in head.split_inclusive(|b| *b == b'\n') {
+            self.carry_out(line.strip_suffix(b"\n").unwrap_or(line));
+        }
+        self.is_quiet = false;
+    }
+
+    fn run(&mut self, text: &[u8], head: &[u8]) {
+        for ended in text.split_inclusive(|b| *b == b'\n') {
+            let line = ended.strip_suffix(b"\n").unwrap_or(ended);
+            if let [b'%', ..] = line {
+                self.say_title(line);
+                self.make_busy(head);
+            } else {
+                self.carry_out(line);
+            }
+        }
+    }
 }
 
 fn main(rt: HostRuntime) {
-    let mut input = [0u8; 65536];
+    let mut input = [0; 65536];
     let n = read_full(&mut rt.stdin(), &mut input);
-    run_cases(rt.stdout(), &input[..n]);
+    let text = &input[..n];
+    let cut = text.iter().position(|b| *b == b'%').unwrap_or(n);
+    let mut case = Case {
+        stdout: rt.stdout(),
+        is_quiet: false,
+        station: Station::empty(Kind::Narrow),
+        store: [0; SPACE],
+        given: [0; SPACE],
+    };
+    case.run(text, &text[..cut]);
 }

@@ -20,81 +20,50 @@ const OUT: usize = 64;
 // A proved loop has to end, and nothing says that the input does: 2^46 reads, which no run uses up.
 const READS: u64 = 70368744177664;
 
-// Why the program stops.
+// Why there is no verdict, or it is not written.
 #[derive(Clone, Copy)]
 enum Stop {
-    Found,
     Unread,
     Unwritten,
     TooLong,
 }
 
-// What came of the reading: the verdict counts where one was found.
-#[derive(Clone, Copy)]
-struct Ended {
-    stop: Stop,
-    verdict: Verdict,
-}
-
-fn found(verdict: Verdict) -> Ended {
-    Ended {
-        stop: Stop::Found,
-        verdict,
-    }
-}
-
-fn stopped(stop: Stop) -> Ended {
-    Ended {
-        stop,
-        verdict: Verdict::Clean,
-    }
-}
-
 // Reads and checks until the input ends, or a line is not clean.
-fn check_input(stdin: &mut Stdin, table: &mut [u64], part: &mut [u8], input: &mut [u8]) -> Ended
+fn check_input(
+    stdin: &mut Stdin,
+    table: &mut [u64],
+    part: &mut [u8],
+    input: &mut [u8],
+) -> Result<Verdict, Stop>
     requires { (length table.old ≡ 1280) × (length part.old ≡ 65) × (length input.old ≡ 65536) }
 {
     let mut len = 0;
     let mut above = 0;
-    let mut turns = READS;
-    while turns > 0 {
-        let Ok(n) = stdin.read(input) else {
-            return stopped(Stop::Unread);
-        };
+    for _turn in 0..READS {
+        let n = stdin.read(input).map_err(|_| Stop::Unread)?;
         if n == 0 {
-            return found(check_end(table, part, len, above));
+            return Ok(check_end(table, part, len, above));
         }
         let checked = check_block(table, part, len, above, &input[..n]);
-        let verdict = checked.verdict;
-        let Verdict::Clean = verdict else {
-            return found(verdict);
+        let Verdict::Clean = checked.verdict else {
+            return Ok(checked.verdict);
         };
         len = checked.len;
         above = checked.above;
-        turns -= 1;
     }
-    stopped(Stop::TooLong)
+    Err(Stop::TooLong)
 }
 
-// Prints the verdict, where there is one.
-fn answer(stdout: Stdout, ended: Ended) -> Stop {
-    let stop = ended.stop;
-    let Stop::Found = stop else {
-        return stop;
-    };
-    let verdict = ended.verdict;
+// Prints the verdict.
+fn answer(stdout: Stdout, verdict: Verdict) -> Result<(), Stop> {
     let mut out = [0u8; OUT];
     let n = print_verdict(&mut out, verdict);
-    if stdout.write_all(&out[..n]).is_ok() {
-        return Stop::Found;
-    }
-    Stop::Unwritten
+    stdout.write_all(&out[..n]).map_err(|_| Stop::Unwritten)
 }
 
 // Says why there is no verdict. The exit status is 0 all the same.
 fn report(stderr: Stderr, stop: Stop) {
     let said = match stop {
-        Stop::Found => Ok(()),
         Stop::Unread => stderr.write_all(b"checklog: standard input cannot be read\n"),
         Stop::Unwritten => stderr.write_all(b"checklog: standard output cannot be written\n"),
         Stop::TooLong => stderr.write_all(b"checklog: the input is too long\n"),
@@ -103,12 +72,17 @@ fn report(stderr: Stderr, stop: Stop) {
     let _ = said;
 }
 
-fn main(rt: HostRuntime) {
+// Reads, checks and prints.
+fn run(rt: &HostRuntime) -> Result<(), Stop> {
     let mut table = [0u64; TABLE];
     let mut part = [0u8; KEPT];
     let mut input = [0u8; READ];
-    let mut stdin = rt.stdin();
-    let ended = check_input(&mut stdin, &mut table, &mut part, &mut input);
-    let stop = answer(rt.stdout(), ended);
-    report(rt.stderr(), stop);
+    let verdict = check_input(&mut rt.stdin(), &mut table, &mut part, &mut input)?;
+    answer(rt.stdout(), verdict)
+}
+
+fn main(rt: HostRuntime) {
+    if let Err(stop) = run(&rt) {
+        report(rt.stderr(), stop);
+    }
 }

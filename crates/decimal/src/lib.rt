@@ -6,75 +6,46 @@ ghost use Rattle.decimal.specs.Digits.{digits, number_below};
 ghost use Rattle.decimal.specs.Fields.{field, starts_number, number_read};
 ghost use Rattle.decimal.specs.Written.{written};
 
-// A number's field, with its length.
-#[derive(Clone, Copy)]
-pub enum Number {
-    Of(u64, usize),
-    Unread,
-}
-
 // The place of the first byte that ends a field; the length where there is none.
 pub fn field_end(s: &[u8], end: u8) -> usize
     ensures { result ≡ length (field end s.now) }
 {
-    let mut i = 0;
-    while i < s.len() {
-        if s[i] == end {
-            return i;
-        }
-        i += 1;
-    }
-    i
+    s.iter().position(|&b| b == end).unwrap_or(s.len())
 }
 
 // A field has a byte, and no 0 before another.
-fn starts_number(s: &[u8], end: u8) -> bool
-    ensures { result ≡ starts_number (field end s.now) }
+fn starts_number(field: &[u8]) -> bool
+    ensures { result ≡ starts_number field.now }
 {
-    if s.len() == 0 {
-        return false;
+    match field {
+        [] => false,
+        [_] => true,
+        [first, ..] => *first != b'0',
     }
-    if s[0] == end {
-        return false;
-    }
-    if s[0] != b'0' {
-        return true;
-    }
-    if s.len() == 1 {
-        return true;
-    }
-    s[1] == end
 }
 
-// A field that is a decimal and at most max. The test comes before the digit is added, so that no sum wraps.
-pub fn number_in(s: &[u8], end: u8, max: u64) -> Number
+// A field that is a decimal and at most max, with its length. The test comes before the digit is added, so that no sum wraps.
+pub fn number_in(s: &[u8], end: u8, max: u64) -> Option<(u64, usize)>
     requires { 9 ≤ max }
     ensures { result ≡ number_read (number_below (suc max) (field end s.now)) (length (field end s.now)) }
 {
-    if !starts_number(s, end) {
-        return Number::Unread;
+    let size = field_end(s, end);
+    let field = &s[..size];
+    if !starts_number(field) {
+        return None;
     }
-    let mut sum: u64 = 0;
-    let mut i = 0;
-    while i < s.len() {
-        let b = s[i];
-        if b == end {
-            return Number::Of(sum, i);
+    let mut sum = 0;
+    for &b in field {
+        if !b.is_ascii_digit() {
+            return None;
         }
-        if b < b'0' {
-            return Number::Unread;
-        }
-        if b > b'9' {
-            return Number::Unread;
-        }
-        let digit = (b - b'0') as u64;
+        let digit = u64::from(b - b'0');
         if sum > (max - digit) / 10 {
-            return Number::Unread;
+            return None;
         }
         sum = sum * 10 + digit;
-        i += 1;
     }
-    Number::Of(sum, i)
+    Some((sum, size))
 }
 
 // How many digits a number has.
@@ -84,7 +55,7 @@ fn digit_count(x: u64) -> usize
     let mut n = 1;
     let mut left = x;
     while 10 <= left {
-        left = left / 10;
+        left /= 10;
         n += 1;
     }
     n
@@ -101,7 +72,7 @@ pub fn write_number(out: &mut [u8], start: usize, x: u64, end: u8) -> usize
     while 10 <= rest {
         at -= 1;
         out[at] = b'0' + (rest % 10) as u8;
-        rest = rest / 10;
+        rest /= 10;
     }
     out[start] = b'0' + rest as u8;
     out[after] = end;
@@ -113,10 +84,7 @@ pub fn write_bytes(out: &mut [u8], start: usize, w: &[u8]) -> usize
     requires { start + length w.now ≤ length out.old }
     ensures { (result ≡ start + length w.now) × (out.new ≡ written out.old start w.now) }
 {
-    let mut i = 0;
-    while i < w.len() {
-        out[start + i] = w[i];
-        i += 1;
-    }
-    start + i
+    let after = start + w.len();
+    out[start..after].copy_from_slice(w);
+    after
 }

@@ -114,18 +114,18 @@ unfolding asks_scan
 scan-asked none h = absurd (true≢false (sym h))
 scan-asked (some c) h = ap some (scan-only c h)
 
-pub not-scan : (c : Command) → (c ≡ C.Cut → ⊥) → asks_scan (call_of c) ≡ false
+pub not_scan : (c : Command) → (c ≡ C.Cut → ⊥) → asks_scan (call_of c) ≡ false
 unfolding call_of asks_scan is_scan
-not-scan (C.Start t) h = refl
-not-scan (C.Put t k v) h = refl
-not-scan (C.Get t k) h = refl
-not-scan (C.Commit t c) h = refl
-not-scan (C.Step t) h = refl
-not-scan (C.Abort t) h = refl
-not-scan (C.Collect d) h = refl
-not-scan C.Cut h = absurd (h refl)
-not-scan C.Malformed h = refl
-not-scan (C.Sweep n) h = refl
+not_scan (C.Start t) h = refl
+not_scan (C.Put t k v) h = refl
+not_scan (C.Get t k) h = refl
+not_scan (C.Commit t c) h = refl
+not_scan (C.Step t) h = refl
+not_scan (C.Abort t) h = refl
+not_scan (C.Collect d) h = refl
+not_scan C.Cut h = absurd (h refl)
+not_scan C.Malformed h = refl
+not_scan (C.Sweep n) h = refl
 
 -- ── a sweep, told by its command ──
 pub not-sweep : (c : Command) → ((n : ℕ) → c ≡ C.Sweep n → ⊥) → asks_sweep (call_of c) ≡ false

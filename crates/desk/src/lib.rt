@@ -10,6 +10,7 @@ ghost use Rattle.stations.specs.Changes.{IsChange};
 ghost use Rattle.desk.specs.Acts.{call_of, asks_scan, asks_sweep, effect_of, acted, kept};
 
 use calls::{Outcome, Station, scan_of};
+use model::Refusal;
 use sheet::Command;
 use stations::{Change, changed, refused};
 use storing::{collect, get, step};
@@ -24,13 +25,11 @@ pub struct Request {
 }
 
 // A cut is a scan, which reads the station anew.
+#[tactic(auto, using(crate::proofs::ActLaws::not_scan), unfolding(crate::specs::Acts::call_of, crate::specs::Acts::asks_scan, model::specs::Calls::is_scan))]
 pub fn asks_scan(command: Command) -> bool
     ensures { result ≡ asks_scan (call_of command) }
 {
-    match command {
-        Command::Cut => true,
-        _ => false,
-    }
+    matches!(command, Command::Cut)
 }
 
 // The change that a request comes to: its call's, or 19 where the line was malformed. A cut is no change but a station read anew, and a sweep many.
@@ -39,8 +38,7 @@ pub fn decide(station: Station, store: &mut [u8], request: Request) -> Change
     ensures { (IsChange station (effect_of (listed station) store.old request) result) × (store.new ≡ kept (listed station) store.old request) }
 {
     let tested = request.tested;
-    let command = request.command;
-    match command {
+    match request.command {
         Command::Start(txn) => start(station, tested, txn),
         Command::Put(txn, key, value) => put(station, tested, txn, key, value),
         Command::Get(txn, key) => get(station, tested, store, txn, key),
@@ -48,11 +46,9 @@ pub fn decide(station: Station, store: &mut [u8], request: Request) -> Change
         Command::Step(txn) => step(station, tested, store, txn),
         Command::Abort(txn) => abort(station, tested, txn),
         Command::Collect(slot) => collect(station, tested, store, slot),
-        // not asked
-        Command::Cut => refused(station, 19),
-        Command::Malformed => refused(station, 19),
-        // not asked
-        Command::Sweep(_) => refused(station, 19),
+        Command::Malformed => refused(station, Refusal::Malformed),
+        // Not asked.
+        Command::Cut | Command::Sweep(_) => refused(station, Refusal::Malformed),
     }
 }
 
@@ -60,11 +56,7 @@ pub fn decide(station: Station, store: &mut [u8], request: Request) -> Change
 pub fn tested_after(request: Request) -> bool
     ensures { result ≡ (asks_scan (call_of request.command) or request.tested) }
 {
-    let command = request.command;
-    if asks_scan(command) {
-        return true;
-    }
-    request.tested
+    asks_scan(request.command) || request.tested
 }
 
 // Carries out a request.
@@ -72,14 +64,12 @@ pub fn act(station: Station, store: &mut [u8], request: Request) -> Outcome
     requires { request.tested ≡ sound (listed station) }
     ensures { (listed_outcome result ≡ acted (listed station) store.old request) × (store.new ≡ kept (listed station) store.old request) }
 {
-    let command = request.command;
-    if asks_scan(command) {
-        let kind = station.kind;
-        return scan_of(kind, store);
+    match request.command {
+        Command::Cut => scan_of(station.kind, store),
+        Command::Sweep(limit) => sweep(station, request.tested, store, limit),
+        _ => {
+            let change = decide(station, store, request);
+            changed(station, change)
+        }
     }
-    if let Command::Sweep(limit) = command {
-        return sweep(station, request.tested, store, limit);
-    }
-    let change = decide(station, store, request);
-    changed(station, change)
 }

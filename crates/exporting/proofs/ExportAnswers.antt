@@ -4,6 +4,7 @@ use mathlib.Core.Path.{◌≡◌, sym, ap, ◌∙◌}
 use mathlib.Core.List.{List, ◌++◌}
 use lib.ListN.{length, drop}
 use native.Mathlib.Omega.{arith}
+use Rattle.std.specs.Prelude.{Ok}
 use Rattle.model.specs.declared as machine
 use Rattle.model.specs.Types.{Outcome}
 use Rattle.model.specs.declared.Answer.TheVariants as A
@@ -14,10 +15,8 @@ use Rattle.model.specs.Effects.{outcome_of}
 use Rattle.model.specs.Scan.{slots_seen, entries_seen, scan}
 use Rattle.model.proofs.ScanLaws.{KeepsRules}
 use Rattle.decimal.specs.Written.{written}
-use Rattle.resp.specs.declared.Transfer.{Transfer}
-use Rattle.resp.specs.declared.Transfer.TheVariants.{Done}
 use Rattle.resp.specs.Streams.{Transaction, stream_of}
-use Rattle.resp.specs.Exports.{committed_set, target_size, Export, exported_to, export}
+use Rattle.resp.specs.Exports.{refused, committed_set, target_size, Export, exported_to, export}
 use Rattle.resp.proofs.ExportRows.{scan-kept, export-refused, export-written}
 
 -- an answer and the target at exit
@@ -34,7 +33,7 @@ module _ (s : List ℕ) (l : length s ≡ store_size narrow_kind) (out : machine
   unfolding kind_of outcome_of
   entries-are = ap (λ (o : Outcome). o.station.entries) q
 
-  pub refused-is : (t : List ℕ) (a b : ℕ) → length t ≡ target_size → out.answer ≡ A.Refused a b → (Transfer.Refused a b ≡ (export s t).answer) × (t ≡ (export s t).target)
+  pub refused-is : (t : List ℕ) (a b : ℕ) → length t ≡ target_size → out.answer ≡ A.Refused a b → (refused a b ≡ (export s t).answer) × (t ≡ (export s t).target)
   refused-is t a b m h = handed (export s t) _ (export-refused s t l m a b (sym said-is ∙ h))
 
   -- any other answer
@@ -44,11 +43,11 @@ module _ (s : List ℕ) (l : length s ≡ store_size narrow_kind) (out : machine
 
 -- the stream over the front of the target
 pub stream-exported : (s t u : List ℕ) (n : ℕ) (xs : List Transaction) → length s ≡ store_size narrow_kind → length t ≡ target_size → KeepsRules narrow_kind s
-    → xs ≡ committed_set s → n ≡ length (stream_of xs) → u ≡ written t 0 (stream_of xs) → (Done n ≡ (export s t).answer) × (u ≡ (export s t).target)
+    → xs ≡ committed_set s → n ≡ length (stream_of xs) → u ≡ written t 0 (stream_of xs) → (Ok n ≡ (export s t).answer) × (u ≡ (export s t).target)
 unfolding exported_to written
 stream-exported s t u n xs l m k q e f =
     let bs : List ℕ = stream_of (committed_set s) in
     let h = handed (export s t) _ (export-written s t l m k) in
     let z : 0 + length bs ≡ length bs = omega arith in
     let g : u ≡ written t 0 bs = f ∙ ap (λ (ys : List Transaction). written t 0 (stream_of ys)) q in
-    (ap Done (e ∙ ap (λ (ys : List Transaction). length (stream_of ys)) q) ∙ h.0, g ∙ ap (λ (x : ℕ). bs ++ drop x t) z ∙ h.1)
+    (ap Ok (e ∙ ap (λ (ys : List Transaction). length (stream_of ys)) q) ∙ h.0, g ∙ ap (λ (x : ℕ). bs ++ drop x t) z ∙ h.1)

@@ -1,38 +1,28 @@
 -- A slot's versions written key by key, and its commit after them.
 use Prim.Native.Nat.{ℕ, suc, ◌+◌, ◌*◌, ◌-◌, ◌<◌, ◌≤◌}
-use mathlib.Core.Path.{◌≡◌, refl, sym, ap, ap₂, subst, ◌∙◌}
+use mathlib.Core.Path.{◌≡◌, sym, ap, ap₂, subst}
 use mathlib.Core.List.{List, [], ◌∷◌, ◌++◌}
 use lib.ListN.{length, take, drop}
 use native.Mathlib.Omega.{arith}
 use native.Mathlib.Numerals.{add-one}
-use borrow.Rule.Slice.PartMut.{mid_len}
 use Rattle.model.specs.declared as machine
 use Rattle.model.specs.declared.Id.{Id}
 use Rattle.model.specs.Types.{Write}
-use Rattle.model.specs.Limits.{record_size, number_range}
+use Rattle.model.specs.Limits.{keys, record_size, number_range}
 use Rattle.model.specs.Kinds.{narrow_kind, slot_size, slot_start}
 use Rattle.model.specs.KeySets.{key_set}
 use Rattle.model.specs.Listed.{listed_entry}
 use Rattle.model.specs.Records.{value_in, record_at}
-use Rattle.model.proofs.KeySetLaws.{set-none, set-ascends}
-use Rattle.keysets.specs.Parts.{IsLowest, IsRest}
+use Rattle.model.proofs.KeySetLaws.{set-ascends}
 use Rattle.decimal.specs.Digits.{digits}
 use Rattle.decimal.proofs.WrittenLaws.{Wrote, wrote-more}
 use Rattle.resp.specs.Streams.{slash, set_command, id_text, version_name, version_command, commit_name, commit_command, keys_text, versions_text, transaction_text}
 use Rattle.resp.specs.Exports.{writes_at, transaction_at}
 use Rattle.resp.proofs.LengthLaws.{version-long, commit-long}
-use Rattle.resp.proofs.KeysLaws.{first-and-rest}
 use Rattle.resp.proofs.StoreSet.{writes-keys}
-use Rattle.resp.proofs.WrittenLaws.{Bytes, wrote-bytes, bytes-wrote, Writing, writing-starts, writing-next, writing-ends}
+use Rattle.resp.proofs.WrittenLaws.{Bytes, wrote-bytes, bytes-wrote, Writing, writing-next, writing-ends}
 
 -- the nth record of a slot, as it is lent
-module _ (s : List ℕ) (n : ℕ) (l : length s ≡ slot_size narrow_kind) (o : n ≤ narrow_kind.write_limit) where
-  pub version-ends : record_size * n + record_size ≤ length s
-  version-ends = omega (arith, l, o)
-
-  pub version-length : length (take (record_size * n + record_size - record_size * n) (drop (record_size * n) s)) ≡ record_size
-  version-length = mid_len (record_size * n) (record_size * n + record_size) s version-ends ∙ omega arith
-
 pub version-part : (s : List ℕ) (n : ℕ) → take (record_size * n + record_size - record_size * n) (drop (record_size * n) s) ≡ record_at narrow_kind s 0 n
 unfolding record_at slot_start
 version-part s n =
@@ -45,51 +35,42 @@ version-part s n =
 abbrev pub versions_at : Id → List ℕ → ℕ → List ℕ → List ℕ
 versions_at i slot n ks = versions_text i (writes_at slot 0 n ks)
 
-pub record Versioning (i : Id) (s : List ℕ) (base : ℕ) (slot : List ℕ) (set : ℕ) (t : List ℕ) (at rest n : ℕ) : Type 0 where
-  pub writing : Writing s base (versions_at i slot 1 (key_set set)) t at (versions_at i slot n (key_set rest))
-  pub room : at + 83 * length (key_set rest) ≤ base + 83 * length (key_set set)
-  pub counted : n + length (key_set rest) ≡ 1 + length (key_set set)
+pub record Versioning (i : Id) (s : List ℕ) (base : ℕ) (slot whole t : List ℕ) (at : ℕ) (left : List ℕ) (n : ℕ) : Type 0 where
+  pub writing : Writing s base (versions_at i slot 1 whole) t at (versions_at i slot n left)
+  pub room : at + 83 * length left ≤ base + 83 * length whole
+  pub counted : n + length left ≡ 1 + length whole
 
-pub versioning-starts : (i : Id) (s : List ℕ) (base : ℕ) (slot : List ℕ) (set : ℕ) → Versioning i s base slot set s base set 1
-versioning-starts i s base slot set = record { writing = writing-starts s base (versions_at i slot 1 (key_set set)); room = omega arith; counted = refl }
+module _ {i : Id} {s : List ℕ} {base : ℕ} {slot whole t : List ℕ} {at : ℕ} {left : List ℕ} {n : ℕ} (h : Versioning i s base slot whole t at left n) where
+  module _ (o : length whole ≤ 8) {k : ℕ} {ks : List ℕ} (e : left ≡ k ∷ ks) where
+    pub versioning-nth : n ≤ 8
+    versioning-nth = omega (arith, h.counted, ap length e)
 
-module _ (i : Id) (s : List ℕ) (base : ℕ) (slot : List ℕ) (set : ℕ) (t : List ℕ) (at rest n k : ℕ) (h : Versioning i s base slot set t at rest n) (low : IsLowest rest k) where
-  some_left : 1 ≤ length (key_set rest)
-  some_left = let (o, (ks, e)) = low in omega (arith, ap length e)
+    module _ (r : base + 1024 ≤ length s) where
+      pub versioning-room : at + 256 ≤ length t
+      versioning-room = omega (arith, h.room, h.writing.long, ap length e)
 
-  pub versioning-nth : length (key_set set) ≤ 8 → n ≤ 8
-  versioning-nth o = omega (arith, h.counted, some_left, o)
+      -- one version more, its id as text
+      pub versioning-next : (id : List ℕ) (v : ℕ) (u : List ℕ) (till : ℕ) → k < keys → id ≡ id_text i → length id ≤ 31 → v < number_range → v ≡ value_in (record_at narrow_kind slot 0 n)
+          → Bytes t u at till (set_command (118 ∷ slash ∷ digits k ++ (slash ∷ id)) (digits v)) → Versioning i s base slot whole u till ks (n + 1)
+      unfolding writes_at versions_text version_command version_name
+      versioning-next id v u till low is short fits at_n b =
+          let w : Write = record { key = k; value = value_in (record_at narrow_kind slot 0 n) } in
+          let c : set_command (118 ∷ slash ∷ digits k ++ (slash ∷ id)) (digits v) ≡ version_command i w =
+          ap₂ (λ (x : List ℕ) (y : ℕ). set_command (118 ∷ slash ∷ digits k ++ (slash ∷ x)) (digits y)) is at_n in
+          let m : till ≤ at + 83 = omega (arith, b.0, version-long k id v low short fits) in
+          let q : Writing s base (versions_at i slot 1 whole) t at (version_command i w ++ versions_at i slot (suc n) ks) =
+          subst (λ (l : List ℕ). Writing s base (versions_at i slot 1 whole) t at (versions_at i slot n l)) e h.writing in
+          let p : Wrote t u at till (version_command i w) = wrote-bytes t u at till _ (subst (λ (x : List ℕ). Bytes t u at till x) c b) in
+          let inside : till ≤ length s = omega (arith, versioning-room, m, h.writing.long) in
+          record {
+            writing = rw (add-one n) (writing-next s base _ t at (version_command i w) (versions_at i slot (suc n) ks) u till q p inside);
+            room = omega (arith, h.room, m, ap length e);
+            counted = omega (arith, h.counted, ap length e);
+          }
 
-  pub versioning-room : length (key_set set) ≤ 8 → base + 1024 ≤ length s → at + 256 ≤ length t
-  versioning-room o r = omega (arith, h.room, h.writing.long, some_left, o, r)
-
-  -- one version more, its id as text
-  pub versioning-next : (id : List ℕ) (v rest' : ℕ) (u : List ℕ) (till : ℕ) → id ≡ id_text i → length id ≤ 31 → v < number_range → v ≡ value_in (record_at narrow_kind slot 0 n)
-      → length (key_set set) ≤ 8 → base + 1024 ≤ length s → IsRest rest rest'
-      → Bytes t u at till (set_command (118 ∷ slash ∷ digits k ++ (slash ∷ id)) (digits v)) → Versioning i s base slot set u till rest' (n + 1)
-  unfolding writes_at versions_text version_command version_name
-  versioning-next id v rest' u till is short fits at_n o r less b =
-      let e : key_set rest ≡ k ∷ key_set rest' = first-and-rest rest k rest' low less in
-      let w : Write = record { key = k; value = value_in (record_at narrow_kind slot 0 n) } in
-      let c : set_command (118 ∷ slash ∷ digits k ++ (slash ∷ id)) (digits v) ≡ version_command i w =
-      ap₂ (λ (x : List ℕ) (y : ℕ). set_command (118 ∷ slash ∷ digits k ++ (slash ∷ x)) (digits y)) is at_n in
-      let m : till ≤ at + 83 = omega (arith, b.0, version-long k id v low.0 short fits) in
-      let q : Writing s base (versions_at i slot 1 (key_set set)) t at (version_command i w ++ versions_at i slot (suc n) (key_set rest')) =
-      subst (λ (ks : List ℕ). Writing s base (versions_at i slot 1 (key_set set)) t at (versions_at i slot n ks)) e h.writing in
-      let p : Wrote t u at till (version_command i w) = wrote-bytes t u at till _ (subst (λ (x : List ℕ). Bytes t u at till x) c b) in
-      let inside : till ≤ length s = omega (arith, versioning-room o r, m, h.writing.long) in
-      record {
-        writing = rw (add-one n) (writing-next s base _ t at (version_command i w) (versions_at i slot (suc n) (key_set rest')) u till q p inside);
-        room = omega (arith, h.room, m, ap length e);
-        counted = omega (arith, h.counted, ap length e);
-      }
-
-pub versioning-ends : (i : Id) (s : List ℕ) (base : ℕ) (slot : List ℕ) (set : ℕ) (t : List ℕ) (at rest n : ℕ) → Versioning i s base slot set t at rest n → rest ≡ 0
-    → Wrote s t base at (versions_at i slot 1 (key_set set))
-unfolding writes_at versions_text
-versioning-ends i s base slot set t at rest n h e =
-    let none : key_set rest ≡ [] = ap key_set e ∙ set-none in
-    writing-ends s base _ t at (subst (λ (ks : List ℕ). Writing s base (versions_at i slot 1 (key_set set)) t at (versions_at i slot n ks)) none h.writing)
+  pub versioning-ends : left ≡ [] → Wrote s t base at (versions_at i slot 1 whole)
+  unfolding writes_at versions_text
+  versioning-ends e = writing-ends s base _ t at (subst (λ (l : List ℕ). Writing s base (versions_at i slot 1 whole) t at (versions_at i slot n l)) e h.writing)
 
 -- ── the whole transaction ──
 module _ (slot : List ℕ) (e : machine.Entry.Entry) where

@@ -12,12 +12,12 @@ ghost use Rattle.resp.specs.Streams.{id_text, versions_text, transaction_text, s
 ghost use Rattle.resp.specs.Exports.{writes_at, transaction_at, export};
 ghost use Rattle.exporting.specs.Order.{AreWritten, backwards};
 
-use keysets::{lowest_key, without_lowest};
-use model::{Answer, Entry, Kind, Station, wide};
+use keysets::Keys;
+use model::{Answer, Entry, Kind, Refusal, Station};
 use reading::{Candidates, clocks_of, held_of, newest_first, txns_of};
 use records::value_in;
 use recovery::scan_of;
-use resp::{ID_TEXT, Transfer, write_commit_command, write_id, write_version_command};
+use resp::{ID_TEXT, Refused, Transfer, write_commit_command, write_id, write_version_command};
 
 // The bytes of the target.
 const TARGET: usize = 65536;
@@ -28,15 +28,10 @@ fn write_versions(out: &mut [u8], start: usize, slot: &[u8], id: &[u8], e: Entry
     ensures { (result ≡ start + length (versions_text e.id (writes_at slot.now 0 1 (key_set e.keys)))) × (result ≤ start + 83 * length (key_set e.keys)) × (out.new ≡ written out.old start (versions_text e.id (writes_at slot.now 0 1 (key_set e.keys)))) }
 {
     let mut at = start;
-    let mut rest = e.keys;
-    let mut n = 1;
-    while rest != 0 {
-        let key = lowest_key(rest);
-        let place = Station::RECORD * n;
+    for (n, key) in Keys(e.keys).enumerate() {
+        let place = Station::RECORD * (n + 1);
         let value = value_in(&slot[place..place + Station::RECORD]);
         at = write_version_command(out, at, key, id, value);
-        rest = without_lowest(rest);
-        n += 1;
     }
     at
 }
@@ -46,9 +41,8 @@ fn write_transaction(out: &mut [u8], start: usize, slot: &[u8], e: Entry) -> usi
     requires { (length slot.now ≡ slot_size narrow_kind) × (1 ≤ length (key_set e.keys)) × (length (key_set e.keys) ≤ 8) × (start + 1024 ≤ length out.old) }
     ensures { (result ≡ start + length (transaction_text (transaction_at slot.now 0 (listed_entry e)))) × (result ≤ start + 747) × (out.new ≡ written out.old start (transaction_text (transaction_at slot.now 0 (listed_entry e)))) }
 {
-    let id = e.id;
     let mut text = [0u8; ID_TEXT];
-    let size = write_id(&mut text, id);
+    let size = write_id(&mut text, e.id);
     let at = write_versions(out, start, slot, &text[..size], e);
     write_commit_command(out, at, &text[..size], e.keys)
 }
@@ -63,15 +57,11 @@ fn write_stream(
     requires { (length out.old ≡ 65536) × (length store.now ≡ store_size narrow_kind) × AreWritten (listed_entries entries) order.n order.slots }
     ensures { (result ≡ length (stream_of (backwards store.now (listed_entries entries) order.slots order.n))) × (out.new ≡ written out.old 0 (stream_of (backwards store.now (listed_entries entries) order.slots order.n))) }
 {
-    let slots = order.slots;
     let mut at = 0;
-    let mut i = order.n;
-    while 0 < i {
-        i -= 1;
-        let d = wide(slots[i]);
-        let e = entries[d];
-        let begin = Station::SLOT * d;
-        at = write_transaction(out, at, &store[begin..begin + Station::SLOT], e);
+    for &slot in order.slots[..order.n].iter().rev() {
+        let d = usize::from(slot);
+        let place = Station::SLOT * d;
+        at = write_transaction(out, at, &store[place..place + Station::SLOT], entries[d]);
     }
     at
 }
@@ -81,23 +71,17 @@ fn write_stream(
 pub fn export(store: &[u8], target: &mut [u8]) -> Transfer
     ensures { (result ≡ (export store.now target.old).answer) × (target.new ≡ (export store.now target.old).target) }
 {
-    if store.len() != Station::STORE {
-        return Transfer::Refused(1, 0);
-    }
-    if target.len() != TARGET {
-        return Transfer::Refused(1, 0);
+    if store.len() != Station::STORE || target.len() != TARGET {
+        return Err(Refusal::StoreLength.into());
     }
     let scanned = scan_of(Kind::Narrow, store);
-    let said = scanned.answer;
-    if let Answer::Refused(number, slot) = said {
-        return Transfer::Refused(number, slot);
+    if let Answer::Refused(number, slot) = scanned.answer {
+        return Err(Refused { number, slot });
     }
-    let station = scanned.station;
-    let entries = station.entries;
+    let entries = scanned.station.entries;
     let held = held_of(entries);
     let clocks = clocks_of(entries);
     let txns = txns_of(entries);
     let order = newest_first(&held, &clocks, &txns);
-    let size = write_stream(target, store, entries, order);
-    Transfer::Done(size)
+    Ok(write_stream(target, store, entries, order))
 }

@@ -5,77 +5,61 @@
 ghost use Rattle.std.specs.Prelude.{◌≤◌, length};
 
 use exporting::export;
-use input::read_full;
-use resp::Transfer;
-use std::io::{Read, Stderr, Stdin, Stdout};
+use input::{has_ended, read_full};
+use resp::Refused;
+use std::fmt;
+use std::io::{Stdin, Stdout};
 
 // The bytes of a store and one more, which tells a longer input; of the target.
 const INPUT: usize = 13825;
 
 const TARGET: usize = 65536;
 
-// Why the program stops.
+// Why no stream is written.
 #[derive(Clone, Copy)]
 enum Stop {
-    Written,
-    Refused(u8, u8),
+    Refused(Refused),
     Unread,
     Unwritten,
 }
 
-// The input has ended. A read that fails leaves off like one at the end: another one tells them apart.
-fn has_ended(stdin: &mut Stdin) -> bool {
-    let mut more = [0u8; 1];
-    let Ok(n) = stdin.read(&mut more) else {
-        return false;
-    };
-    n == 0
+impl From<Refused> for Stop {
+    fn from(refused: Refused) -> Stop {
+        Stop::Refused(refused)
+    }
 }
 
-// The stream of a store, written out.
-fn write_stream(stdout: Stdout, store: &[u8]) -> Stop {
-    let mut target = [0u8; TARGET];
-    let said = export(store, &mut target);
-    match said {
-        Transfer::Done(n) => {
-            if stdout.write_all(&target[..n]).is_ok() {
-                return Stop::Written;
-            }
-            return Stop::Unwritten;
-        }
-        Transfer::Refused(number, slot) => {
-            return Stop::Refused(number, slot);
+impl fmt::Display for Stop {
+    fn fmt<W: fmt::Write>(&self, f: &mut fmt::Formatter<W>) -> fmt::Result {
+        match self {
+            Stop::Refused(Refused { number, slot }) => write!(f, "refused,{number},{slot}"),
+            Stop::Unread => write!(f, "standard input cannot be read"),
+            Stop::Unwritten => write!(f, "standard output cannot be written"),
         }
     }
 }
 
-fn run(stdin: &mut Stdin, stdout: Stdout) -> Stop {
+// The stream of a store, written out.
+fn write_stream(stdout: Stdout, store: &[u8]) -> Result<(), Stop> {
+    let mut target = [0u8; TARGET];
+    let n = export(store, &mut target)?;
+    stdout.write_all(&target[..n]).map_err(|_| Stop::Unwritten)
+}
+
+fn run(stdin: &mut Stdin, stdout: Stdout) -> Result<(), Stop> {
     let mut input = [0u8; INPUT];
     let n = read_full(stdin, &mut input);
-    if n < INPUT {
-        if !has_ended(stdin) {
-            return Stop::Unread;
-        }
+    if n < INPUT && !has_ended(stdin) {
+        return Err(Stop::Unread);
     }
     write_stream(stdout, &input[..n])
 }
 
-// Says why there is no stream. The exit status is 0 all the same.
-fn report(stderr: Stderr, stop: Stop) {
-    let said = match stop {
-        Stop::Written => Ok(()),
-        Stop::Refused(number, slot) => {
-            stderr.eprintln(format_args!("exportstore: refused,{number},{slot}"))
-        }
-        Stop::Unread => stderr.write_all(b"exportstore: standard input cannot be read\n"),
-        Stop::Unwritten => stderr.write_all(b"exportstore: standard output cannot be written\n"),
-    };
-    // Where standard error cannot be written either, nothing is left to say.
-    let _ = said;
-}
-
+// The exit status is 0 all the same where there is no stream.
 fn main(rt: HostRuntime) {
     let mut stdin = rt.stdin();
-    let stop = run(&mut stdin, rt.stdout());
-    report(rt.stderr(), stop);
+    if let Err(stop) = run(&mut stdin, rt.stdout()) {
+        // Where standard error cannot be written either, nothing is left to say.
+        let _ = eprintln!(rt; "exportstore: {stop}");
+    }
 }

@@ -4,3 +4,4 @@ pub mod RowLaws
 pub mod PlaceLaws
 pub mod Round
 pub mod Example
+pub mod Chunks

@@ -1,5 +1,5 @@
--- Parts of one size that lie one after the other (specs/Layout): a loop that tests them, one that reads them, one that writes them.
-use Rattle.image.proofs.Names.{ℕ, zero, suc, ◌+◌, ◌*◌, ◌-◌, ◌<◌, ◌≤◌, ◌≡◌, refl, sym, ap, ◌∙◌, Bool, true, false, List, ◌∷◌, ◌++◌, map, [], append-nil, append_assoc, length, take, drop, get_or, replicate, set, length-set, length-drop, length-replicate, drop_of_length-le, take_all, take-suc-set, take_at, drop_at, take-add, take-append-add, drop-cons, drop-drop, length-take-le, mul-zero, mul-suc, mul-one, mul-le-mul_left, add_comm, arith, add-one, mid_of, put_mid, mid_len, same_len_mid, all, bytes, flat, parts}
+-- Parts of one size that lie one after the other (specs/Layout): a loop that reads them, one that writes them.
+use Rattle.image.proofs.Names.{ℕ, zero, suc, ◌+◌, ◌*◌, ◌-◌, ◌<◌, ◌≤◌, ◌≡◌, refl, sym, ap, ◌∙◌, List, ◌∷◌, ◌++◌, map, [], append-nil, append_assoc, length, take, drop, get_or, set, length-set, length-drop, drop_of_length-le, take_all, take-suc-set, take_at, drop_at, take-add, take-append-add, drop-cons, drop-drop, length-take-le, mul-suc, mul-le-mul_left, add_comm, arith, add-one, mid_of, put_mid, mid_len, same_len_mid, bytes, flat, parts}
 
 -- ── where a part lies ──
 pub next_place : (k i : ℕ) → k * (i + 1) ≡ k * i + k
@@ -38,50 +38,12 @@ unfolding parts
 parts-length k zero b = refl
 parts-length k (suc n) b = ap suc (parts-length k n (drop k b))
 
--- ── tested one by one ──
-pub record Tested (p : List ℕ → Bool) (k n : ℕ) (b : List ℕ) (i : ℕ) : Type 0 where
-  pub within : i ≤ n
-  pub left : all p (parts k n b) ≡ all p (parts k (n - i) (drop (k * i) b))
-
-pub test-start : (p : List ℕ → Bool) (k n : ℕ) (b : List ℕ) → Tested p k n b 0
-test-start p k n b =
-    let e : n - 0 ≡ n = omega arith in
-    record { within = omega arith; left = rw (mul-zero k, e) }
-
-module _ {p : List ℕ → Bool} {k n : ℕ} {b : List ℕ} {i : ℕ} (t : Tested p k n b i) where
-  pub test-next : i < n → p (take (k * i + k - k * i) (drop (k * i) b)) ≡ true → Tested p k n b (i + 1)
-  unfolding all
-  test-next o h = record { within = omega arith; left = t.left ∙ ap (all p) (parts_next k n i b o) ∙ (rw (sym (ap p (part-is b (k * i) k)) ∙ h, all)) }
-
-  pub test-stop : i < n → p (take (k * i + k - k * i) (drop (k * i) b)) ≡ false → all p (parts k n b) ≡ false
-  unfolding all
-  test-stop o h = t.left ∙ ap (all p) (parts_next k n i b o) ∙ (rw (sym (ap p (part-is b (k * i) k)) ∙ h, all))
-
-  pub test-end : n ≤ i → all p (parts k n b) ≡ true
-  unfolding all parts
-  test-end h =
-      let e : n - i ≡ 0 = omega arith in
-      t.left ∙ (rw e)
-
 module _ {A : Type 0} where
   -- ── read one by one ──
   pub record Taken (g : List ℕ → A) (k n : ℕ) (b : List ℕ) (xs : List A) (i : ℕ) : Type 0 where
     pub within : i ≤ n
     pub long : length xs ≡ n
     pub read : take i xs ++ map g (parts k (n - i) (drop (k * i) b)) ≡ map g (parts k n b)
-
-  -- none of them yet
-  pub read_none : (g : List ℕ → A) (k n : ℕ) (b : List ℕ) (xs : List A) → length xs ≡ n → Taken g k n b xs 0
-  read_none g k n b xs l =
-      let e : n - 0 ≡ n = omega arith in
-      record { within = omega arith; long = l; read = rw (mul-zero k, e) }
-
-  -- all of them the first, as the loops over structs begin
-  pub read-start : (g : List ℕ → A) (k n : ℕ) (b : List ℕ) (x : A) → x ≡ g (take k b) → Taken g k (suc n) b (replicate (suc n) x) 1
-  unfolding parts
-  read-start g k n b x h =
-      let e : suc n - 1 ≡ n = omega arith in
-      record { within = omega arith; long = length-replicate (suc n) x; read = rw (h, mul-one k, e) }
 
   module _ {g : List ℕ → A} {k n : ℕ} {b : List ℕ} {xs : List A} {i : ℕ} (t : Taken g k n b xs i) where
     pub read_next : (x : A) → i < n → x ≡ g (take (k * i + k - k * i) (drop (k * i) b)) → Taken g k n b (set xs i x) (i + 1)
@@ -146,9 +108,6 @@ module _ {A : Type 0} where
     pub many : length xs ≡ n
     pub long : length w ≡ k * n
     pub written : take (k * i) w ++ flat f (drop i xs) ≡ flat f xs
-
-  pub write-start : (f : A → List ℕ) (k n : ℕ) (xs : List A) (w : List ℕ) → length xs ≡ n → length w ≡ k * n → Put f k n xs w 0
-  write-start f k n xs w m l = record { within = omega arith; many = m; long = l; written = rw (mul-zero k) }
 
   module _ {f : A → List ℕ} {k n : ℕ} {xs : List A} {w : List ℕ} {i : ℕ} (t : Put f k n xs w i) where
     pub write-next : (y : List ℕ) (d : A) → i < n → length y ≡ length (mid_of (k * i) (k * i + k - k * i) w) → y ≡ f (get_or xs i d) → Put f k n xs (put_mid (k * i) (k * i + k - k * i) w y) (i + 1)

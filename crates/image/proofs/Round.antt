@@ -103,13 +103,6 @@ pub image-only : (b : List ℕ) → is_image b ≡ true → station_bytes (stati
 unfolding is_image
 image-only b h = same_true (station_bytes (station_in b)) b (and_right _ _ h)
 
--- what is read of bytes that are an image: the station, and its bytes are these
-pub image-read : (b : List ℕ) (whole : Bool) (st : Station) → whole ≡ is_image b → (is_image b ≡ true → st ≡ station_in b) → whole ≡ true → (is_image b ≡ true) × (st ≡ station_in b) × (station_bytes st ≡ b)
-image-read b whole st e s h =
-    let i : is_image b ≡ true = sym e ∙ h in
-    let q : st ≡ station_in b = s i in
-    (i, q, ap station_bytes q ∙ image-only b i)
-
 -- two images of one station are the same bytes
 pub image-once : (b c : List ℕ) → is_image b ≡ true → is_image c ≡ true → station_in b ≡ station_in c → b ≡ c
 image-once b c hb hc e = sym (image-only b hb) ∙ ap station_bytes e ∙ image-only c hc

@@ -9,6 +9,7 @@ use mathlib.Core.List.{List, [], ◌∷◌, map, Permᴰ, Memᴰ}
 use mathlib.Core.Option.{Option, some, none-ne-some}
 use lib.ListN.{length, take}
 use native.Mathlib.Omega.{arith}
+use Rattle.std.specs.Prelude.{Result, Ok, Err}
 use Rattle.model.specs.Kinds.{narrow_kind, store_size}
 use Rattle.model.specs.Ranges.{Every, IsByte}
 use Rattle.model.specs.Scan.{scan}
@@ -22,8 +23,7 @@ use Rattle.history.proofs.Storing.{first-written}
 use Rattle.history.proofs.Recovering.{cut-rule-of}
 use Rattle.history.proofs.Theorem.{State, begin-state}
 use Rattle.history.proofs.Moving.{scan-holds, one-slot, legs-keep}
-use Rattle.resp.specs.declared.Transfer.{Transfer}
-use Rattle.resp.specs.declared.Transfer.TheVariants.{Done, Refused}
+use Rattle.resp.specs.declared.Refused.{Refused}
 use Rattle.resp.specs.Streams.{Transaction, TransactionFits, CommittedSet}
 use Rattle.resp.specs.Inverse.{transactions_in}
 use Rattle.resp.specs.Exports.{committed_set, export}
@@ -72,7 +72,7 @@ pub record Told (bs : List ℕ) (m : Import) : Type 0 where
   pub few : length transactions ≤ narrow_kind.slots
   pub makes : m.store ≡ filled transactions
 
-pub import-told : (bs s : List ℕ) (n : ℕ) → (import bs s).answer ≡ Done n → Told bs (import bs s)
+pub import-told : (bs s : List ℕ) (n : ℕ) → (import bs s).answer ≡ Ok n → Told bs (import bs s)
 import-told bs s n h =
     let l = done-store bs s n h in
     let k = (taken-exactly bs s l n).0 h in
@@ -84,8 +84,8 @@ pub import-keeps : (bs s : List ℕ) (w : World) → State w → State (after_an
 unfolding after_answer
 import-keeps bs s w sw = go (import bs s).answer refl
   where
-    go : (a : Transfer) → (import bs s).answer ≡ a → State (after_answer a bs (import bs s).store w)
-    go (Done n) h =
+    go : (a : Result ℕ Refused) → (import bs s).answer ≡ a → State (after_answer a bs (import bs s).store w)
+    go (Ok n) h =
         let r = import-told bs s n h in
         let xs = r.transactions in
         let l : Lasting narrow_kind (filled xs) (ledger_read (some xs)) = unfold ledger_read in filled-lasts xs r.set r.few in
@@ -94,7 +94,7 @@ import-keeps bs s w sw = go (import bs s).answer refl
               (subst (λ (x : List ℕ). Lasting narrow_kind x (ledger_read (some xs))) (sym r.makes) l);
           runs = tt;
         }
-    go (Refused n d) h = sw
+    go (Err r) h = sw
 
 pub part-keeps : (p : Part) (w : World) → PartInRange p → State w → State (after_part p w)
 unfolding after_part
@@ -118,7 +118,7 @@ found-set : (s : List ℕ) → length s ≡ store_size narrow_kind → KeepsRule
 found-set s l k = rw (scan-holds narrow_kind s l k) (in-store-set s)
 
 -- "Export followed by import gives the same committed set.": what a scan finds, ids, keys and values, by the stores; one in another order
-module _ (s t : List ℕ) (n : ℕ) (b : Every IsByte s) (h : (export s t).answer ≡ Done n) (s₂ : List ℕ) (l : IsStore s₂) where
+module _ (s t : List ℕ) (n : ℕ) (b : Every IsByte s) (h : (export s t).answer ≡ Ok n) (s₂ : List ℕ) (l : IsStore s₂) where
   abbrev stream : List ℕ
   stream = take n (export s t).target
 

@@ -1,6 +1,6 @@
 -- 02 §11: histories that go on through imports. "An import not refused ends the store's history. A cut one is begun again; the cut rule's history
 -- starts anew from a finished one, scanned for one station, its tickets and values counting as put and reported stored."
-use Rattle.std.specs.Prelude.{List, [], ◌∷◌, map, ℕ}
+use Rattle.std.specs.Prelude.{List, [], ◌∷◌, map, ℕ, Result, Ok, Err}
 use Rattle.std.proofs.Math.Option.{Option, some, none}
 use Rattle.model.specs.Kinds.{Kind, narrow_kind, KindFits}
 use Rattle.model.specs.Ranges.{Every}
@@ -9,8 +9,7 @@ use Rattle.history.specs.Matches.{lookup}
 use Rattle.history.specs.Histories.{down, World, begin}
 use Rattle.history.specs.CutRule.{CutRule}
 use Rattle.history.specs.Moves.{Leg, go_on, LegsInRange}
-use Rattle.resp.specs.declared.Transfer.{Transfer}
-use Rattle.resp.specs.declared.Transfer.TheVariants.{Done, Refused}
+use Rattle.resp.specs.declared.Refused.{Refused}
 use Rattle.resp.specs.Streams.{Transaction}
 use Rattle.resp.specs.Inverse.{transactions_in}
 use Rattle.resp.specs.Imports.{import}
@@ -28,9 +27,9 @@ ledger_read none = ledger_of []
 ledger_read (some xs) = ledger_of xs
 
 -- by the answer: no station runs, so the next call that does anything is a scan; a refusal alters nothing
-unfoldable pub after_answer : Transfer → List ℕ → List ℕ → World → World
-after_answer (Done n) bs s w = record { kind = narrow_kind; node = down; store = s; ledger = ledger_read (transactions_in bs) }
-after_answer (Refused n d) bs s w = w
+unfoldable pub after_answer : Result ℕ Refused → List ℕ → List ℕ → World → World
+after_answer (Ok n) bs s w = record { kind = narrow_kind; node = down; store = s; ledger = ledger_read (transactions_in bs) }
+after_answer (Err r) bs s w = w
 
 -- a part of a history
 pub data Part : Type 0 where

@@ -1,12 +1,11 @@
 -- What a stream comes to, from one pass and what is found without the first 64; and what an import then says.
-use Prim.Native.Nat.{ℕ, ◌+◌, ◌<◌, ◌≤◌}
+use Prim.Native.Nat.{ℕ, ◌<◌, ◌≤◌}
 use mathlib.Core.Path.{◌≡◌, refl, sym, ap, subst, ◌∙◌}
 use mathlib.Core.Logic.{◌≢◌, ◌⊎◌, inl, inr}
 use mathlib.Core.Bool.{Bool, true, false, true≢false}
 use mathlib.Core.List.{List, []}
 use mathlib.Core.Option.{some, none, none-ne-some}
-use lib.ListN.{length, drop, length-drop, drop_of_length-le}
-use lib.Seq.{drop-drop}
+use lib.ListN.{length, drop, drop_of_length-le}
 use native.Mathlib.Omega.{arith}
 use borrow.Author.Tests.{ne_eqb}
 use Rattle.model.specs.Lists.{distinct}
@@ -22,9 +21,10 @@ use Rattle.resp.proofs.SequenceLaws.{sequence-none, stream-some, stream-refused}
 use Rattle.importing.specs.Passes.{txns_of, PassFound, BadSays}
 use Rattle.importing.proofs.OnceLaws.{distinct-drop, once-rest}
 use Rattle.importing.proofs.AgeLaws.{ordered-drop}
+use Rattle.importing.proofs.ReadingLaws.{empty}
 
 -- ── one pass ──
-module _ {n size : ℕ} {bs w₀ w : List ℕ} (p : PassFound n size bs w₀ w) where
+module _ {n : ℕ} {left bs w₀ w : List ℕ} (p : PassFound n left bs w₀ w) where
   abbrev rest : List Transaction
   rest = drop narrow_kind.slots p.transactions
 
@@ -48,19 +48,19 @@ module _ {n size : ℕ} {bs w₀ w : List ℕ} (p : PassFound n size bs w₀ w) 
       go (inl d) = absurd (true≢false (sym (rest-txns ∙ distinct-drop narrow_kind.slots (txns_of p.transactions) d) ∙ h))
       go (inr d) = d
 
-  pub pass-none : transactions_in (drop size bs) ≡ none → transactions_in bs ≡ none
+  pub pass-none : transactions_in left ≡ none → transactions_in bs ≡ none
   pass-none h = go (bool_cases (none_twice rest))
     where
       go : (none_twice rest ≡ true) ⊎ (none_twice rest ≡ false) → transactions_in bs ≡ none
-      go (inl d) = absurd (none-ne-some _ (sym h ∙ stream-some (drop size bs) rest p.left rest-ordered d))
+      go (inl d) = absurd (none-ne-some _ (sym h ∙ stream-some left rest p.left rest-ordered d))
       go (inr d) = stream-refused bs p.transactions p.read (and-none-right _ _ (twice-one d))
 
-  pub pass-some : (ys : List Transaction) → transactions_in (drop size bs) ≡ some ys → transactions_in bs ≡ some p.transactions
+  pub pass-some : (ys : List Transaction) → transactions_in left ≡ some ys → transactions_in bs ≡ some p.transactions
   pass-some ys h = go (bool_cases (none_twice rest))
     where
       go : (none_twice rest ≡ true) ⊎ (none_twice rest ≡ false) → transactions_in bs ≡ some p.transactions
       go (inl d) = once-all d
-      go (inr d) = absurd (none-ne-some _ (sym (stream-refused (drop size bs) rest p.left (and-none-right _ _ d)) ∙ h))
+      go (inr d) = absurd (none-ne-some _ (sym (stream-refused left rest p.left (and-none-right _ _ d)) ∙ h))
 
   -- there are no others
   pub pass-few : n ≤ narrow_kind.slots → transactions_in bs ≡ some p.transactions
@@ -69,15 +69,14 @@ module _ {n size : ℕ} {bs w₀ w : List ℕ} (p : PassFound n size bs w₀ w) 
       let short : length p.transactions ≤ narrow_kind.slots = omega (arith, p.count) in
       once-all (ap none_twice (drop_of_length-le p.transactions short))
 
-  pub pass_same : (r : Bool) → BadSays r (drop size bs) → BadSays r bs
+  pub pass_same : (r : Bool) → BadSays r left → BadSays r bs
   unfolding BadSays
   pass_same r h = (λ e. pass-none (h.0 e), λ e. let (ys, q) = h.1 e in (p.transactions, pass-some ys q))
 
 -- ── passes over what is left ──
--- what is left from a place on says whether it is a stream
-pub record Searching (s : List ℕ) (at : ℕ) : Type 0 where
-  pub inside : at ≤ length s
-  pub same : (r : Bool) → BadSays r (drop at s) → BadSays r s
+-- what is left says whether it is a stream
+pub record Searching (s left : List ℕ) : Type 0 where
+  pub same : (r : Bool) → BadSays r left → BadSays r s
 
 pub bad-yes : (bs : List ℕ) → transactions_in bs ≡ none → BadSays true bs
 unfolding BadSays
@@ -87,26 +86,20 @@ pub bad-no : (bs : List ℕ) (xs : List Transaction) → transactions_in bs ≡ 
 unfolding BadSays
 bad-no bs xs h = (λ e. absurd (true≢false (sym e)), λ _. (xs, h))
 
-pub searching-none : (s : List ℕ) → Searching s 0
-searching-none s = record { inside = omega arith; same = λ r h. h }
+module _ {s left : List ℕ} (i : Searching s left) where
+  pub searching-bad : transactions_in left ≡ none → BadSays true s
+  searching-bad h = i.same true (bad-yes left h)
 
-module _ {s : List ℕ} {at : ℕ} (i : Searching s at) where
-  pub searching-bad : transactions_in (drop at s) ≡ none → BadSays true s
-  searching-bad h = i.same true (bad-yes (drop at s) h)
-
-  pub searching-all : length s ≤ at → BadSays false s
+  pub searching-all : length left ≡ 0 → BadSays false s
   unfolding oldest_first none_twice distinct
-  searching-all h = i.same false (subst (BadSays false) (sym (drop_of_length-le s h)) (bad-no [] [] (stream-some [] [] sequence-none refl refl)))
+  searching-all h = i.same false (subst (BadSays false) (sym (empty left h)) (bad-no [] [] (stream-some [] [] sequence-none refl refl)))
 
-  module _ {n size : ℕ} {w₀ w : List ℕ} (p : PassFound n size (drop at s) w₀ w) where
+  module _ {n : ℕ} {rest w₀ w : List ℕ} (p : PassFound n rest left w₀ w) where
     pub searching-few : n ≤ narrow_kind.slots → BadSays false s
-    searching-few h = i.same false (bad-no (drop at s) p.transactions (pass-few p h))
+    searching-few h = i.same false (bad-no left p.transactions (pass-few p h))
 
-    pub size-inside : at + size ≤ length s
-    size-inside = omega (arith, p.inside, length-drop at s, i.inside)
-
-    pub searching-more : Searching s (at + size)
-    searching-more = record { inside = size-inside; same = λ r h. i.same r (pass_same p r (subst (BadSays r) (sym (drop-drop size at s)) h)) }
+    pub searching-more : Searching s rest
+    searching-more = record { same = λ r h. i.same r (pass_same p r h) }
 
 -- ── an import ──
 module _ (s t : List ℕ) where

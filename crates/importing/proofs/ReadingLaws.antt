@@ -5,9 +5,9 @@ use mathlib.Core.Logic.{◌≢◌}
 use mathlib.Core.Bool.{true, false}
 use mathlib.Core.List.{List, [], ◌∷◌, ◌++◌, map-append, append_assoc, append-nil}
 use mathlib.Core.Option.{Option, some, none}
-use lib.ListN.{length, take, drop, set, length-append, length-map, length-set, length-drop, drop_of_length-le}
-use lib.Seq.{take_all, take-append-le, drop-append-le, drop-drop, take-suc-set}
-use native.Mathlib.Nat.{lt_irrefl}
+use lib.ListN.{length, take, drop, set, length-append, length-map, length-set, drop_of_length-le}
+use lib.Seq.{take_all, take-append-le, drop-append-le, take-suc-set}
+use native.Mathlib.Nat.{lt_irrefl, suc-ne-zero}
 use native.Mathlib.Omega.{arith}
 use native.Mathlib.Numerals.{add-one}
 use borrow.Rule.Slice.PartMut.{put_mid, same_len_mid}
@@ -26,6 +26,10 @@ use Rattle.importing.proofs.OnceLaws.{once_more, twice}
 use Rattle.importing.proofs.AgeLaws.{last_id, last_more, ordered-more, unordered}
 use Rattle.importing.proofs.RoomLaws.{room-more}
 
+pub empty : (l : List ℕ) → length l ≡ 0 → l ≡ []
+empty [] h = refl
+empty (x ∷ l) h = absurd (suc-ne-zero (length l) h)
+
 -- ── transactions before what is read ──
 followed-none : (r : Option (List Transaction)) → followed [] r ≡ r
 unfolding ◌then◌
@@ -37,30 +41,27 @@ unfolding ◌then◌
 followed-more xs x none = refl
 followed-more xs x (some ys) = ap some (sym (append_assoc xs (x ∷ []) ys))
 
--- ── the first `at` bytes are read: n transactions; the numbers of the first `kept`, up to 64, are in a table, and their slots in the room ──
-pub record Reading (s w₀ w ts : List ℕ) (kept size : ℕ) (last : Id) (n at : ℕ) : Type 0 where
+-- ── n transactions are read, and `left` is left; the numbers of the first `kept`, up to 64, are in a table, and their slots in the room; what comes after these is `rest` ──
+pub record Reading (s w₀ w ts : List ℕ) (kept : ℕ) (rest : List ℕ) (last : Id) (n : ℕ) (left : List ℕ) : Type 0 where
   pub passed : List Transaction
-  pub inside : at ≤ length s
-  pub read : sequence_in s ≡ followed passed (sequence_in (drop at s))
+  pub read : sequence_in s ≡ followed passed (sequence_in left)
   pub ordered : oldest_first passed ≡ true
   pub newest : last ≡ last_id no_id passed
   pub once : once_among narrow_kind.slots (txns_of passed) ≡ true
   pub count : n ≡ length passed
-  pub short : n ≤ at
+  pub short : n + length left ≤ length s
   pub kept-are : kept ≡ min n narrow_kind.slots
   pub places : length ts ≡ narrow_kind.slots
   pub column : take kept ts ≡ take narrow_kind.slots (txns_of passed)
-  pub size-inside : size ≤ at
-  pub some_byte : 0 < n → 0 < size
-  pub left : sequence_in (drop size s) ≡ followed (drop narrow_kind.slots passed) (sequence_in (drop at s))
+  pub shorter : 0 < n → length rest < length s
+  pub past : sequence_in rest ≡ followed (drop narrow_kind.slots passed) (sequence_in left)
   pub long : length w ≡ room_size
   pub made : n ≤ narrow_kind.slots → w ≡ take (slot_size narrow_kind * (narrow_kind.slots + 1 - n)) w₀ ++ slots_down passed
 
-pub reading-none : (s w ts : List ℕ) → length ts ≡ narrow_kind.slots → length w ≡ room_size → Reading s w w ts 0 0 no_id 0 0
+pub reading-none : (s w ts : List ℕ) → length ts ≡ narrow_kind.slots → length w ≡ room_size → Reading s w w ts 0 s no_id 0 s
 unfolding oldest_first last_id once_among slots_down
 reading-none s w ts p l = record {
   passed = [];
-  inside = omega arith;
   read = sym (followed-none (sequence_in s));
   ordered = refl;
   newest = refl;
@@ -70,33 +71,32 @@ reading-none s w ts p l = record {
   kept-are = refl;
   places = p;
   column = refl;
-  size-inside = omega arith;
-  some_byte = λ o. o;
-  left = sym (followed-none (sequence_in s));
+  shorter = λ o. absurd (omega (arith, o));
+  past = sym (followed-none (sequence_in s));
   long = l;
   made = λ _. sym (append-nil (take room_size w) ∙ take_all room_size w (omega (arith, l)));
 }
 
-module _ {s w₀ w ts : List ℕ} {kept size : ℕ} {last : Id} {n at : ℕ} (r : Reading s w₀ w ts kept size last n at) (o : at < length s) where
+module _ {s w₀ w ts : List ℕ} {kept : ℕ} {rest : List ℕ} {last : Id} {n : ℕ} {left : List ℕ} (r : Reading s w₀ w ts kept rest last n left) where
   -- the slot that the next one goes to
   abbrev place : ℕ
   place = slot_size narrow_kind * (narrow_kind.slots - kept)
 
   -- no transaction comes next
-  pub reading-stops : transaction_in (drop at s) ≡ none → transactions_in s ≡ none
+  pub reading-stops : 0 < length left → transaction_in left ≡ none → transactions_in s ≡ none
   unfolding ◌then◌
-  reading-stops h = stream-none s (r.read ∙ ap (followed r.passed) (sequence-stop (drop at s) (omega (arith, o, length-drop at s)) h))
+  reading-stops o h = stream-none s (r.read ∙ ap (followed r.passed) (sequence-stop left o h))
 
   -- one does
-  module _ {i : Id} {m : ℕ} {y : List ℕ} (t : TakenFound i m (drop at s) y) where
+  module _ {i : Id} {more y : List ℕ} (t : TakenFound i more left y) where
     abbrev x : Transaction
     x = t.transaction
 
     abbrev up_to : List Transaction
     up_to = r.passed ++ (x ∷ [])
 
-    step : sequence_in (drop at s) ≡ followed (x ∷ []) (sequence_in (drop (at + m) s))
-    step = sequence-step (drop at s) _ t.read ∙ ap (λ (l : List ℕ). followed (x ∷ []) (sequence_in l)) (drop-drop m at s)
+    step : sequence_in left ≡ followed (x ∷ []) (sequence_in more)
+    step = sequence-step left _ t.read
 
     txns-more : (ys : List Transaction) → txns_of (r.passed ++ (x ∷ ys)) ≡ txns_of r.passed ++ (i.txn ∷ txns_of ys)
     txns-more ys = map-append (λ (z : Transaction). z.id.txn) r.passed (x ∷ ys) ∙ ap (λ (j : Id). txns_of r.passed ++ (j.txn ∷ txns_of ys)) t.id-is
@@ -104,17 +104,17 @@ module _ {s w₀ w ts : List ℕ} {kept size : ℕ} {last : Id} {n at : ℕ} (r 
     -- whatever comes after it, they are none
     fails : ((ys : List Transaction) → (oldest_first (r.passed ++ (x ∷ ys)) and none_twice (r.passed ++ (x ∷ ys))) ≡ false) → transactions_in s ≡ none
     unfolding ◌then◌
-    fails f = go (sequence_in (drop (at + m) s)) refl
+    fails f = go (sequence_in more) refl
       where
-        all : (z : Option (List Transaction)) → sequence_in (drop (at + m) s) ≡ z → sequence_in s ≡ followed r.passed (followed (x ∷ []) z)
+        all : (z : Option (List Transaction)) → sequence_in more ≡ z → sequence_in s ≡ followed r.passed (followed (x ∷ []) z)
         all z e = r.read ∙ ap (followed r.passed) (step ∙ ap (followed (x ∷ [])) e)
 
-        go : (z : Option (List Transaction)) → sequence_in (drop (at + m) s) ≡ z → transactions_in s ≡ none
+        go : (z : Option (List Transaction)) → sequence_in more ≡ z → transactions_in s ≡ none
         go none e = stream-none s (all none e)
         go (some ys) e = stream-refused s (r.passed ++ (x ∷ ys)) (all (some ys) e) (f ys)
 
     pub reading-unordered : older last i ≡ false → transactions_in s ≡ none
-    reading-unordered h = fails (λ ys. and-none-left _ _ (unordered r.passed x ys (transaction-is (drop at s) _ t.read).fits.clock-from
+    reading-unordered h = fails (λ ys. and-none-left _ _ (unordered r.passed x ys (transaction-is left _ t.read).fits.clock-from
         (ap₂ older (sym r.newest) t.id-is ∙ h)))
 
     pub reading-repeated : member i.txn (take kept ts) ≡ true → transactions_in s ≡ none
@@ -123,34 +123,29 @@ module _ {s w₀ w ts : List ℕ} {kept size : ℕ} {last : Id} {n at : ℕ} (r 
         (ap (member i.txn) (sym r.column) ∙ h)))
       where
         some-txn : i.txn ≢ 0
-        some-txn e = let from = (transaction-is (drop at s) _ t.read).fits.txn-from in lt_irrefl 0 (omega (arith, from, e, ap (λ (j : Id). j.txn) t.id-is))
+        some-txn e = let from = (transaction-is left _ t.read).fits.txn-from in lt_irrefl 0 (omega (arith, from, e, ap (λ (j : Id). j.txn) t.id-is))
 
     module _ (older-last : older last i ≡ true) (new : member i.txn (take kept ts) ≡ false) (g : length y ≡ length (take (place + slot_size narrow_kind - place) (drop place w))) where
       abbrev w' : List ℕ
       w' = put_mid place (place + slot_size narrow_kind - place) w y
 
-      in_rest : m ≤ length s - at
-      in_rest = omega (arith, t.inside, length-drop at s)
-
-      more : (ts' : List ℕ) (k z : ℕ) → k ≡ min (n + 1) narrow_kind.slots → length ts' ≡ narrow_kind.slots → take k ts' ≡ take narrow_kind.slots (txns_of up_to) → z ≤ at + m → 0 < z
-          → sequence_in (drop z s) ≡ followed (drop narrow_kind.slots up_to) (sequence_in (drop (at + m) s))
+      read_on : (ts' : List ℕ) (k : ℕ) (z : List ℕ) → k ≡ min (n + 1) narrow_kind.slots → length ts' ≡ narrow_kind.slots → take k ts' ≡ take narrow_kind.slots (txns_of up_to) → length z < length s
+          → sequence_in z ≡ followed (drop narrow_kind.slots up_to) (sequence_in more)
           → (n + 1 ≤ narrow_kind.slots → w' ≡ take (slot_size narrow_kind * (narrow_kind.slots + 1 - (n + 1))) w₀ ++ slots_down up_to)
-          → Reading s w₀ w' ts' k z i (n + 1) (at + m)
-      more ts' k z ek p c a b f d = record {
+          → Reading s w₀ w' ts' k z i (n + 1) more
+      read_on ts' k z ek p c b f d = record {
         passed = up_to;
-        inside = omega (arith, in_rest, o);
-        read = r.read ∙ ap (followed r.passed) step ∙ followed-more r.passed x (sequence_in (drop (at + m) s));
+        read = r.read ∙ ap (followed r.passed) step ∙ followed-more r.passed x (sequence_in more);
         ordered = ordered-more r.passed x r.ordered (ap₂ older (sym r.newest) t.id-is ∙ older-last);
         newest = sym (last_more no_id r.passed x ∙ t.id-is);
         once = ap (once_among narrow_kind.slots) (txns-more []) ∙ once_more narrow_kind.slots (txns_of r.passed) i.txn r.once (ap (member i.txn) (sym r.column) ∙ new);
         count = omega (arith, r.count, length-append r.passed (x ∷ []));
-        short = omega (arith, r.short, t.some_byte);
+        short = omega (arith, r.short, t.shorter);
         kept-are = ek;
         places = p;
         column = c;
-        size-inside = a;
-        some_byte = λ _. b;
-        left = f;
+        shorter = λ _. b;
+        past = f;
         long = same_len_mid place (place + slot_size narrow_kind - place) w y g ∙ r.long;
         made = d;
       }
@@ -162,12 +157,12 @@ module _ {s w₀ w ts : List ℕ} {kept size : ℕ} {last : Id} {n at : ℕ} (r 
       upto-long = omega (arith, r.count, length-append r.passed (x ∷ []))
 
       -- one of the first 64
-      pub reading-kept : kept < narrow_kind.slots → length w₀ ≡ room_size → Reading s w₀ w' (set ts kept i.txn) (kept + 1) (at + m) i (n + 1) (at + m)
-      reading-kept h l₀ = more (set ts kept i.txn) (kept + 1) (at + m) (omega (arith, r.kept-are)) (length-set ts kept i.txn ∙ r.places)
+      pub reading-kept : kept < narrow_kind.slots → length w₀ ≡ room_size → Reading s w₀ w' (set ts kept i.txn) (kept + 1) more i (n + 1) more
+      reading-kept h l₀ = read_on (set ts kept i.txn) (kept + 1) more (omega (arith, r.kept-are)) (length-set ts kept i.txn ∙ r.places)
           (ap (λ (k : ℕ). take k (set ts kept i.txn)) (add-one kept) ∙ take-suc-set ts kept i.txn (omega (arith, r.places)) ∙ ap (λ (l : List ℕ). l ++ (i.txn ∷ [])) (r.column ∙ all-txns)
           ∙ sym (txns-more []) ∙ sym (take_all narrow_kind.slots (txns_of up_to) (omega (arith, length-map up_to (λ (z : Transaction). z.id.txn), upto-long, r.kept-are))))
-          (omega arith) (omega (arith, t.some_byte))
-          (sym (ap (λ (l : List Transaction). followed l (sequence_in (drop (at + m) s))) (drop_of_length-le up_to few) ∙ followed-none (sequence_in (drop (at + m) s))))
+          (omega (arith, r.short, t.shorter))
+          (sym (ap (λ (l : List Transaction). followed l (sequence_in more)) (drop_of_length-le up_to few) ∙ followed-none (sequence_in more)))
           (λ _. filled_more)
         where
           few : length up_to ≤ narrow_kind.slots
@@ -185,28 +180,28 @@ module _ {s w₀ w ts : List ℕ} {kept size : ℕ} {last : Id} {n at : ℕ} (r 
               ∙ ap (λ (k : ℕ). take k w₀ ++ slots_down up_to) f
 
       -- one after them
-      pub reading-past : narrow_kind.slots ≤ kept → Reading s w₀ w' ts kept size i (n + 1) (at + m)
-      reading-past h = more ts kept size (omega (arith, r.kept-are)) r.places
+      pub reading-past : narrow_kind.slots ≤ kept → Reading s w₀ w' ts kept rest i (n + 1) more
+      reading-past h = read_on ts kept rest (omega (arith, r.kept-are)) r.places
           (r.column ∙ sym (ap (take narrow_kind.slots) (txns-more []) ∙ take-append-le narrow_kind.slots (txns_of r.passed) (i.txn ∷ []) (omega (arith, txns-long, r.kept-are))))
-          (omega (arith, r.size-inside)) (r.some_byte (omega (arith, r.kept-are)))
-          (r.left ∙ ap (followed (drop narrow_kind.slots r.passed)) step ∙ followed-more (drop narrow_kind.slots r.passed) x (sequence_in (drop (at + m) s))
-          ∙ ap (λ (l : List Transaction). followed l (sequence_in (drop (at + m) s))) (sym (drop-append-le narrow_kind.slots r.passed (x ∷ []) (omega (arith, r.count, r.kept-are)))))
+          (r.shorter (omega (arith, r.kept-are)))
+          (r.past ∙ ap (followed (drop narrow_kind.slots r.passed)) step ∙ followed-more (drop narrow_kind.slots r.passed) x (sequence_in more)
+          ∙ ap (λ (l : List Transaction). followed l (sequence_in more)) (sym (drop-append-le narrow_kind.slots r.passed (x ∷ []) (omega (arith, r.count, r.kept-are)))))
           (λ f. absurd (lt_irrefl n (omega (arith, f, r.kept-are))))
 
 -- all is read
-pub reading-all : {s w₀ w ts : List ℕ} {kept size : ℕ} {last : Id} {n at : ℕ} → Reading s w₀ w ts kept size last n at → length s ≤ at → PassFound n size s w₀ w
+pub reading-all : {s w₀ w ts : List ℕ} {kept : ℕ} {rest : List ℕ} {last : Id} {n : ℕ} {left : List ℕ} → Reading s w₀ w ts kept rest last n left → length left ≡ 0 → PassFound n rest s w₀ w
 unfolding ◌then◌
-reading-all {s = s} {at = at} r h = record {
+reading-all {left = left} r h = record {
   transactions = r.passed;
   read = r.read ∙ ends r.passed;
   ordered = r.ordered;
   once = r.once;
   count = r.count;
-  inside = omega (arith, r.size-inside, r.inside);
-  some_byte = r.some_byte;
-  left = r.left ∙ ends (drop narrow_kind.slots r.passed);
+  shorter = r.shorter;
+  left = r.past ∙ ends (drop narrow_kind.slots r.passed);
+  long = r.long;
   made = r.made;
 }
   where
-    ends : (xs : List Transaction) → followed xs (sequence_in (drop at s)) ≡ some xs
-    ends xs = ap (followed xs) (ap sequence_in (drop_of_length-le s h) ∙ sequence-none) ∙ ap some (append-nil xs)
+    ends : (xs : List Transaction) → followed xs (sequence_in left) ≡ some xs
+    ends xs = ap (followed xs) (ap sequence_in (empty left h) ∙ sequence-none) ∙ ap some (append-nil xs)

@@ -2,8 +2,8 @@
 use Prim.Native.Nat.{ℕ, zero, suc, ◌+◌, ◌*◌, ◌-◌, ◌≤◌, min}
 use mathlib.Core.Path.{◌≡◌, sym, ap, ap₂, ◌∙◌}
 use mathlib.Core.List.{List, [], ◌∷◌, ◌++◌, append_assoc, append-nil}
-use lib.ListN.{length, take, drop, replicate, length-append, length-replicate, length-drop}
-use lib.Seq.{take_all, take-take, take-append-le, drop-append-le, drop_at, length-take-le}
+use lib.ListN.{length, take, drop, replicate, length-append, length-replicate}
+use lib.Seq.{take-take, take-append-le, drop-append-le, drop_at, length-take-le}
 use native.Mathlib.Omega.{arith}
 use borrow.Rule.Slice.PartMut.{put_mid, Post-is}
 use Rattle.model.specs.Kinds.{narrow_kind, slot_size, store_size}
@@ -54,11 +54,3 @@ room-filled w xs n h l q =
     ap (drop (slot_size narrow_kind)) q
     ∙ drop-append-le (slot_size narrow_kind) (take e (zeros room_size)) (slots_down xs) (omega (arith, long))
     ∙ ap (λ (l : List ℕ). l ++ slots_down xs) (ap (drop (slot_size narrow_kind)) front ∙ drop-zeros (slot_size narrow_kind) (min e room_size) ∙ ap zeros k)
-
--- the part above the lowest slot, copied over a store
-pub room-copied : (w t : List ℕ) → length w ≡ room_size → length t ≡ store_size narrow_kind
-    → take (length (take (store_size narrow_kind) (drop (slot_size narrow_kind) w))) t ≡ take (store_size narrow_kind) (drop (slot_size narrow_kind) w) → t ≡ drop (slot_size narrow_kind) w
-room-copied w t l k h =
-    let n : length (drop (slot_size narrow_kind) w) ≡ store_size narrow_kind = omega (arith, length-drop (slot_size narrow_kind) w, l) in
-    let whole : take (store_size narrow_kind) (drop (slot_size narrow_kind) w) ≡ drop (slot_size narrow_kind) w = take_all (store_size narrow_kind) (drop (slot_size narrow_kind) w) (omega (arith, n)) in
-    sym (take_all (length (drop (slot_size narrow_kind) w)) t (omega (arith, n, k))) ∙ ap (λ (p : List ℕ). take (length p) t) (sym whole) ∙ h ∙ whole

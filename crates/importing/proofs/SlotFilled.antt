@@ -1,14 +1,13 @@
 -- A transaction's versions and commit read, and its slot made: the commit record, the version records, zeros.
 use Prim.Native.Nat.{ℕ, ◌+◌, ◌*◌, ◌-◌, ◌<◌, ◌≤◌}
-use mathlib.Core.Path.{◌≡◌, refl, sym, ap, ap₂, subst, ◌∙◌}
-use mathlib.Core.Logic.{◌≢◌}
-use mathlib.Core.List.{List, ◌++◌, map}
+use mathlib.Core.Path.{◌≡◌, refl, sym, ap, ap₂, ◌∙◌}
+use mathlib.Core.List.{List, ◌++◌, map, append-nil}
 use mathlib.Core.Option.{some, none}
-use lib.ListN.{length, take, drop, replicate, length-append, length-take, length-drop, length-map}
-use lib.Seq.{drop-drop, take-append-add}
+use lib.ListN.{length, take, drop, replicate, length-append, length-take, length-drop, length-map, drop_of_length-le}
+use lib.Seq.{take-append-add}
 use native.Mathlib.Omega.{arith}
+use borrow.Rule.Slice.PartMut.{put_mid}
 use Rattle.model.specs.declared.Id.{Id}
-use Rattle.model.specs.declared.Entry as Declared
 use Rattle.model.specs.Types.{Entry}
 use Rattle.model.specs.Lists.{padded}
 use Rattle.model.specs.Limits.{record_size}
@@ -19,27 +18,21 @@ use Rattle.model.specs.Entries.{commit_record}
 use Rattle.model.proofs.KeySetLaws.{set-ascends}
 use Rattle.model.proofs.KindLaws.{narrow-fits}
 use Rattle.model.proofs.RecordLaws.{length-commit}
-use Rattle.decimal.proofs.FieldLaws.{rest_part}
-use Rattle.resp.specs.Streams.{commit_command}
+use Rattle.resp.specs.Streams.{bulk, set_begins, set_command, commit_name, keys_text, commit_command}
 use Rattle.resp.specs.Inverse.{after, closed, transaction_in}
 use Rattle.resp.specs.Imports.{entry_of, version_records, slot_of}
+use Rattle.resp.proofs.LengthLaws.{set-begins}
+use Rattle.resp.proofs.RestLaws.{after_is}
 use Rattle.resp.proofs.ThenLaws.{then_some, then-none}
-use Rattle.resp.proofs.NumberLaws.{rest_of}
-use Rattle.importing.specs.declared.Versions.{Versions}
-use Rattle.importing.specs.Passes.{CommitSize, VersionsFound, VersionsSay, TakenFound}
-use Rattle.importing.proofs.VersionsRead.{rest-inside}
+use Rattle.importing.specs.Passes.{VersionsFound, TakenFound}
 
--- ── what the code hands on ──
-module _ (r : Versions) (bs slot : List ℕ) (h : VersionsSay r bs slot) where
-  pub versions-none : r ≡ Versions.Other → transaction_in bs ≡ none
-  unfolding VersionsSay
-  versions-none e = subst (λ (x : Versions). VersionsSay x bs slot) e h
+-- all that stands past a place filled
+pub filled-past : (a : ℕ) (xs ys : List ℕ) (m : ℕ) → a ≤ length xs → m ≡ length xs - a → ys ≡ replicate m 0 → put_mid a (length xs - a) xs ys ≡ take a xs ++ replicate (length xs - a) 0
+filled-past a xs ys m o q e =
+    let z : length (drop a xs) ≤ length xs - a = omega (arith, length-drop a xs) in
+    ap (λ (l : List ℕ). take a xs ++ (ys ++ l)) (drop_of_length-le (drop a xs) z) ∙ ap (λ (l : List ℕ). take a xs ++ l) (append-nil ys ∙ e ∙ ap (λ (k : ℕ). replicate k 0) q)
 
-  pub versions-some : (e : Declared.Entry) (at : ℕ) → r ≡ Versions.Of e at → VersionsFound e.id e.keys at bs slot
-  unfolding VersionsSay
-  versions-some e at q = subst (λ (x : Versions). VersionsSay x bs slot) q h
-
-module _ (i : Id) (set at : ℕ) (bs slot : List ℕ) (f : VersionsFound i set at bs slot) where
+module _ {i : Id} {set : ℕ} {rest bs slot : List ℕ} (f : VersionsFound i set rest bs slot) where
   keys-count : length (key_set set) ≡ length f.writes
   keys-count = ap length (sym f.keys-are) ∙ length-map f.writes write_key
 
@@ -79,36 +72,28 @@ module _ (i : Id) (set at : ℕ) (bs slot : List ℕ) (f : VersionsFound i set a
         (e ∙ ap (λ (ks : List ℕ). commit_record narrow_kind (record { id = i; keys = ks })) (sym f.keys-are))
 
   -- ── the commit ──
-  module _ (size : ℕ) (h : CommitSize size (commit_command i (key_set set)) (rest_of at bs)) where
-    -- what is left, by the keys
-    command-left : after (commit_command i (map write_key f.writes)) (drop at bs) ≡ after (commit_command i (key_set set)) (rest_of at bs)
-    command-left = ap₂ (λ (ks l : List ℕ). after (commit_command i ks) l) f.keys-are (sym (rest_part bs at f.inside))
+  -- what is left, by the keys
+  command-left : after (commit_command i (map write_key f.writes)) rest ≡ after (commit_command i (key_set set)) rest
+  command-left = ap (λ (ks : List ℕ). after (commit_command i ks) rest) f.keys-are
 
-    pub commit-none : size ≡ 0 → transaction_in bs ≡ none
-    unfolding CommitSize closed
-    commit-none z = f.left ∙ then-none _ _ (command-left ∙ h.1 z)
+  pub commit-none : after (commit_command i (key_set set)) rest ≡ none → transaction_in bs ≡ none
+  unfolding closed
+  commit-none h = f.left ∙ then-none _ _ (command-left ∙ h)
 
-    module _ (z : size ≢ 0) where
-      some_byte : 0 < size
-      some_byte = omega (arith, z)
+  module _ {r : List ℕ} (h : after (commit_command i (key_set set)) rest ≡ some r) where
+    shorter : length r < length bs
+    unfolding commit_command set_command
+    shorter =
+        let c : List ℕ = bulk (commit_name i) ++ bulk (keys_text (key_set set)) in
+        omega (arith, f.inside, ap length (after_is _ rest r h), length-append (set_begins ++ c) r, length-append set_begins c, ap length set-begins)
 
-      pub commit-inside : at + size ≤ length bs
-      unfolding CommitSize
-      commit-inside = rest-inside bs at size f.inside (h.0 some_byte).1
-
-      read_whole : transaction_in bs ≡ some (record { transaction = record { id = i; writes = f.writes }; rest = drop (at + size) bs })
-      unfolding CommitSize closed
-      read_whole =
-          f.left ∙ then_some _ _ _ (command-left ∙ (h.0 some_byte).0)
-          ∙ ap (λ (l : List ℕ). some (record { transaction = record { id = i; writes = f.writes }; rest = l })) (ap (drop size) (rest_part bs at f.inside) ∙ drop-drop size at bs)
-
-      pub taken-found : (y t : List ℕ) (n : ℕ) → y ≡ commit_record narrow_kind entry → n ≡ record_size * (length (key_set set) + 1)
-          → t ≡ take n (y ++ drop record_size slot) ++ replicate (length (y ++ drop record_size slot) - n) 0 → TakenFound i (at + size) bs t
-      taken-found y t n e q w = record {
-        transaction = record { id = i; writes = f.writes };
-        id-is = refl;
-        some_byte = omega (arith, some_byte);
-        inside = commit-inside;
-        read = read_whole;
-        slot_is = w ∙ slot-filled y e n q;
-      }
+    pub taken-found : (y t : List ℕ) (n : ℕ) → y ≡ commit_record narrow_kind entry → n ≡ record_size * (length (key_set set) + 1)
+        → t ≡ take n (y ++ drop record_size slot) ++ replicate (length (y ++ drop record_size slot) - n) 0 → TakenFound i r bs t
+    unfolding closed
+    taken-found y t n e q w = record {
+      transaction = record { id = i; writes = f.writes };
+      id-is = refl;
+      shorter = shorter;
+      read = f.left ∙ then_some _ _ r (command-left ∙ h);
+      slot_is = w ∙ slot-filled y e n q;
+    }

@@ -1,14 +1,15 @@
 -- The versions of a transaction, read one after the other and written as version records into a slot.
 use Prim.Native.Nat.{ℕ, suc, ◌+◌, ◌*◌, ◌-◌, ◌<◌, ◌≤◌}
 use mathlib.Core.Path.{◌≡◌, refl, sym, ap, ap₂, ◌∙◌}
-use mathlib.Core.Bool.{true, false}
+use mathlib.Core.Logic.{◌⊎◌, inl, inr}
+use mathlib.Core.Bool.{Bool, true, false, not, ◌&&◌}
 use mathlib.Core.List.{List, [], ◌∷◌, ◌++◌, map, map-append, append-nil, append_assoc}
 use mathlib.Core.Option.{some, none}
 use lib.ListN.{length, take, drop, length-append, length-drop}
-use lib.Seq.{drop-drop, take-add, take_at, drop_at, length-take-le, take-append_seam, get_or-append_seam}
-use lib.Dec.{ltb}
+use lib.Seq.{take-add, take_at, drop_at, length-take-le, take-append_seam, get_or-append_seam}
+use lib.Dec.{eqb}
 use native.Mathlib.Omega.{arith}
-use borrow.Author.Tests.{ltb-true}
+use borrow.Author.Tests.{ltb-true, lt-ltb, le-ltb, not-true, not-false}
 use borrow.Rule.Slice.PartMut.{put_mid, post_of, mid_len, same_len_mid}
 use Rattle.model.specs.declared.Id.{Id}
 use Rattle.model.specs.Types.{Write}
@@ -19,18 +20,16 @@ use Rattle.model.specs.Kinds.{narrow_kind, slot_size}
 use Rattle.model.specs.KeySets.{key_set}
 use Rattle.model.specs.Lives.{write_key}
 use Rattle.model.specs.Records.{version_record}
-use Rattle.model.proofs.Tests.{and_right}
+use Rattle.model.proofs.Tests.{and_right, and_intro, and-none-left, and-none-right}
 use Rattle.model.proofs.InsertLaws.{ascending-head, ascending-tail, ascending-cons}
 use Rattle.model.proofs.KeySetLaws.{set-none}
 use Rattle.model.proofs.RecordLaws.{length-version}
-use Rattle.decimal.proofs.FieldLaws.{rest_part}
 use Rattle.keysets.specs.Parts.{AlsoHas}
 use Rattle.keysets.proofs.MadeLaws.{made_more, made_all}
 use Rattle.resp.specs.Inverse.{Version, closed, goes_on, onward, version_in, versions_from, transaction_in}
 use Rattle.resp.specs.Imports.{version_records}
 use Rattle.resp.proofs.ThenLaws.{then_some, then-none}
-use Rattle.resp.proofs.NumberLaws.{rest_of}
-use Rattle.resp.proofs.VersionBack.{version-is}
+use Rattle.resp.proofs.VersionBack.{version-is, version-shorter}
 use Rattle.importing.specs.Passes.{VersionsFound}
 
 -- ── what is read ──
@@ -54,6 +53,21 @@ module _ (more : ℕ) (i : Id) (k : ℕ) (ws : List Write) (bs : List ℕ) where
     versions-not : goes_on i k v ≡ false → versions_from (suc more) i k ws bs ≡ none
     unfolding versions_from onward
     versions-not g = rw (h, g)
+
+-- ── whether one goes on, as the code tests it: by ids that are not equal, and keys ──
+module _ (i : Id) (last : ℕ) (v : Version) {r : Bool} (h : r ≡ not (eqb v.id.clock i.clock && eqb v.id.txn i.txn)) where
+  other : r ≡ not (same_id v.id i)
+  unfolding same_id ◌and◌
+  other = h ∙ (elim (eqb v.id.clock i.clock) as (λ t. not (t && eqb v.id.txn i.txn) ≡ not (t and eqb v.id.txn i.txn)) [ true ↦ refl | false ↦ refl ])
+
+  pub goes-not : (r ≡ true) ⊎ ((r ≡ false) × (v.write.key ≤ last)) → goes_on i last v ≡ false
+  unfolding goes_on
+  goes-not (inl e) = and-none-left _ _ (not-true _ (sym other ∙ e))
+  goes-not (inr e) = and-none-right _ _ (le-ltb last v.write.key e.1)
+
+  pub goes : r ≡ false → last < v.write.key → goes_on i last v ≡ true
+  unfolding goes_on
+  goes e o = and_intro _ _ (not-false _ (sym other ∙ e)) (lt-ltb last v.write.key o)
 
 -- ── the keys ──
 ascending-more : (lo last k : ℕ) (ks : List ℕ) → ascending lo (suc last) ks ≡ true → last < k → lo ≤ k → ascending lo (suc k) (ks ++ (k ∷ [])) ≡ true
@@ -98,16 +112,16 @@ written_after s y z a m k o l =
     ∙ take_at (p ++ y) z (m + k) (omega (arith, length-append p y))
 
 -- ── the loop ──
--- n versions are read, of the stream's first `at` bytes; their keys are the set, the last of them `last`
-pub record VersionsSoFar (i : Id) (bs slot : List ℕ) (set last at n : ℕ) : Type 0 where
+-- n versions are read, and `rest` is left of the stream; their keys are the set, the last of them `last`
+pub record VersionsSoFar (i : Id) (bs slot : List ℕ) (set last : ℕ) (rest : List ℕ) (n : ℕ) : Type 0 where
   pub writes : List Write
   pub count : length writes ≡ n
   pub some-write : 1 ≤ n
   pub few : n ≤ narrow_kind.write_limit
   pub keys-are : key_set set ≡ map write_key writes
   pub ascends : ascending 0 (suc last) (key_set set) ≡ true
-  pub inside : at ≤ length bs
-  pub left : transaction_in bs ≡ versions_from (8 - n) i last writes (drop at bs)
+  pub inside : length rest ≤ length bs
+  pub left : transaction_in bs ≡ versions_from (8 - n) i last writes rest
   pub long : length slot ≡ slot_size narrow_kind
   pub records : take (record_size * n) (drop record_size slot) ≡ version_records i writes
 
@@ -118,11 +132,11 @@ over s place y = put_mid place (place + record_size - place) s y
 pub over-long : (s : List ℕ) (place : ℕ) (y : List ℕ) → place + record_size ≤ length s → length y ≡ record_size → length (over s place y) ≡ length s
 over-long s place y o l = same_len_mid place (place + record_size - place) s y (l ∙ sym (mid_len place (place + record_size) s o ∙ omega arith))
 
-pub reading-starts : (i : Id) (bs slot y : List ℕ) (k x size set : ℕ) → length slot ≡ slot_size narrow_kind
-    → version_in bs ≡ some (record { id = i; write = record { key = k; value = x }; rest = drop size bs })
-    → size ≤ length bs → y ≡ version_record k i x → AlsoHas 0 k set → VersionsSoFar i bs (over slot record_size y) set k size 1
+pub reading-starts : (i : Id) (bs slot y : List ℕ) (k x : ℕ) (rest : List ℕ) (set : ℕ) → length slot ≡ slot_size narrow_kind
+    → version_in bs ≡ some (record { id = i; write = record { key = k; value = x }; rest = rest })
+    → y ≡ version_record k i x → AlsoHas 0 k set → VersionsSoFar i bs (over slot record_size y) set k rest 1
 unfolding transaction_in version_records ascending
-reading-starts i bs slot y k x size set l h o e a =
+reading-starts i bs slot y k x rest set l h e a =
     let z : length y ≡ record_size = ap length e ∙ length-version k i x in
     let up : ascending 0 (suc k) (k ∷ []) ≡ true = ascending-cons 0 (suc k) k [] (omega arith) (omega arith) refl in
     let ks : key_set set ≡ k ∷ [] = set_more 0 k set [] set-none up (key-low bs _ h) a in
@@ -133,15 +147,15 @@ reading-starts i bs slot y k x size set l h o e a =
       few = omega arith;
       keys-are = ks;
       ascends = ap (ascending 0 (suc k)) ks ∙ up;
-      inside = o;
+      inside = omega (arith, version-shorter bs _ h);
       left = then_some _ _ _ h;
       long = over-long slot record_size y (omega arith) z ∙ l;
       records = written_after slot y _ record_size 0 record_size (omega arith) z ∙ e ∙ sym (append-nil (version_record k i x));
     }
 
 -- what was read is a transaction's whole versions
-found : (i : Id) (bs slot : List ℕ) (set last at n : ℕ) (r : VersionsSoFar i bs slot set last at n) → transaction_in bs ≡ closed i r.writes (drop at bs) → VersionsFound i set at bs slot
-found i bs slot set last at n r e = record {
+found : (i : Id) (bs slot : List ℕ) (set last : ℕ) (rest : List ℕ) (n : ℕ) (r : VersionsSoFar i bs slot set last rest n) → transaction_in bs ≡ closed i r.writes rest → VersionsFound i set rest bs slot
+found i bs slot set last rest n r e = record {
   writes = r.writes;
   keys-are = sym r.keys-are;
   some-write = omega (arith, r.some-write, r.count);
@@ -152,48 +166,36 @@ found i bs slot set last at n r e = record {
   records = ap (λ (m : ℕ). take (record_size * m) (drop record_size slot)) r.count ∙ r.records;
 }
 
--- bytes of what is left
-pub rest-inside : (bs : List ℕ) (at more : ℕ) → at ≤ length bs → more ≤ length (rest_of at bs) → at + more ≤ length bs
-rest-inside bs at more o m = omega (arith, ap length (rest_part bs at o), length-drop at bs)
-
-module _ (i : Id) (bs slot : List ℕ) (set last at n : ℕ) (r : VersionsSoFar i bs slot set last at n) where
-  pub reading-full : 8 ≤ n → VersionsFound i set at bs slot
+module _ {i : Id} {bs slot : List ℕ} {set last : ℕ} {rest : List ℕ} {n : ℕ} (r : VersionsSoFar i bs slot set last rest n) where
+  pub reading-full : 8 ≤ n → VersionsFound i set rest bs slot
   unfolding versions_from
   reading-full o =
       let z : 8 - n ≡ 0 = omega arith in
-      found i bs slot set last at n r (r.left ∙ ap (λ (m : ℕ). versions_from m i last r.writes (drop at bs)) z)
+      found i bs slot set last rest n r (r.left ∙ ap (λ (m : ℕ). versions_from m i last r.writes rest) z)
 
   module _ (o : n < 8) where
-    left-next : transaction_in bs ≡ versions_from (suc (7 - n)) i last r.writes (drop at bs)
+    left-next : transaction_in bs ≡ versions_from (suc (7 - n)) i last r.writes rest
     left-next =
         let z : 8 - n ≡ suc (7 - n) = omega arith in
-        r.left ∙ ap (λ (m : ℕ). versions_from m i last r.writes (drop at bs)) z
+        r.left ∙ ap (λ (m : ℕ). versions_from m i last r.writes rest) z
 
-    pub reading-ends : version_in (rest_of at bs) ≡ none → VersionsFound i set at bs slot
-    reading-ends h = found i bs slot set last at n r (left-next ∙ versions-end (7 - n) i last r.writes (drop at bs) (ap version_in (sym (rest_part bs at r.inside)) ∙ h))
+    pub reading-ends : version_in rest ≡ none → VersionsFound i set rest bs slot
+    reading-ends h = found i bs slot set last rest n r (left-next ∙ versions-end (7 - n) i last r.writes rest h)
 
     -- one more
-    module _ (j : Id) (k x more : ℕ) (h : version_in (rest_of at bs) ≡ some (record { id = j; write = record { key = k; value = x }; rest = drop more (rest_of at bs) })) where
-      abbrev read : Version
-      read = record { id = j; write = record { key = k; value = x }; rest = drop (at + more) bs }
+    module _ {v : Version} (h : version_in rest ≡ some v) where
+      pub reading-stops : goes_on i last v ≡ false → transaction_in bs ≡ none
+      reading-stops g = left-next ∙ versions-not (7 - n) i last r.writes rest v h g
 
-      next-is : version_in (drop at bs) ≡ some read
-      next-is =
-          ap version_in (sym (rest_part bs at r.inside)) ∙ h
-          ∙ ap (λ (l : List ℕ). some (record { id = j; write = record { key = k; value = x }; rest = l })) (ap (drop more) (rest_part bs at r.inside) ∙ drop-drop more at bs)
-
-      pub reading-stops : (same_id j i and ltb last k) ≡ false → transaction_in bs ≡ none
+      pub reading-next : goes_on i last v ≡ true → (y : List ℕ) → y ≡ version_record v.write.key i v.write.value → (set' : ℕ) → AlsoHas set v.write.key set'
+          → VersionsSoFar i bs (over slot (record_size * (n + 1)) y) set' v.write.key v.rest (n + 1)
       unfolding goes_on
-      reading-stops g = left-next ∙ versions-not (7 - n) i last r.writes (drop at bs) read next-is g
-
-      pub reading-next : (same_id j i and ltb last k) ≡ true → more ≤ length (rest_of at bs) → (y : List ℕ) → y ≡ version_record k i x → (set' : ℕ) → AlsoHas set k set'
-          → VersionsSoFar i bs (over slot (record_size * (n + 1)) y) set' k (at + more) (n + 1)
-      unfolding goes_on
-      reading-next g m y e set' a =
-          let z : length y ≡ record_size = ap length e ∙ length-version k i x in
-          let w : Write = record { key = k; value = x } in
+      reading-next g y e set' a =
+          let w : Write = v.write in
+          let k : ℕ = w.key in
+          let z : length y ≡ record_size = ap length e ∙ length-version k i w.value in
           let up = ascending-more 0 last k (key_set set) r.ascends (ltb-true last k (and_right _ _ g)) (omega arith) in
-          let ks : key_set set' ≡ key_set set ++ (k ∷ []) = set_more set k set' (key_set set) refl up (key-low (drop at bs) read next-is) a in
+          let ks : key_set set' ≡ key_set set ++ (k ∷ []) = set_more set k set' (key_set set) refl up (key-low rest v h) a in
           let p : record_size * (n + 1) ≡ record_size + record_size * n = omega arith in
           let q : record_size * (n + 1) ≡ record_size * n + record_size = omega arith in
           let d : 7 - n ≡ 8 - (n + 1) = omega arith in
@@ -205,8 +207,8 @@ module _ (i : Id) (bs slot : List ℕ) (set last at n : ℕ) (r : VersionsSoFar 
             few = omega arith;
             keys-are = ks ∙ ap (λ (l : List ℕ). l ++ (k ∷ [])) r.keys-are ∙ sym (map-append write_key r.writes (w ∷ []));
             ascends = ap (ascending 0 (suc k)) ks ∙ up;
-            inside = rest-inside bs at more r.inside m;
-            left = left-next ∙ versions-next (7 - n) i last r.writes (drop at bs) read next-is g ∙ ap (λ (c : ℕ). versions_from c i k (r.writes ++ (w ∷ [])) (drop (at + more) bs)) d;
+            inside = omega (arith, r.inside, version-shorter rest v h);
+            left = left-next ∙ versions-next (7 - n) i last r.writes rest v h g ∙ ap (λ (c : ℕ). versions_from c i k (r.writes ++ (w ∷ [])) v.rest) d;
             long = over-long slot (record_size * (n + 1)) y (omega (arith, r.long, o)) z ∙ r.long;
             records =
                 ap₂ (λ (b c : ℕ). take b (drop record_size (take c slot ++ tail))) q p

@@ -2,168 +2,120 @@
 // bytes of the function's own.
 #![tactic(auto)]
 
-ghost use Rattle.std.specs.Prelude.{◌≡◌, ◌≤◌, ◌<◌, ltb, length};
-ghost use Rattle.model.specs.Lists.{◌and◌};
-ghost use Rattle.model.specs.Ids.{same_id};
+ghost use Rattle.std.specs.Prelude.{◌≡◌, ◌≤◌, length, MatchOption};
+ghost use Rattle.std.proofs.Math.Option.{some, none};
 ghost use Rattle.model.specs.Kinds.{narrow_kind, slot_size};
 ghost use Rattle.model.specs.KeySets.{key_set};
 ghost use Rattle.resp.specs.Streams.{commit_command};
-ghost use Rattle.resp.specs.Inverse.{transaction_in};
+ghost use Rattle.resp.specs.Inverse.{after, transaction_in, transactions_in};
 ghost use Rattle.resp.specs.Imports.{import};
-ghost use Rattle.importing.specs.Passes.{CommitSize, VersionsSay, TakenSays, PassSays, BadSays, room_size};
+ghost use Rattle.importing.specs.Passes.{VersionsFound, TakenFound, PassFound, BadSays, room_size};
 
 use keysets::with_key;
-use model::{Entry, Id, Kind, Station, same_id};
-use reading::is_older;
-use records::{clear, copy, write_commit, write_version};
+use model::{Entry, Id, Kind, Refusal, Station};
+use records::{write_commit, write_version};
 use recovery::has_txn;
-use resp::{
-    COMMAND, ID_TEXT, Transfer, VersionRead, begins, version_in, write_commit_command, write_id,
-};
+use resp::{COMMAND, ID_TEXT, Transfer, version_in, write_commit_command, write_id};
 
 // The slots of a store, and below them one more: for a transaction after the 64th, which no store has.
 const ROOM: usize = Station::STORE + Station::SLOT;
 
-// A transaction's versions read: its entry, and how many bytes they have in the stream.
+// A stream read once: how many transactions it has, and what comes after the first 64.
 #[derive(Clone, Copy)]
-enum Versions {
-    Of(Entry, usize),
-    Other,
+struct Pass<'a> {
+    count: usize,
+    rest: &'a [u8],
 }
 
-// A transaction read: its id, and how many bytes it has.
-#[derive(Clone, Copy)]
-enum Taken {
-    Of(Id, usize),
-    Other,
-}
-
-// A stream read once: how many transactions it has, and how many bytes the first 64 have.
-#[derive(Clone, Copy)]
-enum Pass {
-    Of(usize, usize),
-    Bad,
-}
-
-// A version goes on after those of an id whose last key is given.
-fn goes_on(id: Id, last: u8, next: Id, key: u8) -> bool
-    ensures { result ≡ (same_id next id and ltb last key) }
-{
-    if !same_id(next, id) {
-        return false;
-    }
-    last < key
-}
-
-// The versions that the stream begins with, up to 8, as version records of a slot.
-fn versions_in(s: &[u8], slot: &mut [u8]) -> Versions
+// The versions that the stream begins with, up to 8, as version records of a slot: their entry, and what comes after them.
+fn versions_in<'a>(s: &'a [u8], slot: &mut [u8]) -> Option<(Entry, &'a [u8])>
     requires { length slot.old ≡ slot_size narrow_kind }
-    ensures { VersionsSay result s.now slot.new }
+    ensures { MatchOption result (transaction_in s.now ≡ none) (λ p. VersionsFound p.0.id p.0.keys p.1.now s.now slot.new) }
 {
-    let first = version_in(s);
-    let VersionRead::Of(key, id, value, size) = first else {
-        return Versions::Other;
-    };
+    let first = version_in(s)?;
+    let id = first.id;
     write_version(
-        &mut slot[Station::RECORD..Station::RECORD + Station::RECORD],
-        key,
+        &mut slot[Station::RECORD..2 * Station::RECORD],
+        first.key,
         id,
-        value,
+        first.value,
     );
-    let mut keys = with_key(0, key);
-    let mut last = key;
-    let mut at = size;
-    let mut n = 1;
-    while n < Station::WRITES {
-        let next = version_in(&s[at..]);
-        let VersionRead::Of(k, i, v, more) = next else {
-            return Versions::Of(Entry { id, keys }, at);
+    let mut keys = with_key(0, first.key);
+    let mut last = first.key;
+    let mut rest = first.rest;
+    for n in 1..Station::WRITES {
+        let Some(next) = version_in(rest) else {
+            break;
         };
-        if !goes_on(id, last, i, k) {
-            return Versions::Other;
+        if next.id != id || next.key <= last {
+            return None;
         }
-        n += 1;
-        let place = Station::RECORD * n;
-        write_version(&mut slot[place..place + Station::RECORD], k, id, v);
-        keys = with_key(keys, k);
-        last = k;
-        at += more;
+        let place = Station::RECORD * (n + 1);
+        write_version(
+            &mut slot[place..place + Station::RECORD],
+            next.key,
+            id,
+            next.value,
+        );
+        keys = with_key(keys, next.key);
+        last = next.key;
+        rest = next.rest;
     }
-    Versions::Of(Entry { id, keys }, at)
+    Some((Entry { id, keys }, rest))
 }
 
-// How many bytes the entry's commit has, where the bytes begin with it; 0 where they do not.
-fn commit_size(s: &[u8], e: Entry) -> usize
+// What comes after the entry's commit, where the bytes begin with it.
+fn after_commit(s: &[u8], e: Entry) -> Option<&[u8]>
     requires { (1 ≤ length (key_set e.keys)) × (length (key_set e.keys) ≤ 8) }
-    ensures { CommitSize result (commit_command e.id (key_set e.keys)) s.now }
+    ensures { MatchOption result (after (commit_command e.id (key_set e.keys)) s.now ≡ none) (λ r. after (commit_command e.id (key_set e.keys)) s.now ≡ some r.now) }
 {
-    let id = e.id;
     let mut text = [0u8; ID_TEXT];
-    let size = write_id(&mut text, id);
+    let size = write_id(&mut text, e.id);
     let mut command = [0u8; COMMAND];
     let end = write_commit_command(&mut command, 0, &text[..size], e.keys);
-    if begins(s, &command[..end]) {
-        return end;
-    }
-    0
+    s.strip_prefix(&command[..end])
 }
 
-// The transaction that the stream begins with, as a slot.
-fn transaction_in(s: &[u8], slot: &mut [u8]) -> Taken
+// The transaction that the stream begins with, as a slot: its id, and what comes after it.
+fn transaction_in<'a>(s: &'a [u8], slot: &mut [u8]) -> Option<(Id, &'a [u8])>
     requires { length slot.old ≡ slot_size narrow_kind }
-    ensures { TakenSays result s.now slot.new }
+    ensures { MatchOption result (transaction_in s.now ≡ none) (λ p. TakenFound p.0 p.1.now s.now slot.new) }
 {
-    let versions = versions_in(s, slot);
-    let Versions::Of(e, at) = versions else {
-        return Taken::Other;
-    };
-    let size = commit_size(&s[at..], e);
-    if size == 0 {
-        return Taken::Other;
-    }
-    write_commit(Kind::Narrow, &mut slot[0..Station::RECORD], e);
-    clear(
-        slot,
-        Station::RECORD * (u64::count_ones(e.keys) as usize + 1),
-    );
-    let id = e.id;
-    Taken::Of(id, at + size)
+    let (e, left) = versions_in(s, slot)?;
+    let rest = after_commit(left, e)?;
+    write_commit(Kind::Narrow, &mut slot[..Station::RECORD], e);
+    slot[Station::RECORD * (e.keys.count_ones() as usize + 1)..].fill(0);
+    Some((e.id, rest))
 }
 
 // A stream read from its first byte to its last: each transaction newer than the one before, and its number none of the first 64's. These fill the
 // room from the top; each one more goes into the lowest slot.
-fn read_stream(s: &[u8], room: &mut [u8]) -> Pass
+fn read_stream<'a>(s: &'a [u8], room: &mut [u8]) -> Option<Pass<'a>>
     requires { length room.old ≡ room_size }
-    ensures { PassSays result s.now room.old room.new }
+    ensures { MatchOption result (transactions_in s.now ≡ none) (λ p. PassFound p.count p.rest.now s.now room.old room.new) }
 {
     let mut txns = [0u32; Station::SLOTS];
     let mut kept = 0;
-    let mut size = 0;
     let mut last = Id { clock: 0, txn: 0 };
-    let mut n = 0;
-    let mut at = 0;
-    while at < s.len() {
+    let mut count = 0;
+    let mut left = s;
+    let mut rest = s;
+    while !left.is_empty() {
         let place = Station::SLOT * (Station::SLOTS - kept);
-        let taken = transaction_in(&s[at..], &mut room[place..place + Station::SLOT]);
-        let Taken::Of(id, more) = taken else {
-            return Pass::Bad;
-        };
-        if !is_older(last, id) {
-            return Pass::Bad;
-        }
-        if has_txn(&txns, kept, id.txn) {
-            return Pass::Bad;
+        let (id, more) = transaction_in(left, &mut room[place..place + Station::SLOT])?;
+        if id <= last || has_txn(&txns, kept, id.txn) {
+            return None;
         }
         last = id;
-        n += 1;
-        at += more;
+        count += 1;
+        left = more;
         if kept < Station::SLOTS {
             txns[kept] = id.txn;
             kept += 1;
-            size = at;
+            rest = more;
         }
     }
-    Pass::Of(n, size)
+    Some(Pass { count, rest })
 }
 
 // A stream is not of the form, or has a number twice: read again and again, each time without the first 64 transactions.
@@ -171,16 +123,15 @@ fn is_bad(s: &[u8], room: &mut [u8]) -> bool
     requires { length room.old ≡ room_size }
     ensures { BadSays result s.now }
 {
-    let mut at = 0;
-    while at < s.len() {
-        let pass = read_stream(&s[at..], room);
-        let Pass::Of(n, size) = pass else {
+    let mut left = s;
+    while !left.is_empty() {
+        let Some(pass) = read_stream(left, room) else {
             return true;
         };
-        if n <= Station::SLOTS {
+        if pass.count <= Station::SLOTS {
             return false;
         }
-        at += size;
+        left = pass.rest;
     }
     false
 }
@@ -191,19 +142,18 @@ pub fn import(stream: &[u8], store: &mut [u8]) -> Transfer
     ensures { (result ≡ (import stream.now store.old).answer) × (store.new ≡ (import stream.now store.old).store) }
 {
     if store.len() != Station::STORE {
-        return Transfer::Refused(1, 0);
+        return Err(Refusal::StoreLength.into());
     }
     let mut room = [0u8; ROOM];
-    let pass = read_stream(stream, &mut room);
-    let Pass::Of(n, size) = pass else {
-        return Transfer::Refused(27, 0);
-    };
-    if n > Station::SLOTS {
-        if is_bad(&stream[size..], &mut room) {
-            return Transfer::Refused(27, 0);
-        }
-        return Transfer::Refused(13, 0);
+    let pass = read_stream(stream, &mut room).ok_or(Refusal::NotAStream)?;
+    if pass.count > Station::SLOTS {
+        let why = if is_bad(pass.rest, &mut room) {
+            Refusal::NotAStream
+        } else {
+            Refusal::SlotsFull
+        };
+        return Err(why.into());
     }
-    copy(store, &room[Station::SLOT..]);
-    Transfer::Done(n)
+    store.copy_from_slice(&room[Station::SLOT..]);
+    Ok(pass.count)
 }

@@ -1,7 +1,8 @@
 // Reads a whole input into a buffer.
 #![tactic(auto)]
 
-ghost use Rattle.std.specs.Prelude.{◌≤◌, length};
+ghost use Rattle.std.specs.Prelude.{◌≤◌, length, IsTrue};
+ghost use Rattle.std.specs.Io.KnownBytes.{IsAtEnd};
 
 use std::io::Read;
 
@@ -12,13 +13,18 @@ pub fn read_full<R: Read>(reader: &mut R, buf: &mut [u8]) -> usize
 {
     let mut done = 0;
     while done < buf.len() {
-        let Ok(n) = reader.read(&mut buf[done..]) else {
-            break;
-        };
-        if n == 0 {
-            break;
+        match reader.read(&mut buf[done..]) {
+            Ok(0) | Err(_) => break,
+            Ok(n) => done += n,
         }
-        done += n;
     }
     done
+}
+
+// The input has ended: one more read gives nothing. A read that fails is no end.
+pub fn has_ended<R: Read>(reader: &mut R) -> bool
+    ensures { IsTrue result → IsAtEnd (R.remaining reader.old) }
+{
+    let mut more = [0u8; 1];
+    matches!(reader.read(&mut more), Ok(0))
 }

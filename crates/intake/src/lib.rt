@@ -20,9 +20,9 @@ use soundness::is_sound;
 // The station after a line, what the soundness test says of it, and the bytes of the line's output.
 #[derive(Clone, Copy)]
 struct Ran {
-    pub station: Station,
-    pub tested: bool,
-    pub used: usize,
+    station: Station,
+    tested: bool,
+    used: usize,
 }
 
 // The station after a block, the bytes kept of the line that has begun, the next line's number, and the bytes of output.
@@ -72,11 +72,9 @@ fn run_line(
     let command = parse_line(line);
     let request = Request { command, tested };
     let outcome = act_once(station, store, request);
-    let answer = outcome.answer;
-    let used = print_line(out, number, answer);
-    let next = outcome.station;
+    let used = print_line(out, number, outcome.answer);
     Ran {
-        station: next,
+        station: outcome.station,
         tested: tested_after(request),
         used,
     }
@@ -105,8 +103,7 @@ fn run_lines(
     let mut end = first.end;
     while end < input.len() {
         let ran = run_line(s, known, store, &part[..n], next, &mut out[used..]);
-        let after = ran.station;
-        s = after;
+        s = ran.station;
         known = ran.tested;
         used += ran.used;
         next += 1;
@@ -156,6 +153,5 @@ pub fn finish(
         return 0;
     }
     let tested = is_sound(station);
-    let fed = run_lines(station, tested, store, part, len, number, b"\n", out);
-    fed.used
+    run_lines(station, tested, store, part, len, number, b"\n", out).used
 }

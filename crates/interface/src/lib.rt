@@ -32,7 +32,6 @@ use exporting::export;
 use image::{IMAGE, read_image, write_image};
 use importing::import;
 use logcheck::check_log;
-use model::empty_of;
 use moving::move_between;
 use records::{id_in, write_number};
 use resp::Transfer;
@@ -103,10 +102,7 @@ pub fn command_in(request: &[u8]) -> Command
     requires { length request.now ≡ request_size }
     ensures { result ≡ command_of (request_call request.now) }
 {
-    if request[2] != 0 {
-        return Command::Malformed;
-    }
-    if request[3] != 0 {
+    if request[2] != 0 || request[3] != 0 {
         return Command::Malformed;
     }
     let id = id_in(request);
@@ -114,8 +110,7 @@ pub fn command_in(request: &[u8]) -> Command
     if verb == SWEEP {
         return sweep_for(id.txn, request[1], id.clock);
     }
-    let word = word_for(verb);
-    command_for(word, id.txn, request[1], id.clock)
+    command_for(word_for(verb), id.txn, request[1], id.clock)
 }
 
 // The kind of an answer.
@@ -159,9 +154,8 @@ pub fn write_answer(out: &mut [u8], answer: Answer)
     requires { length out.old ≡ answer_size }
     ensures { out.new ≡ answer_bytes answer }
 {
-    let kind = answer_kind(answer);
     let v = values_in(answer);
-    write_four(out, kind, v.a, v.b, v.c);
+    write_four(out, answer_kind(answer), v.a, v.b, v.c);
 }
 
 // A scan answered: the station is sound, and the image is to be its own.
@@ -170,13 +164,11 @@ fn run_scan(kind: Kind, store: &[u8], out: &mut [u8]) -> Current
     ensures { (result.whole ≡ true) × (result.tested ≡ true) × (listed result.station ≡ (scan (kind_of kind) store.now).station) × (out.new ≡ answer_bytes (scan (kind_of kind) store.now).answer) }
 {
     let scanned = scan_of(kind, store);
-    let said = scanned.answer;
-    let station = scanned.station;
-    write_answer(out, said);
+    write_answer(out, scanned.answer);
     Current {
         whole: true,
         tested: true,
-        station,
+        station: scanned.station,
     }
 }
 
@@ -192,10 +184,8 @@ fn run_sweep(
     ensures { (listed result ≡ (sweep (listed station) store.old limit).station) × (store.new ≡ stored (sweep (listed station) store.old limit).stores store.old) × (out.new ≡ answer_bytes (sweep (listed station) store.old limit).answer) }
 {
     let swept = sweep(station, tested, store, limit);
-    let said = swept.answer;
-    let next = swept.station;
-    write_answer(out, said);
-    next
+    write_answer(out, swept.answer);
+    swept.station
 }
 
 // Requests one after the other. The station is changed in place. Its soundness was tested once: no call but a scan alters what the test says.
@@ -207,37 +197,26 @@ fn run_requests(first: Current, store: &mut [u8], requests: &[u8], answers: &mut
     let count = requests.len() / REQUEST;
     let mut whole = first.whole;
     let mut tested = first.tested;
-    let start = first.station;
-    let mut station = start;
-    let mut i = 0;
-    while i < count {
+    let mut station = first.station;
+    for i in 0..count {
         let from = REQUEST * i;
         let to = ANSWER * i;
-        i += 1;
         let command = command_in(&requests[from..from + REQUEST]);
         if asks_scan(command) {
-            let kind = station.kind;
-            let found = run_scan(kind, store, &mut answers[to..to + ANSWER]);
+            let found = run_scan(station.kind, store, &mut answers[to..to + ANSWER]);
             whole = found.whole;
             tested = found.tested;
-            let next = found.station;
-            station = next;
+            station = found.station;
             continue;
         }
         if let Command::Sweep(limit) = command {
-            let next = run_sweep(station, tested, store, limit, &mut answers[to..to + ANSWER]);
-            station = next;
+            station = run_sweep(station, tested, store, limit, &mut answers[to..to + ANSWER]);
             continue;
         }
         let change = decide(station, store, Request { command, tested });
-        let place = change.place;
-        let live = change.live;
-        station.live[place] = live;
-        let slot = change.slot;
-        let entry = change.entry;
-        station.entries[slot] = entry;
-        let answer = change.answer;
-        write_answer(&mut answers[to..to + ANSWER], answer);
+        station.live[change.place] = change.live;
+        station.entries[change.slot] = change.entry;
+        write_answer(&mut answers[to..to + ANSWER], change.answer);
     }
     Current {
         whole,
@@ -250,10 +229,8 @@ fn run_requests(first: Current, store: &mut [u8], requests: &[u8], answers: &mut
 fn unsound_station() -> Station
     ensures { listed result ≡ unsound_station }
 {
-    let mut station = Station::empty();
-    let mut entry = station.entries[0];
-    entry.keys = 1;
-    station.entries[0] = entry;
+    let mut station = Station::empty(Kind::Narrow);
+    station.entries[0].keys = 1;
     station
 }
 
@@ -261,22 +238,17 @@ fn unsound_station() -> Station
 fn current_in(image: &[u8]) -> Current
     ensures { (result.whole ≡ is_image image.now) × (listed result.station ≡ cond (is_image image.now) (listed (station_in image.now)) unsound_station) × (result.tested ≡ sound (listed result.station)) }
 {
-    let read = read_image(image);
-    let whole = read.whole;
-    if whole {
-        let station = read.station;
-        let tested = is_sound(station);
-        return Current {
-            whole,
-            tested,
+    match read_image(image) {
+        Some(station) => Current {
+            whole: true,
+            tested: is_sound(station),
             station,
-        };
-    }
-    let station = unsound_station();
-    Current {
-        whole,
-        tested: false,
-        station,
+        },
+        None => Current {
+            whole: false,
+            tested: false,
+            station: unsound_station(),
+        },
     }
 }
 
@@ -286,11 +258,9 @@ fn keep(image: &mut [u8], last: Current)
     ensures image_after { image.new ≡ cond last.whole (image_of (listed last.station)) image.old }
     ensures image_after_2 { last.whole ≡ true → (is_image image.new ≡ true) × (listed (station_in image.new) ≡ listed last.station) }
 {
-    if !last.whole {
-        return;
+    if last.whole {
+        write_image(image, last.station);
     }
-    let station = last.station;
-    write_image(image, station);
 }
 
 // The lengths of image, requests and answers fit. Numbers are divided, since a product might wrap.
@@ -335,8 +305,7 @@ fn write_empty(kind: Kind, image: &mut [u8]) -> u32
     if image.len() != IMAGE {
         return 1;
     }
-    let station = empty_of(kind);
-    write_image(image, station);
+    write_image(image, Station::empty(kind));
     0
 }
 
@@ -394,8 +363,7 @@ fn recover_of(kind: Kind, image: &mut [u8], store: &[u8], answer: &mut [u8]) -> 
         return 1;
     }
     let found = run_scan(kind, store, answer);
-    let station = found.station;
-    write_image(image, station);
+    write_image(image, found.station);
     0
 }
 
@@ -448,20 +416,15 @@ pub fn gorehimu_move_back(wide: &[u8], narrow: &mut [u8], answer: &mut [u8]) -> 
 }
 
 // A verdict's bytes over the part lent.
+#[tactic(auto, unfolding(crate::specs::Verdicts::verdict_bytes))]
 fn write_verdict(out: &mut [u8], verdict: Verdict)
     requires { length out.old ≡ answer_size }
     ensures { out.new ≡ verdict_bytes verdict }
 {
     match verdict {
-        Verdict::Clean => {
-            write_four(out, CLEAN, 0, 0, 0);
-        }
-        Verdict::Bad(n) => {
-            write_four(out, BAD, n, 0, 0);
-        }
-        Verdict::Refused(c, n) => {
-            write_four(out, REFUSED, c as u64, n, 0);
-        }
+        Verdict::Clean => write_four(out, CLEAN, 0, 0, 0),
+        Verdict::Bad(n) => write_four(out, BAD, n, 0, 0),
+        Verdict::Refused(c, n) => write_four(out, REFUSED, u64::from(c), n, 0),
     }
 }
 
@@ -479,17 +442,14 @@ pub fn gorehimu_check_log(log: &[u8], answer: &mut [u8]) -> u32
 }
 
 // What an export or an import came to, over the part lent.
+#[tactic(auto, unfolding(crate::specs::Transfers::transfer_bytes))]
 fn write_transfer(out: &mut [u8], kind: u64, transfer: Transfer)
     requires { length out.old ≡ answer_size }
     ensures { out.new ≡ transfer_bytes kind transfer }
 {
     match transfer {
-        Transfer::Done(n) => {
-            write_four(out, kind, n as u64, 0, 0);
-        }
-        Transfer::Refused(c, d) => {
-            write_four(out, REFUSED, c as u64, d as u64, 0);
-        }
+        Ok(n) => write_four(out, kind, n as u64, 0, 0),
+        Err(r) => write_four(out, REFUSED, u64::from(r.number), u64::from(r.slot), 0),
     }
 }
 

@@ -31,31 +31,24 @@ stored-padded (suc m) (k ∷ ks) h =
     let e : suc m - suc (length ks) ≡ m - length ks = omega arith in
     stored-later k (replicate m 0) 0 ks ∙ (ap (λ (x : List ℕ). k ∷ x) (stored-padded m ks (omega arith)) ∙ rw e)
 
--- the loop: storing what is left makes the whole, and it fits
-pub record Storing (whole out : List ℕ) (rest n : ℕ) : Type 0 where
-  pub fits : n + length (key_set rest) ≤ keys_size
-  pub left : stored out n (key_set rest) ≡ padded 0 keys_size whole
+-- the loop: storing the keys that are left makes the whole, and they fit
+pub record Storing (whole out left : List ℕ) (n : ℕ) : Type 0 where
+  pub fits : n + length left ≤ keys_size
+  pub makes : stored out n left ≡ padded 0 keys_size whole
 
-pub storing-starts : (s : ℕ) → length (key_set s) ≤ keys_size → Storing (key_set s) (replicate keys_size 0) s 0
-storing-starts s h = record { fits = omega (arith, h); left = stored-padded keys_size (key_set s) h }
+pub storing-starts : (ks : List ℕ) → length ks ≤ keys_size → Storing ks (replicate keys_size 0) ks 0
+storing-starts ks h = record { fits = omega (arith, h); makes = stored-padded keys_size ks h }
 
-pub storing-room : (whole out : List ℕ) (rest n k : ℕ) → Storing whole out rest n → IsLowest rest k → n < keys_size
-storing-room whole out rest n k s (o, (ks, e)) = omega (arith, s.fits, ap length e)
-
-pub storing-next : (whole out : List ℕ) (rest n k rest' : ℕ) → Storing whole out rest n → IsLowest rest k → IsRest rest rest'
-    → Storing whole (set out n k) rest' (n + 1)
+pub storing-next : (whole out left : List ℕ) (n k : ℕ) → Storing whole out (k ∷ left) n → Storing whole (set out n k) left (n + 1)
 unfolding stored
-storing-next whole out rest n k rest' s (o, (ks, e)) (p, (j, f)) =
-    let same : j ≡ k = ap (λ (x : List ℕ). get_or x 0 0) (sym f ∙ e) in
-    let g : key_set rest ≡ k ∷ key_set rest' = f ∙ ap (λ (x : ℕ). x ∷ key_set rest') same in
-    record {
-      fits = omega (arith, s.fits, ap length g);
-      left = ap (λ (x : ℕ). stored (set out n k) x (key_set rest')) (add-one n) ∙ (sym (ap (stored out n) g) ∙ s.left);
-    }
+storing-next whole out left n k s = record {
+  fits = omega (arith, s.fits);
+  makes = ap (λ (m : ℕ). stored (set out n k) m left) (add-one n) ∙ s.makes;
+}
 
-pub storing-ends : (whole out : List ℕ) (rest n : ℕ) → Storing whole out rest n → rest ≡ 0 → out ≡ padded 0 keys_size whole
+pub storing-ends : (whole out left : List ℕ) (n : ℕ) → Storing whole out left n → left ≡ [] → out ≡ padded 0 keys_size whole
 unfolding stored
-storing-ends whole out rest n s e = sym (ap (stored out n) (ap key_set e ∙ set-none)) ∙ s.left
+storing-ends whole out left n s e = sym (ap (stored out n) e) ∙ s.makes
 
 -- the rest of a set: its keys from the ith on
 module _ (ks : List ℕ) (rest i : ℕ) (left : key_set rest ≡ drop i ks) (o : i < length ks) where

@@ -3,6 +3,7 @@ use Rattle.std.specs.Prelude.{ℕ, ◌<◌, ◌≡◌, List, ◌∷◌, eqb}
 use Rattle.model.specs.Lists.{◌or◌, member}
 use Rattle.model.specs.Limits.{keys}
 use Rattle.model.specs.KeySets.{key_set}
+use Rattle.keysets.specs.declared.Keys.{Keys}
 
 -- k is the first of the set's keys
 abbrev pub IsLowest : ℕ → ℕ → Type 0
@@ -15,3 +16,7 @@ IsRest set rest = (rest < set) × ((k : ℕ) × (key_set set ≡ k ∷ key_set r
 -- r has the keys of the set, and k
 abbrev pub AlsoHas : ℕ → ℕ → ℕ → Type 0
 AlsoHas set k r = (j : ℕ) → member j (key_set r) ≡ (eqb j k or member j (key_set set))
+
+-- what an iterator of keys has still to give
+abbrev pub keys_left : Keys → List ℕ
+keys_left it = key_set it.0

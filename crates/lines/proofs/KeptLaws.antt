@@ -1,12 +1,17 @@
 -- What is kept of a line whose bytes come in blocks: its first 65 bytes.
-use Prim.Native.Nat.{ℕ, zero, suc, ◌+◌, ◌≤◌, ◌<◌}
+use Prim.Native.Nat.{ℕ, zero, suc, ◌+◌, ◌-◌, ◌≤◌, ◌<◌, min}
 use mathlib.Core.Path.{◌≡◌, refl, sym, ap, ◌∙◌}
 use mathlib.Core.List.{List, [], ◌∷◌, ◌++◌, append-nil, append_assoc}
 use lib.ListN.{length, take, length-append, length-take}
-use lib.Seq.{take_all, length-take-le}
+use lib.Seq.{take_all, length-take-le, take-append-add}
 use native.Mathlib.Omega.{arith}
 use native.Mathlib.Decide.{dec_lt}
+use borrow.Rule.Slice.PartMut.{put_mid}
+use Rattle.std.proofs.lemmas.List.{take-take, take_min}
+use Rattle.std.proofs.lemmas.Slice.{take-put_mid}
+use Rattle.lines.specs.Lines.{first_line}
 use Rattle.lines.specs.Kept.{joined, joined_with}
+use Rattle.lines.proofs.StopLaws.{first_taken}
 
 -- they say what all bytes say, where all longer lines say one thing
 pub kept-says : {A : Type 0} (f : List ℕ → A) (x : A) → ((l : List ℕ) → 64 < length l → f l ≡ x) → (l : List ℕ) → f (take 65 l) ≡ f l
@@ -31,6 +36,23 @@ pub kept-all : (p l : List ℕ) → joined_with (take 65 p) l ≡ take 65 (p ++ 
 unfolding joined_with
 kept-all p [] = ap (take 65) (sym (append-nil p))
 kept-all p (b ∷ bs) = ap (λ (q : List ℕ). joined_with q bs) (kept-joined p b) ∙ kept-all (p ++ (b ∷ [])) bs ∙ ap (take 65) (append_assoc p (b ∷ []) bs)
+
+-- of a line all bytes are kept for which there is room
+kept-room : (p line : List ℕ) → length p ≤ 65 → joined_with p line ≡ p ++ take (65 - length p) line
+kept-room p line h =
+    let q : 65 ≡ length p + (65 - length p) = omega arith in
+    ap (λ (l : List ℕ). joined_with l line) (sym (take_all 65 p h)) ∙ kept-all p line ∙ ap (λ (n : ℕ). take n (p ++ line)) q ∙ take-append-add p line (65 - length p)
+
+-- so many bytes copied after those that are kept
+pub filled : (part bs now : List ℕ) (len k n j : ℕ) → length part ≡ 65 → len ≤ 65 → k ≡ min (65 - len) (length (first_line bs)) → now ≡ take k bs → length now ≡ k → n ≡ len + k
+    → take n (put_mid len j part now) ≡ joined_with (take len part) (first_line bs)
+filled part bs now len k n j hp hl hk e hn q =
+    let line = first_line bs in
+    let lp : length (take len part) ≡ len = length-take-le len part (omega arith) in
+    let room : take k line ≡ take (65 - length (take len part)) line =
+    ap (λ (m : ℕ). take m line) hk ∙ take_min (65 - len) line ∙ ap (λ (m : ℕ). take (65 - m) line) (sym lp) in
+    let same : now ≡ take k line = e ∙ sym (ap (take k) (first_taken bs) ∙ take-take k (length line) bs (omega arith)) in
+    take-put_mid len j part now n (omega arith) (omega arith) ∙ ap (λ (l : List ℕ). take len part ++ l) (same ∙ room) ∙ sym (kept-room (take len part) line (omega arith))
 
 -- no more bytes are kept than came
 joined-within : (l xs : List ℕ) → length (joined_with l xs) ≤ length l + length xs

@@ -1,15 +1,26 @@
 -- Where a line ends in a block.
 use Prim.Native.Nat.{ℕ, suc, ◌+◌, ◌<◌, ◌≤◌}
 use mathlib.Core.Path.{◌≡◌, refl, sym, ap, ◌∙◌}
-use mathlib.Core.Bool.{Bool, true, false}
+use mathlib.Core.Bool.{Bool, true, false, cond}
 use mathlib.Core.List.{List, [], ◌∷◌}
 use lib.Dec.{eqb}
 use lib.ListN.{length, take, drop, length-drop}
 use lib.Seq.{drop-drop}
 use native.Mathlib.Omega.{arith}
 use borrow.Author.Tests.{eqb-true}
+use Rattle.model.specs.Lists.{first}
 use Rattle.lines.specs.Lines.{newline, first_line}
 use Rattle.lines.proofs.JoinLaws.{line-none, line-yes, line-no}
+
+-- a line is as long as the place of the first newline
+ends : (t : Bool) (b n : ℕ) (bs : List ℕ) → n ≡ length bs → elim t [ true ↦ 0 | false ↦ suc n ] ≡ length (cond t [] (b ∷ bs))
+ends true b n bs e = refl
+ends false b n bs e = ap suc e
+
+pub first-newline : (bs : List ℕ) → first (λ b. eqb b newline) bs ≡ length (first_line bs)
+unfolding first first_line
+first-newline [] = refl
+first-newline (b ∷ bs) = ends (eqb b newline) b _ _ (first-newline bs)
 
 -- those before the first newline, as a part of all
 pub first_taken : (bs : List ℕ) → first_line bs ≡ take (length (first_line bs)) bs

@@ -4,7 +4,7 @@
 ghost use Rattle.std.specs.Prelude.{◌≡◌, ◌+◌, ◌≤◌, length, take, drop};
 ghost use Rattle.model.specs.Lists.{same};
 ghost use Rattle.lines.specs.Lines.{first_line};
-ghost use Rattle.lines.specs.Kept.{joined, joined_with};
+ghost use Rattle.lines.specs.Kept.{joined_with};
 
 // The bytes that are kept of a line: one more than a line may have, which tells a longer one.
 pub const KEPT: usize = 65;
@@ -20,61 +20,27 @@ pub struct Filled {
 pub fn same_bytes(a: &[u8], b: &[u8]) -> bool
     ensures { result ≡ same a.now b.now }
 {
-    if a.len() != b.len() {
-        return false;
-    }
-    let mut i = 0;
-    while i < a.len() {
-        if a[i] != b[i] {
-            return false;
-        }
-        i += 1;
-    }
-    true
+    a == b
 }
 
 // The place of the first newline from a place on; the length where there is none.
-#[tactic(auto, using(crate::proofs::JoinLaws::stops_here))]
 pub fn line_end(input: &[u8], start: usize) -> usize
     requires { start ≤ length input.now }
     ensures { result ≡ start + length (first_line (drop start input.now)) }
 {
-    let mut i = start;
-    while i < input.len() {
-        if input[i] == b'\n' {
-            return i;
-        }
-        i += 1;
-    }
-    i
+    let rest = &input[start..];
+    start + rest.iter().position(|&b| b == b'\n').unwrap_or(rest.len())
 }
 
-// A byte joins the line; how many bytes are then kept.
-fn join(part: &mut [u8], len: usize, byte: u8) -> usize
-    requires { (length part.old ≡ 65) × (len ≤ 65) }
-    ensures { (result ≤ 65) × (take result part.new ≡ joined (take len part.old) byte) }
-{
-    if len >= KEPT {
-        return len;
-    }
-    part[len] = byte;
-    len + 1
-}
-
-// The bytes of a block from a place up to a newline, or to the block's end, join the line.
+// The bytes of a block from a place up to a newline, or to the block's end, join the line, as far as they are kept.
 pub fn fill(part: &mut [u8], len: usize, input: &[u8], start: usize) -> Filled
     requires { (length part.old ≡ 65) × (len ≤ 65) × (start ≤ length input.now) }
     ensures { (result.len ≤ 65) × (result.end ≡ start + length (first_line (drop start input.now))) × (take result.len part.new ≡ joined_with (take len part.old) (first_line (drop start input.now))) }
 {
-    let mut n = len;
-    let mut i = start;
-    while i < input.len() {
-        let b = input[i];
-        if b == b'\n' {
-            return Filled { len: n, end: i };
-        }
-        n = join(part, n, b);
-        i += 1;
-    }
-    Filled { len: n, end: i }
+    let end = line_end(input, start);
+    let more = (KEPT - len).min(end - start);
+    let bytes = &input[start..start + more];
+    let n = len + more;
+    part[len..n].copy_from_slice(bytes);
+    Filled { len: n, end }
 }

@@ -7,8 +7,9 @@ use mathlib.Core.Option.{Option, some, none}
 use types.Run.{OneOf, miss}
 use denote.Enum.Declared as declared
 use native.Mathlib.Omega.{arith}
-use Rattle.shoplog.specs.declared.Finding.{Finding}
-use Rattle.shoplog.specs.declared.Finding.TheVariants as F
+use Rattle.std.specs.Prelude.{Ok, Err}
+use Rattle.shoplog.specs.declared.Fault.TheVariants as F
+use Rattle.shoplog.specs.Findings.{Finding}
 use Rattle.shoplog.specs.declared.Verdict.{Verdict}
 use Rattle.shoplog.specs.declared.Verdict.TheVariants.{Clean, Bad, Refused}
 use Rattle.shoplog.specs.Lines.{Line, line_in}
@@ -53,9 +54,9 @@ nothing-counts v U T n bs h = ap (after_bytes bs) (with-stopped v U T n h) ∙ b
 -- ── a line judged: one that is not clean leaves the table ──
 table-if : (f : Finding) (n : ℕ) (U T : List ℕ) → finding_at n f ≢ Clean → if_fine f U T ≡ T
 unfolding finding_at if_fine
-table-if F.Fine n U T h = absurd (h refl)
-table-if F.Over n U T h = refl
-table-if F.Bad n U T h = refl
+table-if (Ok u) n U T h = absurd (h refl)
+table-if (Err F.Over) n U T h = refl
+table-if (Err F.Bad) n U T h = refl
 
 table_stays : (T : List ℕ) (n : ℕ) (x : Option Line) → verdict_by T n x ≢ Clean → table_after T x ≡ T
 unfolding verdict_by table_after

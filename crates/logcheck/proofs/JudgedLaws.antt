@@ -4,13 +4,13 @@ use mathlib.Core.Path.{◌≡◌, refl, ap, ◌∙◌, sym}
 use mathlib.Core.List.{List, ◌∷◌}
 use mathlib.Core.Option.{Option, some, none}
 use native.Mathlib.Omega.{arith}
-use Rattle.shoplog.specs.declared.Finding.{Finding}
-use Rattle.shoplog.specs.declared.Finding.TheVariants as F
+use Rattle.shoplog.specs.Findings.{Fine}
 use Rattle.shoplog.specs.declared.Verdict.TheVariants.{Clean}
 use Rattle.shoplog.specs.Lines.{Line, write, commit, read}
 use Rattle.shoplog.specs.Verdicts.{finding_of}
 use Rattle.shoplog.specs.Logs.{finding_at, line_verdict, with_line}
 use Rattle.shoplog.specs.Written.{LineFits}
+use Rattle.shoplog.proofs.CleanLines.{finding-clean}
 use Rattle.logtable.specs.Parts.{if_fine}
 use Rattle.logtable.specs.Holds.{Holds}
 use Rattle.logtable.proofs.HoldsWrite.{write-found, write-held}
@@ -23,13 +23,6 @@ use Rattle.logcheck.specs.Judged.{found, table_with, verdict_by, table_after}
 abbrev pub Fitting : Option Line → Type 0
 Fitting x = (l : Line) → x ≡ some l → LineFits l
 
--- only a line that is fine is clean
-clean-fine : (n : ℕ) (f : Finding) → finding_at n f ≡ Clean → f ≡ F.Fine
-unfolding finding_at
-clean-fine n F.Fine h = refl
-clean-fine n F.Over h = let z : ◌≡◌ {A = ℕ} 0 1 = cc in absurd (omega arith)
-clean-fine n F.Bad h = let z : ◌≡◌ {A = ℕ} 0 1 = cc in absurd (omega arith)
-
 module _ (T : List ℕ) (ls : List Line) (held : Holds T ls) where
   found-is : (l : Line) → LineFits l → found T l ≡ finding_of ls l
   unfolding found
@@ -37,7 +30,7 @@ module _ (T : List ℕ) (ls : List Line) (held : Holds T ls) where
   found-is (commit t c) f = commit-found T ls t c held f.0.0
   found-is (read t k i) f = read_found_lem T ls t k i held f.0.0 f.1 f.3.0 f.2.0
 
-  held_with : (l : Line) → LineFits l → finding_of ls l ≡ F.Fine → Holds (table_with T l) (l ∷ ls)
+  held_with : (l : Line) → LineFits l → finding_of ls l ≡ Fine → Holds (table_with T l) (l ∷ ls)
   unfolding table_with
   held_with (write t k) f h = write-held T ls t k held f.0.0 f.1 h
   held_with (commit t c) f h = commit-held T ls t c held f.0.0 f.1.0 h
@@ -52,5 +45,5 @@ module _ (T : List ℕ) (ls : List Line) (held : Holds T ls) where
   unfolding verdict_by table_after with_line if_fine
   held_after n none f h = let z : ◌≡◌ {A = ℕ} 0 1 = cc in absurd (omega arith)
   held_after n (some l) f h =
-      let e : found T l ≡ F.Fine = clean-fine n (found T l) h in
+      let e : found T l ≡ Fine = finding-clean n (found T l) h in
       rw e (held_with l (f l refl) (sym (found-is l (f l refl)) ∙ e))

@@ -1,7 +1,7 @@
 -- What the table of the lines above says of a line, and the table after it.
 use Rattle.std.specs.Prelude.{ℕ, List}
 use Rattle.std.proofs.Math.Option.{Option, some, none}
-use Rattle.shoplog.specs.declared.Finding.{Finding}
+use Rattle.shoplog.specs.Findings.{Finding}
 use Rattle.shoplog.specs.declared.Verdict.{Verdict}
 use Rattle.shoplog.specs.declared.Verdict.TheVariants.{Refused}
 use Rattle.shoplog.specs.Lines.{Line, write, commit, read}

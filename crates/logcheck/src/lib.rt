@@ -13,7 +13,8 @@ ghost use Rattle.logcheck.specs.Parts.{checking_of};
 
 use lines::{KEPT, fill, line_end};
 use logtable::{TABLE, judge_commit, judge_read, judge_write};
-use shoplog::{Finding, Parsed, Verdict, parse_log_line};
+use model::Refusal;
+use shoplog::{Fault, LogLine, Verdict, parse_log_line};
 
 // The verdict on the lines so far, how many they are, and how many bytes are kept of the line that has begun.
 #[derive(Clone, Copy)]
@@ -24,13 +25,14 @@ pub struct Checked {
 }
 
 // What a finding says of a line.
-fn verdict_at(found: Finding, number: u64) -> Verdict
+#[tactic(auto, unfolding(shoplog::specs::Logs::finding_at))]
+fn verdict_at(found: Result<(), Fault>, number: u64) -> Verdict
     ensures { result ≡ finding_at number found }
 {
     match found {
-        Finding::Fine => Verdict::Clean,
-        Finding::Over => Verdict::Refused(28, number),
-        Finding::Bad => Verdict::Bad(number),
+        Ok(()) => Verdict::Clean,
+        Err(Fault::Over) => Verdict::Refused(Refusal::LogLimits.number(), number),
+        Err(Fault::Bad) => Verdict::Bad(number),
     }
 }
 
@@ -39,24 +41,15 @@ fn judge_line(table: &mut [u64], line: &[u8], number: u64) -> Verdict
     requires { length table.old ≡ table_size }
     ensures { (result ≡ verdict_by table.old number (line_in line.now)) × (table.new ≡ table_after table.old (line_in line.now)) }
 {
-    let parsed = parse_log_line(line);
-    match parsed {
-        Parsed::Write(t, k) => {
-            let found = judge_write(table, t, k);
-            return verdict_at(found, number);
-        }
-        Parsed::Commit(t, c) => {
-            let found = judge_commit(table, t, c);
-            return verdict_at(found, number);
-        }
-        Parsed::Read(t, k, i) => {
-            let found = judge_read(table, t, k, i);
-            return verdict_at(found, number);
-        }
-        Parsed::Malformed => {
-            return Verdict::Refused(19, number);
-        }
-    }
+    let Some(parsed) = parse_log_line(line) else {
+        return Verdict::Refused(Refusal::Malformed.number(), number);
+    };
+    let found = match parsed {
+        LogLine::Write(txn, key) => judge_write(table, txn, key),
+        LogLine::Commit(txn, clock) => judge_commit(table, txn, clock),
+        LogLine::Read(txn, key, id) => judge_read(table, txn, key, id),
+    };
+    verdict_at(found, number)
 }
 
 // The lines of a block from a place on, where one begins. Each that a newline ends is judged where it lies; of the last its bytes are kept.
@@ -109,16 +102,14 @@ pub fn check_block(
         return check_lines(table, part, above, input, 0);
     }
     let first = fill(part, len, input, 0);
-    let n = first.len;
-    let end = first.end;
-    if end >= input.len() {
+    if first.end >= input.len() {
         return Checked {
             verdict: Verdict::Clean,
             above,
-            len: n,
+            len: first.len,
         };
     }
-    let verdict = judge_line(table, &part[..n], above + 1);
+    let verdict = judge_line(table, &part[..first.len], above + 1);
     let Verdict::Clean = verdict else {
         return Checked {
             verdict,
@@ -126,7 +117,7 @@ pub fn check_block(
             len: 0,
         };
     };
-    check_lines(table, part, above + 1, input, end + 1)
+    check_lines(table, part, above + 1, input, first.end + 1)
 }
 
 // The end of the log, after lines that are clean: a line that has begun is checked, as if its newline came.
@@ -135,9 +126,10 @@ pub fn check_end(table: &mut [u64], part: &[u8], len: usize, above: u64) -> Verd
     ensures { result ≡ verdict_at (checking_of Clean table.old above part.now len) }
 {
     if len == 0 {
-        return Verdict::Clean;
+        Verdict::Clean
+    } else {
+        judge_line(table, &part[..len], above + 1)
     }
-    judge_line(table, &part[..len], above + 1)
 }
 
 // The verdict on a log, whatever its bytes are.
@@ -147,9 +139,8 @@ pub fn check_log(log: &[u8]) -> Verdict
     let mut table = [0u64; TABLE];
     let mut part = [0u8; KEPT];
     let checked = check_block(&mut table, &mut part, 0, 0, log);
-    let verdict = checked.verdict;
-    let Verdict::Clean = verdict else {
-        return verdict;
-    };
-    check_end(&mut table, &part, checked.len, checked.above)
+    match checked.verdict {
+        Verdict::Clean => check_end(&mut table, &part, checked.len, checked.above),
+        verdict => verdict,
+    }
 }

@@ -11,7 +11,7 @@ use native.Mathlib.Omega.{arith}
 use borrow.Author.Tests.{leb-false, eqb-true, not-false}
 use Rattle.model.specs.Lists.{◌or◌}
 use Rattle.model.proofs.Tests.{or-intro-right}
-use Rattle.shoplog.specs.declared.Finding.TheVariants.{Fine, Bad}
+use Rattle.shoplog.specs.Findings.{Fine, Bad}
 use Rattle.shoplog.specs.Lines.{Line, commit}
 use Rattle.shoplog.specs.Verdicts.{write_set, read_set, keys_read, is_committed, is_over, is_bad, finding_of}
 use Rattle.shoplog.proofs.FineLaws.{fine-good, commit-written}

@@ -14,7 +14,7 @@ use Rattle.model.specs.Lists.{any, member}
 use Rattle.model.specs.KeySets.{key_set}
 use Rattle.model.proofs.Tests.{or_left, or_right, and_second, not_of_false}
 use Rattle.model.proofs.ListLaws.{mem-map}
-use Rattle.shoplog.specs.declared.Finding.TheVariants.{Fine}
+use Rattle.shoplog.specs.Findings.{Fine}
 use Rattle.shoplog.specs.Lines.{Line, read}
 use Rattle.shoplog.specs.Verdicts.{actors, read_set, keys_read, one_too_many, is_over, finding_of}
 use Rattle.shoplog.proofs.GatheredLaws.{member-mem}

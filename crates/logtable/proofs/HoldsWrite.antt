@@ -11,7 +11,7 @@ use native.Mathlib.Omega.{arith}
 use borrow.Author.Tests.{leb-false}
 use Rattle.model.specs.Lists.{◌or◌}
 use Rattle.model.proofs.Tests.{or_left}
-use Rattle.shoplog.specs.declared.Finding.TheVariants.{Fine, Over, Bad}
+use Rattle.shoplog.specs.Findings.{Fine, Over, Bad}
 use Rattle.shoplog.specs.Lines.{Line, write}
 use Rattle.shoplog.specs.Verdicts.{actors, write_set, read_set, keys_read, is_committed, one_too_many, is_over, is_bad, finding_of}
 use Rattle.shoplog.proofs.FineLaws.{fine-good}

@@ -8,7 +8,7 @@ use native.Mathlib.Decide.{ℕ_discrete}
 use native.Mathlib.Omega.{arith}
 use Rattle.model.specs.declared.Id.{Id}
 use Rattle.model.specs.declared.Read.{Read}
-use Rattle.shoplog.specs.declared.Finding.TheVariants.{Fine}
+use Rattle.shoplog.specs.Findings.{Fine}
 use Rattle.shoplog.specs.Lines.{Line}
 use Rattle.shoplog.specs.Verdicts.{actors, read_set, keys_read, finding_of}
 use Rattle.shoplog.specs.Claims.{AllFine}

@@ -1,7 +1,6 @@
 pub mod SeatLaws
 pub mod KeyLaws
 pub mod ReadSteps
-pub mod OlderRows
 pub mod FoundLaws
 pub mod SeatedLaws
 pub mod KeysHeldLaws

@@ -3,8 +3,8 @@ use Rattle.std.specs.Prelude.{ℕ, Bool, not, cond, List, eqb, leb, length}
 use Rattle.model.specs.Lists.{◌and◌, ◌or◌, any, member}
 use Rattle.model.specs.Ids.{older}
 use Rattle.model.specs.KeySets.{key_set}
-use Rattle.shoplog.specs.declared.Finding.{Finding}
-use Rattle.shoplog.specs.declared.Finding.TheVariants.{Fine, Over, Bad}
+use Rattle.shoplog.specs.Findings.{Finding}
+use Rattle.shoplog.specs.Findings.{Fine, Over, Bad}
 use Rattle.logtable.specs.Tables.{places, clock_at, written_at, read_at, reads_at, key_of, author_of, read_word, id_at}
 
 -- a key that is not in a set which has so many

@@ -1,5 +1,6 @@
 pub mod Tests
 pub mod ListLaws
+pub mod StdWords
 pub mod RestLaws
 pub mod DistinctLaws
 pub mod InsertLaws

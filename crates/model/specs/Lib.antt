@@ -17,6 +17,7 @@ pub mod Orders
 pub mod Reading
 pub mod Supersedence
 pub mod Clocks
+pub mod Refusals
 pub mod Effects
 pub mod Start
 pub mod Put

@@ -7,19 +7,28 @@ ghost use Rattle.model.specs.Limits.{read_limit};
 ghost use Rattle.model.specs.Kinds.{narrow_kind, wide_kind, slot_size, store_size};
 ghost use Rattle.model.specs.Ids.{same_id};
 ghost use Rattle.model.specs.Listed.{kind_of, listed_entry, listed_live, listed};
-ghost use Rattle.model.specs.Lives.{blank, reads_of, write_count};
+ghost use Rattle.model.specs.Lives.{blank, reads_of, write_count, slot_mark, closing_clock, is_closing};
 ghost use Rattle.model.specs.Entries.{no_entry};
 ghost use Rattle.model.specs.Stations.{empty_station};
 
+mod refusal;
+
+pub use refusal::Refusal;
+
 // 01's id: the pair (clock, ticket) of a committed transaction.
-#[derive(Clone, Copy)]
+#[derive(Clone, Copy, PartialEq, Eq, PartialOrd, Ord)]
 pub struct Id {
     pub clock: u64,
     pub txn: u32,
 }
 
+impl Id {
+    // No transaction's, and older than each.
+    pub const NONE: Id = Id { clock: 0, txn: 0 };
+}
+
 // How far a live transaction is: 01's open, or closing with its slot (drawer), clock and records (slips) stored so far.
-#[derive(Clone, Copy)]
+#[derive(Clone, Copy, PartialEq, Eq)]
 pub enum Phase {
     Unused,
     Open,
@@ -27,15 +36,23 @@ pub enum Phase {
 }
 
 // A key of the read set (01's read list) with the id of the version read.
-#[derive(Clone, Copy)]
+#[derive(Clone, Copy, PartialEq, Eq)]
 pub struct Read {
     pub key: u8,
     pub id: Id,
 }
 
+impl Read {
+    // What stands past the reads that are counted.
+    pub const NONE: Read = Read {
+        key: 0,
+        id: Id::NONE,
+    };
+}
+
 // A place for a live transaction (01's live ticket). Its write set (01's write list) is a number in which bit k stands for key k (02 §5), and the
 // values of its keys in their order; room for 16, a wide store's limit (02 §6).
-#[derive(Clone, Copy)]
+#[derive(Clone, Copy, PartialEq, Eq)]
 pub struct Live {
     pub txn: u32,
     pub phase: Phase,
@@ -46,14 +63,14 @@ pub struct Live {
 }
 
 // A committed transaction of the commit set (01's entry, a held drawer): its id and write set, in which bit k stands for key k (02 §5).
-#[derive(Clone, Copy)]
+#[derive(Clone, Copy, PartialEq, Eq)]
 pub struct Entry {
     pub id: Id,
     pub keys: u64,
 }
 
 // The kind of a store (02 §6): 64 slots of 8 keys, or 32 slots of 16.
-#[derive(Clone, Copy)]
+#[derive(Clone, Copy, PartialEq, Eq)]
 pub enum Kind {
     Narrow,
     Wide,
@@ -61,7 +78,7 @@ pub enum Kind {
 
 // 01's station, the paper's node: all that is lost when power goes. It is made for a store of its kind; of the wide kind only the first 32 entries are
 // used.
-#[derive(Clone, Copy)]
+#[derive(Clone, Copy, PartialEq, Eq)]
 pub struct Station {
     pub live: [Live; Station::LIVE],
     pub entries: [Entry; Station::SLOTS],
@@ -70,7 +87,7 @@ pub struct Station {
 
 // What a call answers; the variants are 01's output words, and Swept and Moved, with how many entries a sweep has collected and how many slots a
 // move has filled. Nofit holds the key in the way; Refused the number and, with 18, the slot.
-#[derive(Clone, Copy)]
+#[derive(Clone, Copy, PartialEq, Eq)]
 pub enum Answer {
     Started,
     Kept,
@@ -92,7 +109,7 @@ pub enum Answer {
 }
 
 // What a call hands back beside the store: its answer, and the station.
-#[derive(Clone, Copy)]
+#[derive(Clone, Copy, PartialEq, Eq)]
 pub struct Outcome {
     pub station: Station,
     pub answer: Answer,
@@ -150,88 +167,106 @@ impl Station {
 
     pub const WIDE_STORE: usize = Station::WIDE_SLOT * Station::WIDE_SLOTS;
 
-    // The station made from nothing. Measured: made of blank and no_entry it is not inlined, and a scan costs a copy more.
-    pub fn empty() -> Station
-        ensures { listed result ≡ empty_station narrow_kind }
+    // The station with nothing in it, of a kind. Measured: made of blank and no_entry it is not inlined, and a scan costs a copy more.
+    pub fn empty(kind: Kind) -> Station
+        ensures { listed result ≡ empty_station (kind_of kind) }
     {
-        empty_of(Kind::Narrow)
+        let live = Live {
+            txn: 0,
+            phase: Phase::Unused,
+            keys: 0,
+            values: [0; Station::WRITE_PLACES],
+            read_count: 0,
+            reads: [Read::NONE; Station::READS],
+        };
+        let entry = Entry {
+            id: Id::NONE,
+            keys: 0,
+        };
+        Station {
+            live: [live; Station::LIVE],
+            entries: [entry; Station::SLOTS],
+            kind,
+        }
     }
+}
 
-    // And of the wide kind.
-    pub fn empty_wide() -> Station
-        ensures { listed result ≡ empty_station wide_kind }
+#[tactic(auto, unfolding(crate::specs::Lives::slot_mark, crate::specs::Lives::closing_clock, crate::specs::Lives::is_closing))]
+impl Phase {
+    // The slot of a closing transaction, counted from 1; 0 of any other.
+    pub fn slot_mark(self) -> u32
+        ensures { result ≡ slot_mark self }
     {
-        empty_of(Kind::Wide)
+        match self {
+            Phase::Closing(slot, _, _) => u32::from(slot) + 1,
+            _ => 0,
+        }
+    }
+
+    // The clock of a closing transaction; 0 of any other.
+    pub fn closing_clock(self) -> u64
+        ensures { result ≡ closing_clock self }
+    {
+        match self {
+            Phase::Closing(_, clock, _) => clock,
+            _ => 0,
+        }
+    }
+
+    pub fn is_closing(self) -> bool
+        ensures { result ≡ is_closing self }
+    {
+        matches!(self, Phase::Closing(_, _, _))
     }
 }
 
-// ---- by the kind
-// Slots; keys in a write set, at most; the mark of a commit record.
-pub fn slots(kind: Kind) -> usize
-    ensures { result ≡ (kind_of kind).slots }
-{
-    match kind {
-        Kind::Narrow => Station::SLOTS,
-        Kind::Wide => Station::WIDE_SLOTS,
+#[tactic(auto, unfolding(crate::specs::Listed::kind_of))]
+impl Kind {
+    // The mark of a commit record; slots; keys in a write set, at most.
+    pub fn mark(self) -> u8
+        ensures { result ≡ (kind_of self).mark }
+    {
+        match self {
+            Kind::Narrow => 1,
+            Kind::Wide => 2,
+        }
     }
-}
 
-pub fn write_limit(kind: Kind) -> usize
-    ensures { result ≡ (kind_of kind).write_limit }
-{
-    match kind {
-        Kind::Narrow => Station::WRITES,
-        Kind::Wide => Station::WIDE_WRITES,
+    pub fn slots(self) -> usize
+        ensures { result ≡ (kind_of self).slots }
+    {
+        match self {
+            Kind::Narrow => Station::SLOTS,
+            Kind::Wide => Station::WIDE_SLOTS,
+        }
     }
-}
 
-pub fn mark(kind: Kind) -> u8
-    ensures { result ≡ (kind_of kind).mark }
-{
-    match kind {
-        Kind::Narrow => 1,
-        Kind::Wide => 2,
+    pub fn write_limit(self) -> usize
+        ensures { result ≡ (kind_of self).write_limit }
+    {
+        match self {
+            Kind::Narrow => Station::WRITES,
+            Kind::Wide => Station::WIDE_WRITES,
+        }
     }
-}
 
-// The bytes of a slot and of a store.
-pub fn slot_size(kind: Kind) -> usize
-    ensures { result ≡ slot_size (kind_of kind) }
-{
-    match kind {
-        Kind::Narrow => Station::SLOT,
-        Kind::Wide => Station::WIDE_SLOT,
+    // The bytes of a slot and of a store.
+    pub fn slot_size(self) -> usize
+        ensures { result ≡ slot_size (kind_of self) }
+    {
+        match self {
+            Kind::Narrow => Station::SLOT,
+            Kind::Wide => Station::WIDE_SLOT,
+        }
     }
-}
 
-pub fn store_size(kind: Kind) -> usize
-    ensures { result ≡ store_size (kind_of kind) }
-{
-    match kind {
-        Kind::Narrow => Station::STORE,
-        Kind::Wide => Station::WIDE_STORE,
-    }
-}
-
-// The station with nothing in it, of a kind.
-pub fn empty_of(kind: Kind) -> Station
-    ensures { listed result ≡ empty_station (kind_of kind) }
-{
-    let id = Id { clock: 0, txn: 0 };
-    let read = Read { key: 0, id: id };
-    let live = Live {
-        txn: 0,
-        phase: Phase::Unused,
-        keys: 0,
-        values: [0; Station::WRITE_PLACES],
-        read_count: 0,
-        reads: [read; Station::READS],
-    };
-    let entry = Entry { id: id, keys: 0 };
-    Station {
-        live: [live; Station::LIVE],
-        entries: [entry; Station::SLOTS],
-        kind,
+    pub fn store_size(self) -> usize
+        ensures { result ≡ store_size (kind_of self) }
+    {
+        match self {
+            Kind::Narrow => Station::STORE,
+            Kind::Wide => Station::WIDE_STORE,
+        }
     }
 }
 
@@ -240,15 +275,13 @@ pub fn empty_of(kind: Kind) -> Station
 pub fn blank(txn: u32, phase: Phase) -> Live
     ensures { listed_live result ≡ blank txn phase }
 {
-    let id = Id { clock: 0, txn: 0 };
-    let read = Read { key: 0, id };
     Live {
         txn,
         phase,
         keys: 0,
         values: [0; Station::WRITE_PLACES],
         read_count: 0,
-        reads: [read; Station::READS],
+        reads: [Read::NONE; Station::READS],
     }
 }
 
@@ -256,24 +289,10 @@ pub fn blank(txn: u32, phase: Phase) -> Live
 pub fn no_entry() -> Entry
     ensures { listed_entry result ≡ no_entry }
 {
-    let id = Id { clock: 0, txn: 0 };
-    Entry { id, keys: 0 }
-}
-
-pub fn wide(x: u8) -> usize
-    ensures { result ≡ x }
-{
-    x as usize
-}
-
-// The same clock and transaction.
-pub fn same_id(a: Id, b: Id) -> bool
-    ensures { result ≡ same_id a b }
-{
-    if a.clock != b.clock {
-        return false;
+    Entry {
+        id: Id::NONE,
+        keys: 0,
     }
-    a.txn == b.txn
 }
 
 // How many keys the transaction writes.
@@ -288,10 +307,5 @@ pub fn read_count(l: Live) -> usize
     ensures upper_bound { result ≤ read_limit }
     ensures value { result ≡ length (reads_of (listed_live l)) }
 {
-    let n = l.read_count;
-    if n < Station::READS_U8 {
-        wide(n)
-    } else {
-        Station::READS
-    }
+    usize::from(l.read_count).min(Station::READS)
 }

@@ -6,7 +6,7 @@ use mathlib.Core.Logic.{◌≢◌, ◌⊎◌, inl, inr}
 use mathlib.Core.Bool.{Bool, true, false, cond}
 use mathlib.Core.List.{List, [], ◌∷◌, ◌++◌, map}
 use lib.Dec.{ltb}
-use lib.ListN.{length, take, get_or, replicate, length-map, get_or-map}
+use lib.ListN.{length, take, replicate, get_or-map}
 use lib.Seq.{length-take-le}
 use native.Mathlib.Omega.{arith}
 use borrow.Author.Tests.{eq-eqb, ne_eqb, lt-ltb, le-ltb, ltb-true, ltb-false}
@@ -24,27 +24,18 @@ use Rattle.model.specs.Slots.{Seen, free, committed, damaged}
 use Rattle.model.specs.Effects.{outcome_of, says, refusals, wrong_length}
 use Rattle.model.specs.Scan.{slots_seen, entry_seen, entries_seen, is_committed, lowest_broken, scanned, scan}
 use Rattle.model.specs.Moves.{too_wide, moved_slots, moved, Move, unmoved, move}
-use Rattle.model.proofs.ListLaws.{any-yes, any-no, any_at, any-none-of, get_or-all, map_at}
-use Rattle.model.proofs.ListedLaws.{zero_entry, listed-length, listed_at}
+use Rattle.model.proofs.ListLaws.{any-yes, any-no, any-none-of, get_or-all}
 use Rattle.model.proofs.ScanLaws.{seen-length, lowest-keeps}
 use Rattle.model.proofs.MoveRows.{move-finished}
 
 -- ── write sets among entries: the machine's, and those of the slots seen ──
-module _ (κ : Kind) (es : List machine.Entry.Entry) where
-  abbrev sets : List Seen
-  sets = map committed (listed_entries es)
+abbrev pub many-keys : ℕ → machine.Entry.Entry → Bool
+many-keys n e = ltb n (length (key_set e.keys))
 
-  keys-at : (j : ℕ) → j < length es → too_wide κ (get_or sets j free) ≡ ltb κ.write_limit (length (key_set (get_or es j zero_entry).keys))
-  unfolding too_wide
-  keys-at j o = ap (too_wide κ) (map_at committed (listed_entries es) j (omega (arith, o, listed-length es)) free no_entry ∙ ap committed (listed_at es j o no_entry zero_entry))
-
-  pub set-wide : (j : ℕ) → j < length es → κ.write_limit < length (key_set (get_or es j zero_entry).keys) → any (too_wide κ) sets ≡ true
-  set-wide j o h = any_at (too_wide κ) sets free j (omega (arith, o, listed-length es, length-map (listed_entries es) committed)) (keys-at j o ∙ lt-ltb κ.write_limit (length (key_set (get_or es j zero_entry).keys)) h)
-
-  pub sets-narrow : ((j : ℕ) → j < length es → length (key_set (get_or es j zero_entry).keys) ≤ κ.write_limit) → any (too_wide κ) sets ≡ false
-  sets-narrow f = any-none-of (too_wide κ) sets free (λ j u.
-      let o : j < length es = omega (arith, u, listed-length es, length-map (listed_entries es) committed) in
-      keys-at j o ∙ le-ltb κ.write_limit (length (key_set (get_or es j zero_entry).keys)) (f j o))
+pub sets-wide : (κ : Kind) (es : List machine.Entry.Entry) → any (many-keys κ.write_limit) es ≡ any (too_wide κ) (map committed (listed_entries es))
+unfolding any too_wide
+sets-wide κ [] = refl
+sets-wide κ (e ∷ es) = ap (λ (b : Bool). elim (many-keys κ.write_limit e) [ true ↦ true | false ↦ b ]) (sets-wide κ es)
 
 unused-narrow : (κ : Kind) → too_wide κ (committed no_entry) ≡ false
 unfolding too_wide

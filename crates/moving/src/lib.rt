@@ -4,7 +4,7 @@
 
 ghost use Rattle.std.specs.Prelude.{◌≡◌, false, ◌++◌, map, ◌+◌, ◌*◌, ◌-◌, ◌<◌, ◌≤◌, length, take, replicate};
 ghost use Rattle.model.specs.Lists.{any, count};
-ghost use Rattle.model.specs.Limits.{record_size};
+ghost use Rattle.model.specs.Limits.{keys, record_size};
 ghost use Rattle.model.specs.Kinds.{slot_size, store_size};
 ghost use Rattle.model.specs.KeySets.{key_set};
 ghost use Rattle.model.specs.Listed.{kind_of, listed_entry, listed_entries};
@@ -12,15 +12,23 @@ ghost use Rattle.model.specs.Slots.{committed, seen};
 ghost use Rattle.model.specs.Scan.{slots_seen, entries_seen, is_committed};
 ghost use Rattle.model.specs.Moves.{too_wide, moved_slot, moved_slots, move, move_out, move_back};
 
-use model::{Answer, Entry, Kind, Station, slot_size, slots, store_size, wide, write_limit};
+use model::{Answer, Entry, Kind, Refusal, Station};
 use records::{clear, copy, write_commit};
 use recovery::scan_of;
+
+// How many keys a write set has.
+fn key_count(e: &Entry) -> usize
+    ensures within { result ≤ keys }
+    ensures value { result ≡ length (key_set e.now.keys) }
+{
+    e.keys.count_ones() as usize
+}
 
 // The bytes of a committed slot that are read: its commit record, and the version records of its keys.
 fn used_size(e: Entry) -> usize
     ensures { result ≡ record_size * (length (key_set e.keys) + 1) }
 {
-    Station::RECORD * (u64::count_ones(e.keys) as usize + 1)
+    Station::RECORD * (key_count(&e) + 1)
 }
 
 // The slot of another kind for the committed slot d, over the part lent: its commit record, the version records of its keys, and zeros.
@@ -32,7 +40,7 @@ fn move_slot(from: Kind, to: Kind, source: &[u8], d: usize, part: &mut [u8], e: 
     requires keys_len_bound { length (key_set e.keys) ≤ (kind_of to).write_limit }
     ensures { part.new ≡ moved_slot (kind_of from) (kind_of to) source.now d (listed_entry e) }
 {
-    let begin = slot_size(from) * d;
+    let begin = from.slot_size() * d;
     let size = used_size(e);
     copy(part, &source[begin..begin + size]);
     clear(part, size);
@@ -40,48 +48,36 @@ fn move_slot(from: Kind, to: Kind, source: &[u8], d: usize, part: &mut [u8], e: 
 }
 
 // A write set among the entries has more keys than the kind takes.
-fn too_wide(kind: Kind, entries: [Entry; Station::SLOTS]) -> bool
-    ensures { result ≡ any (too_wide (kind_of kind)) (map committed (listed_entries entries)) }
+fn too_wide(kind: Kind, entries: &[Entry; Station::SLOTS]) -> bool
+    ensures { result ≡ any (too_wide (kind_of kind)) (map committed (listed_entries entries.now)) }
 {
-    let limit = write_limit(kind);
-    let mut d = 0;
-    while d < Station::SLOTS {
-        let e = entries[d];
-        if limit < u64::count_ones(e.keys) as usize {
-            return true;
-        }
-        d += 1;
-    }
-    false
+    let limit = kind.write_limit();
+    entries.iter().any(|e| limit < key_count(e))
 }
 
 // Committed slots in order into the target's, from its first; where the next would begin.
+#[tactic(auto, using(recovery::proofs::ScanSteps::slots_fit))]
 fn move_slots(
     from: Kind,
     to: Kind,
     source: &[u8],
     target: &mut [u8],
-    entries: [Entry; Station::SLOTS],
+    entries: &[Entry; Station::SLOTS],
 ) -> usize
     requires source_len { length source.now ≡ store_size (kind_of from) }
     requires target_len { length target.old ≡ store_size (kind_of to) }
-    requires entries_value { listed_entries entries ≡ entries_seen (slots_seen (kind_of from) source.now) }
+    requires entries_value { listed_entries entries.now ≡ entries_seen (slots_seen (kind_of from) source.now) }
     requires source_bound { count is_committed (slots_seen (kind_of from) source.now) ≤ (kind_of to).slots }
     requires source_value { any (too_wide (kind_of to)) (slots_seen (kind_of from) source.now) ≡ false }
     ensures { (result ≤ length target.new) × (take result target.new ≡ moved_slots (kind_of from) (kind_of to) source.now 0 (slots_seen (kind_of from) source.now)) }
 {
-    let room = slot_size(to);
-    let count = slots(from);
+    let room = to.slot_size();
     let mut at = 0;
-    let mut d = 0;
-    while d < count {
-        let e = entries[d];
-        let id = e.id;
-        if id.txn != 0 {
-            move_slot(from, to, source, d, &mut target[at..at + room], e);
+    for d in 0..from.slots() {
+        if entries[d].id.txn != 0 {
+            move_slot(from, to, source, d, &mut target[at..at + room], entries[d]);
             at += room;
         }
-        d += 1;
     }
     at
 }
@@ -90,32 +86,27 @@ fn move_slots(
 pub fn move_between(from: Kind, to: Kind, source: &[u8], target: &mut [u8]) -> Answer
     ensures { (result ≡ (move (kind_of from) (kind_of to) source.now target.old).answer) × (target.new ≡ (move (kind_of from) (kind_of to) source.now target.old).target) }
 {
-    if source.len() != store_size(from) {
-        return Answer::Refused(1, 0);
-    }
-    if target.len() != store_size(to) {
-        return Answer::Refused(1, 0);
+    if source.len() != from.store_size() || target.len() != to.store_size() {
+        return Answer::Refused(Refusal::StoreLength.number(), 0);
     }
     let scanned = scan_of(from, source);
-    let said = scanned.answer;
-    let Answer::Found(found) = said else {
-        return said;
+    let Answer::Found(found) = scanned.answer else {
+        return scanned.answer;
     };
-    if slots(to) < wide(found) {
-        return Answer::Refused(22, 0);
+    if to.slots() < usize::from(found) {
+        return Answer::Refused(Refusal::TooManySlots.number(), 0);
     }
-    let station = scanned.station;
-    let entries = station.entries;
-    if too_wide(to, entries) {
-        return Answer::Refused(23, 0);
+    if too_wide(to, &scanned.station.entries) {
+        return Answer::Refused(Refusal::TooManyKeys.number(), 0);
     }
-    let end = move_slots(from, to, source, target, entries);
+    let end = move_slots(from, to, source, target, &scanned.station.entries);
     clear(target, end);
     Answer::Moved(found)
 }
 
 // A narrow store into a wide one: how many committed slots were moved. Refused with 1 where either has another length, 18 with the slot where the
 // source is damaged, 22 where more than 32 slots are committed.
+#[tactic(auto, unfolding(model::specs::Listed::kind_of))]
 pub fn move_out(source: &[u8], target: &mut [u8]) -> Answer
     ensures { (result ≡ (move_out source.now target.old).answer) × (target.new ≡ (move_out source.now target.old).target) }
 {
@@ -123,6 +114,7 @@ pub fn move_out(source: &[u8], target: &mut [u8]) -> Answer
 }
 
 // A wide store into a narrow one. Refused with 1 and 18 likewise, and with 23 where a write set has more than 8 keys.
+#[tactic(auto, unfolding(model::specs::Listed::kind_of))]
 pub fn move_back(source: &[u8], target: &mut [u8]) -> Answer
     ensures { (result ≡ (move_back source.now target.old).answer) × (target.new ≡ (move_back source.now target.old).target) }
 {

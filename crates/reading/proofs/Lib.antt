@@ -1,6 +1,6 @@
 pub mod Order
 pub mod Loops
-pub mod ColumnLoop
+pub mod ColumnLaws
 pub mod KeyLoop
 pub mod Marks
 pub mod Rows

@@ -1,39 +1,64 @@
 -- Numbers read and written byte by byte, and the parts of a record put together.
-use Prim.Native.Nat.{ℕ, zero, suc, ◌+◌, ◌*◌, ◌-◌, ◌/◌, ◌%◌, ◌^◌, ◌<◌, ◌≤◌}
-use mathlib.Core.Path.{◌≡◌, refl, sym, ap, ◌∙◌}
-use mathlib.Core.List.{List, [], ◌∷◌, ◌++◌, append-nil}
-use lib.ListN.{length, take, drop, get_or, set, length-set, drop_of_length-le}
-use lib.Seq.{take_at, drop_at}
-use native.Mathlib.Nat.{suc-ne-zero, pow-succ'}
+use Prim.Native.Nat.{ℕ, zero, suc, ◌+◌, ◌*◌, ◌^◌, ◌<◌, ◌≤◌}
+use mathlib.Core.Path.{◌≡◌, refl, sym, ap, subst, ◌∙◌}
+use mathlib.Core.List.{List, [], ◌∷◌, ◌++◌, append-nil, append_assoc}
+use lib.Dec.{lit<}
+use lib.ListN.{length, drop, get_or, set, length-set, length-append, drop_of_length-le}
+use lib.Seq.{take_at, drop_at, get_or-append_seam}
+use native.Mathlib.Nat.{suc-ne-zero, pow-succ', pow-le-pow_right}
 use native.Mathlib.Omega.{arith}
+use mir.Val.{Fits}
+use mir.Syntax.{w8}
 use borrow.Rule.Slice.PartMut.{mid_of, put_mid, mid_len, same_len_mid}
 use Rattle.model.specs.declared.Id.{Id}
-use Rattle.model.specs.Limits.{keys_size, record_size, byte_range}
+use Rattle.model.specs.Limits.{record_size, byte_range}
 use Rattle.model.specs.Bytes.{bytes, number, head_bytes}
 use Rattle.model.proofs.RecordLaws.{length-bytes}
-use Rattle.model.proofs.RestLaws.{rest-next}
 
 -- ── numbers ──
--- one byte more, read from the back
-pub number-back : (s : List ℕ) (i : ℕ) → 0 < i → i ≤ length s → number (drop (i - 1) s) ≡ number (drop i s) * byte_range + get_or s (i - 1) 0
-unfolding number
-number-back s i p h =
-    let e : i - 1 + 1 ≡ i = omega arith in
-    ap number (rest-next s (i - 1) 0 (omega arith)) ∙ ap (λ (n : ℕ). get_or s (i - 1) 0 + byte_range * number (drop n s)) e ∙ omega arith
-
 pub grow : (x b n m : ℕ) → x < byte_range ^ n → b < byte_range → m ≡ suc n → x * byte_range + b < byte_range ^ m
 grow x b n m p q e =
     let f : byte_range ^ m ≡ byte_range * byte_range ^ n = ap (λ (k : ℕ). byte_range ^ k) e ∙ pow-succ' byte_range n in
     omega arith
 
--- the first byte, and those to come
-pub bytes_next : (i n x : ℕ) → i < n → bytes (n - i) x ≡ x % byte_range ∷ bytes (n - (i + 1)) (x / byte_range)
-unfolding bytes
-bytes_next i n x o = let e : n - i ≡ suc (n - (i + 1)) = omega arith in rw e
+-- the loop: of the bytes s, the rest is to be read, and the sum is the number of those after it
+pub record Summed (s rest : List ℕ) (sum : ℕ) : Type 0 where
+  pub done : List ℕ
+  pub parts : s ≡ rest ++ done
+  pub is : sum ≡ number done
+  pub low : sum < byte_range ^ length done
 
-pub bytes-end : (i n x : ℕ) → n ≤ i → bytes (n - i) x ≡ []
-unfolding bytes
-bytes-end i n x o = let e : n - i ≡ 0 = omega arith in rw e
+pub summed-starts : (s : List ℕ) → Summed s s 0
+unfolding number
+summed-starts s = record { done = []; parts = sym (append-nil s); is = refl; low = lit< tt }
+
+module _ (s rest rest' : List ℕ) (sum x : ℕ) (h : Summed s rest sum) (e : rest ≡ rest' ++ (x ∷ [])) where
+  pub summed-next : x < byte_range → Summed s rest' (sum * byte_range + x)
+  unfolding number
+  summed-next o = record {
+    done = x ∷ h.done;
+    parts = h.parts ∙ (ap (λ (l : List ℕ). l ++ h.done) e ∙ append_assoc rest' (x ∷ []) h.done);
+    is = ap (λ (n : ℕ). n * byte_range + x) h.is ∙ omega arith;
+    low = grow sum x (length h.done) (suc (length h.done)) h.low o refl;
+  }
+
+  -- the byte at hand is one of s
+  pub summed-byte : ((i : ℕ) → Fits w8 (get_or s i 0)) → x < byte_range
+  summed-byte b =
+      let i = length rest' in
+      let here : get_or s i 0 ≡ x = ap (λ (l : List ℕ). get_or l i 0) (h.parts ∙ (ap (λ (l : List ℕ). l ++ h.done) e ∙ append_assoc rest' (x ∷ []) h.done)) ∙ get_or-append_seam rest' x h.done 0 in
+      omega (arith, here, b i)
+
+  pub summed-room : length s ≤ 8 → sum < byte_range ^ 7
+  summed-room l =
+      let k : length h.done ≤ 7 = omega (arith, l, ap length h.parts, length-append rest h.done, ap length e, length-append rest' (x ∷ [])) in
+      let p : byte_range ^ length h.done ≤ byte_range ^ 7 = pow-le-pow_right (lit< tt) {j = 7} k in
+      omega (arith, h.low, p)
+
+pub summed-ends : (s rest : List ℕ) (sum : ℕ) → Summed s rest sum → rest ≡ [] → (sum ≡ number s) × (sum < byte_range ^ length s)
+summed-ends s rest sum h e =
+    let same : h.done ≡ s = ap (λ (l : List ℕ). l ++ h.done) (sym e) ∙ sym h.parts in
+    (h.is ∙ ap number same, subst (λ (l : List ℕ). sum < byte_range ^ length l) same h.low)
 
 -- ── a record ──
 -- its cells, one by one
@@ -46,11 +71,6 @@ spread-all zero [] e = refl
 spread-all zero (x ∷ xs) e = absurd (suc-ne-zero _ e)
 spread-all (suc n) [] e = absurd (suc-ne-zero _ (sym e))
 spread-all (suc n) (x ∷ xs) e = ap (λ (l : List ℕ). x ∷ l) (spread-all n xs (omega arith))
-
--- the key bytes, read one by one
-pub keys-read : (s : List ℕ) → length s ≡ record_size
-    → ◌≡◌ {A = List ℕ} (get_or s 16 0 ∷ get_or s 17 0 ∷ get_or s 18 0 ∷ get_or s 19 0 ∷ get_or s 20 0 ∷ get_or s 21 0 ∷ get_or s 22 0 ∷ get_or s 23 0 ∷ []) (take keys_size (drop 16 s))
-keys-read s h = rw (spread-all record_size s h)
 
 -- four bytes stored, and two numbers written after them
 abbrev pub four : List ℕ → ℕ → ℕ → List ℕ

@@ -22,10 +22,6 @@ use Rattle.records.specs.Fields.{fields_in, first_keys, field_rules}
 
 -- ── the rules of the fields ──
 module _ (f : Fields) (h : field_rules f ≡ true) where
-  pub fields-some : 1 ≤ f.count
-  unfolding field_rules
-  fields-some = leb-true 1 f.count (and_left _ _ (and_left _ _ (and_left _ _ (and_left _ _ (and_left _ _ h)))))
-
   pub fields-few : f.count ≤ keys_size
   unfolding field_rules
   fields-few = leb-true f.count keys_size (and_right _ _ (and_left _ _ (and_left _ _ (and_left _ _ (and_left _ _ h)))))

@@ -1,9 +1,9 @@
 -- What is read of a slot's bytes, step by step.
-use Prim.Native.Nat.{ℕ, suc, ◌+◌, ◌*◌, ◌-◌, ◌<◌, ◌≤◌}
-use mathlib.Core.Path.{◌≡◌, refl, sym, ap, ap₂, ◌∙◌}
+use Prim.Native.Nat.{ℕ, suc, ◌+◌, ◌*◌, ◌-◌, ◌≤◌}
+use mathlib.Core.Path.{◌≡◌, refl, sym, ap, ap₂, subst, ◌∙◌}
 use mathlib.Core.Logic.{◌≢◌}
 use mathlib.Core.Bool.{Bool, true, false}
-use mathlib.Core.List.{List, ◌∷◌}
+use mathlib.Core.List.{List, [], ◌∷◌}
 use lib.Dec.{eqb, leb, lit<}
 use lib.ListN.{length, take, drop, get_or, length-drop}
 use lib.Seq.{get_or-take, length-take-le}
@@ -11,94 +11,66 @@ use native.Mathlib.Omega.{arith}
 use borrow.Rule.Slice.PartMut.{mid_len}
 use native.Mathlib.Numerals.{add-one}
 use borrow.Author.Tests.{eq-eqb, ne_eqb}
+use Rattle.std.proofs.Common.{Some, None}
+use Rattle.model.specs.declared as machine
 use Rattle.model.specs.declared.Id.{Id}
 use Rattle.model.specs.Types.{Entry}
 use Rattle.model.specs.Lists.{◌and◌, same}
-use Rattle.model.specs.Limits.{keys_size, record_size, number_range}
+use Rattle.model.specs.Limits.{keys_size, record_size}
 use Rattle.model.specs.Kinds.{Kind, narrow_kind, wide_kind, slot_size, slot_start}
-use Rattle.model.specs.Bytes.{bytes, number, id_in}
+use Rattle.model.specs.Bytes.{bytes, number}
 use Rattle.model.specs.KeySets.{key_set, set_number}
 use Rattle.model.specs.Entries.{mark_in, entry_in, free_mark, carries_keys, entry_rules, commit_rules, keys_of}
 use Rattle.model.specs.Records.{carries_version, record_place, record_at}
 use Rattle.model.specs.Slots.{Seen, committed, versions_carry, judged, seen}
 use Rattle.model.proofs.Tests.{and-none-left, and_assoc}
-use Rattle.model.proofs.KeySetLaws.{set-none, set-ascends, set-number}
-use Rattle.model.proofs.RecordLaws.{Bytes, bytes-number, same_refl}
-use Rattle.keysets.specs.Parts.{IsLowest, IsRest}
+use Rattle.model.proofs.KeySetLaws.{set-ascends, set-number}
+use Rattle.model.proofs.RecordLaws.{Bytes, bytes_take, bytes_drop, bytes-number, same_refl, record-part}
+use Rattle.model.specs.Ranges.{IsByte}
+use Rattle.model.proofs.ListLaws.{every_of}
+use Rattle.model.proofs.RangesKept.{number-below}
 use Rattle.records.specs.declared.Fields.{Fields}
 use Rattle.records.specs.declared.Slot.TheVariants.{Free, Committed, Damaged}
 use Rattle.records.specs.Fields.{fields_in, first_keys, field_rules, number_rules, is_commit, rest_rules, IsWritten}
 use Rattle.records.specs.SlotView.{seen_as}
-use Rattle.records.proofs.ListSteps.{taken_next, taken-end}
 use Rattle.records.proofs.FieldLaws.{entry-fields, rules-fields}
 
 -- ── the version records ──
--- record n, as a part of the slot's bytes
-pub part-record : (w : List ℕ) (n : ℕ) → take (record_size * (n + 1) + record_size - record_size * (n + 1)) (drop (record_size * (n + 1)) w) ≡ record_at narrow_kind w 0 (n + 1)
-unfolding record_at slot_start
-part-record w n =
-    let e : record_size * (n + 1) + record_size - record_size * (n + 1) ≡ record_size = omega arith in
-    let f : record_size * (n + 1) ≡ record_place narrow_kind 0 (n + 1) = omega arith in
-    ap (λ (k : ℕ). take k (drop (record_size * (n + 1)) w)) e ∙ ap (λ (k : ℕ). take record_size (drop k w)) f
-
 pub part_length : (w : List ℕ) (a k : ℕ) → a + k ≤ length w → length (take (a + k - a) (drop a w)) ≡ k
 part_length w a k h = mid_len a (a + k) w h ∙ omega arith
 
-module _ (r : ℕ → List ℕ) (i : Id) (ks : List ℕ) (m n : ℕ) where
-  versions-next : n < m → m ≤ length ks → versions_carry r i (n + 1) (drop n (take m ks)) ≡ (carries_version (r (n + 1)) (get_or ks n 0) i and versions_carry r i (n + 1 + 1) (drop (n + 1) (take m ks)))
-  unfolding versions_carry
-  versions-next o l = rw (taken_next ks m n o l, add-one (n + 1))
+part-record : (κ : Kind) (w : List ℕ) (n : ℕ) → take (record_size * (n + 1) + record_size - record_size * (n + 1)) (drop (record_size * (n + 1)) w) ≡ record_at κ w 0 (n + 1)
+unfolding slot_start
+part-record κ w n = record-part κ w 0 (n + 1) (record_size * (n + 1)) (omega arith)
 
-  pub versions-more : n < m → m ≤ length ks → carries_version (r (n + 1)) (get_or ks n 0) i ≡ true → versions_carry r i (n + 1) (drop n (take m ks)) ≡ versions_carry r i (n + 1 + 1) (drop (n + 1) (take m ks))
-  versions-more o l h = versions-next o l ∙ rw h (unfold ◌and◌ in refl)
+pub carried : (w : List ℕ) (i : Id) (n k : ℕ) (b : Bool) → b ≡ carries_version (take (record_size * (n + 1) + record_size - record_size * (n + 1)) (drop (record_size * (n + 1)) w)) k i
+    → (κ : Kind) → carries_version (record_at κ w 0 (n + 1)) k i ≡ b
+carried w i n k b e κ = ap (λ (r : List ℕ). carries_version r k i) (sym (part-record κ w n)) ∙ sym e
 
-  pub versions-not : n < m → m ≤ length ks → carries_version (r (n + 1)) (get_or ks n 0) i ≡ false → versions_carry r i (n + 1) (drop n (take m ks)) ≡ false
-  versions-not o l h = versions-next o l ∙ and-none-left _ _ h
+-- the records above n are to carry the keys left, and the slot has them
+pub record Left (w : List ℕ) (i : Id) (whole left : List ℕ) (n : ℕ) : Type 0 where
+  pub room : record_size * (n + length left + 1) ≤ length w
+  pub kept : (κ : Kind) → versions_carry (record_at κ w 0) i 1 whole ≡ versions_carry (record_at κ w 0) i (n + 1) left
 
-  pub versions-end : m ≤ n → versions_carry r i (n + 1) (drop n (take m ks)) ≡ true
-  unfolding versions_carry
-  versions-end h = ap (versions_carry r i (n + 1)) (taken-end ks m n h)
+module _ (w : List ℕ) (i : Id) (whole : List ℕ) where
+  pub left-starts : record_size * (length whole + 1) ≤ length w → Left w i whole whole 0
+  left-starts h = record { room = omega (arith, h); kept = λ κ. refl }
 
--- ── a wide slot's version records, by the keys left of a set ──
-pub part_at : (w : List ℕ) (n : ℕ) → take (record_size * n + record_size - record_size * n) (drop (record_size * n) w) ≡ record_at wide_kind w 0 n
-unfolding record_at slot_start
-part_at w n =
-    let e : record_size * n + record_size - record_size * n ≡ record_size = omega arith in
-    let f : record_size * n ≡ record_place wide_kind 0 n = omega arith in
-    ap (λ (k : ℕ). take k (drop (record_size * n) w)) e ∙ ap (λ (k : ℕ). take record_size (drop k w)) f
-
--- the records from the nth on are to carry the keys of the rest, and there are so many
-pub record Left (r : ℕ → List ℕ) (i : Id) (set rest n : ℕ) : Type 0 where
-  pub first : 1 ≤ n
-  pub room : n + length (key_set rest) ≤ 17
-  pub kept : versions_carry r i 1 (key_set set) ≡ versions_carry r i n (key_set rest)
-
-module _ (r : ℕ → List ℕ) (i : Id) (set : ℕ) where
-  pub left-starts : length (key_set set) ≤ 16 → Left r i set set 1
-  left-starts h = record { first = omega arith; room = omega (arith, h); kept = refl }
-
-  module _ (rest n k rest' : ℕ) (h : Left r i set rest n) where
-    pub left-room : IsLowest rest k → n ≤ 16
-    left-room (o, (ks, e)) = omega (arith, h.room, ap length e)
-
-    split : IsLowest rest k → IsRest rest rest' → key_set rest ≡ k ∷ key_set rest'
-    split (o, (ks, e)) (p, (j, f)) = f ∙ ap (λ (x : ℕ). x ∷ key_set rest') (ap (λ (x : List ℕ). get_or x 0 0) (sym f ∙ e))
-
-    pub left-next : IsLowest rest k → IsRest rest rest' → carries_version (r n) k i ≡ true → Left r i set rest' (n + 1)
+  module _ (left : List ℕ) (n k : ℕ) (h : Left w i whole (k ∷ left) n) where
+    pub left-next : ((κ : Kind) → carries_version (record_at κ w 0 (n + 1)) k i ≡ true) → Left w i whole left (n + 1)
     unfolding versions_carry ◌and◌
-    left-next l m c = let e = split l m in record {
-      first = omega arith;
-      room = omega (arith, h.room, ap length e);
-      kept = h.kept ∙ (ap (versions_carry r i n) e ∙ (ap (λ (b : Bool). b and versions_carry r i (suc n) (key_set rest')) c ∙ ap (λ (x : ℕ). versions_carry r i x (key_set rest')) (sym (add-one n))));
+    left-next c = record {
+      room = omega (arith, h.room);
+      kept = λ κ. h.kept κ ∙ (ap (λ (b : Bool). b and versions_carry (record_at κ w 0) i (suc (n + 1)) left) (c κ) ∙ ap (λ (x : ℕ). versions_carry (record_at κ w 0) i x left) (sym (add-one (n + 1))));
     }
 
-    pub left_not : IsLowest rest k → carries_version (r n) k i ≡ false → versions_carry r i 1 (key_set set) ≡ false
+    pub left-not : (κ : Kind) → carries_version (record_at κ w 0 (n + 1)) k i ≡ false → versions_carry (record_at κ w 0) i 1 whole ≡ false
     unfolding versions_carry
-    left_not (o, (ks, e)) c = h.kept ∙ (ap (versions_carry r i n) e ∙ and-none-left _ _ c)
+    left-not κ c = h.kept κ ∙ and-none-left _ _ c
 
-  pub left-ends : (rest n : ℕ) → Left r i set rest n → rest ≡ 0 → versions_carry r i 1 (key_set set) ≡ true
+  pub left-ends : (left : List ℕ) (n : ℕ) → Left w i whole left n → left ≡ [] → (κ : Kind) → versions_carry (record_at κ w 0) i 1 whole ≡ true
   unfolding versions_carry
-  left-ends rest n h z = h.kept ∙ ap (versions_carry r i n) (ap key_set z ∙ set-none)
+  left-ends left n h e κ = h.kept κ ∙ ap (versions_carry (record_at κ w 0) i (n + 1)) e
 
 -- ── the slot ──
 module _ (κ : Kind) (w : List ℕ) where
@@ -135,26 +107,21 @@ module _ (κ : Kind) (w : List ℕ) where
     unfolding seen_as judged ◌and◌
     slot-no-commit h = sym (slot_is false false (rest_rules κ w) (ne_eqb _ free_mark m) h refl)
 
-    module _ (c : is_commit κ (take record_size w) ≡ true) (n : ℕ) (written : IsWritten κ w n) where
-      pub slot-unwritten : n ≡ 0 → seen_as Damaged ≡ seen κ w 0
+    module _ (c : is_commit κ (take record_size w) ≡ true) where
+      pub slot-unwritten : IsWritten κ w None → seen_as Damaged ≡ seen κ w 0
       unfolding seen_as judged ◌and◌ IsWritten
-      slot-unwritten z = sym (slot_is false true false (ne_eqb _ free_mark m) c (written.0 z))
+      slot-unwritten h = sym (slot_is false true false (ne_eqb _ free_mark m) c h)
 
-      pub slot-committed : 0 < n → (i : Id) → i ≡ id_in (take record_size w) → seen_as (Committed (record { id = i; keys = n })) ≡ seen κ w 0
-      unfolding seen_as judged ◌and◌ IsWritten entry_in
-      slot-committed o i e =
-          ap committed (λ z. record { id = e z; keys = (written.1 o).1 z })
-          ∙ sym (slot_is false true true (ne_eqb _ free_mark m) c (written.1 o).0)
+      pub slot-committed : (e : machine.Entry.Entry) → IsWritten κ w (Some e) → seen_as (Committed e) ≡ seen κ w 0
+      unfolding seen_as judged ◌and◌ IsWritten
+      slot-committed e h = ap committed h.1 ∙ sym (slot_is false true true (ne_eqb _ free_mark m) c h.0)
 
 -- ── the rest of the rules, by the fields ──
 module _ (w : List ℕ) (f : Fields) (q : f ≡ fields_in (take record_size w)) where
   -- of a narrow slot
   module _ (l : length w ≡ slot_size narrow_kind) where
-    entry-is : entry_in narrow_kind (take record_size w) ≡ record { id = f.id; keys = first_keys f }
+    pub entry-is : entry_in narrow_kind (take record_size w) ≡ record { id = f.id; keys = first_keys f }
     entry-is = entry-fields (take record_size w) ∙ ap (λ (x : Fields). record { id = x.id; keys = first_keys x }) (sym q)
-
-    pub narrow-keys : first_keys f ≡ keys_of (entry_in narrow_kind (take record_size w))
-    narrow-keys = sym (ap keys_of entry-is)
 
     pub narrow_rest : rest_rules narrow_kind w ≡ (field_rules f and versions_carry (record_at narrow_kind w 0) f.id 1 (first_keys f))
     unfolding rest_rules
@@ -162,14 +129,18 @@ module _ (w : List ℕ) (f : Fields) (q : f ≡ fields_in (take record_size w)) 
         (rules-fields (take record_size w) (length-take-le record_size w (omega arith)) ∙ ap field_rules (sym q))
         (ap (λ (x : Entry). versions_carry (record_at narrow_kind w 0) x.id 1 (keys_of x)) entry-is)
 
-  -- of a wide slot, whose key bytes make the number n
-  module _ (l : length w ≡ slot_size wide_kind) (b : Bytes f.keys) (n : ℕ) (low : n < number_range) (e : n ≡ number f.keys) where
-    wide-entry : entry_in wide_kind (take record_size w) ≡ record { id = f.id; keys = key_set n }
-    unfolding entry_in fields_in
-    wide-entry = ap (λ (x : Fields). record { id = x.id; keys = key_set (number x.keys) }) (sym q) ∙ ap (λ (m : ℕ). record { id = f.id; keys = key_set m }) (sym e)
+  -- of a wide slot
+  module _ (l : length w ≡ slot_size wide_kind) (b : Bytes w) where
+    abbrev n : ℕ
+    n = number f.keys
 
-    pub wide-keys : key_set n ≡ keys_of (entry_in wide_kind (take record_size w))
-    wide-keys = sym (ap keys_of wide-entry)
+    pub wide-entry : entry_in wide_kind (take record_size w) ≡ record { id = f.id; keys = key_set n }
+    unfolding entry_in fields_in
+    wide-entry = ap (λ (x : Fields). record { id = x.id; keys = key_set (number x.keys) }) (sym q)
+
+    key-bytes : Bytes f.keys
+    unfolding fields_in
+    key-bytes = subst (λ (x : Fields). Bytes x.keys) (sym q) (bytes_take keys_size (drop 16 (take record_size w)) (bytes_drop 16 (take record_size w) (bytes_take record_size w b)))
 
     eight : length f.keys ≡ keys_size
     unfolding fields_in
@@ -177,7 +148,7 @@ module _ (w : List ℕ) (f : Fields) (q : f ≡ fields_in (take record_size w)) 
 
     -- its key bytes are the number's: every eight bytes are
     bytes_same : same f.keys (bytes keys_size (set_number (key_set n))) ≡ true
-    bytes_same = ap (same f.keys) (ap (bytes keys_size) (set-number n low ∙ e) ∙ bytes-number keys_size f.keys eight b) ∙ same_refl f.keys
+    bytes_same = ap (same f.keys) (ap (bytes keys_size) (set-number n (number-below keys_size f.keys eight (every_of IsByte f.keys 0 key-bytes))) ∙ bytes-number keys_size f.keys eight key-bytes) ∙ same_refl f.keys
 
     gathered : (c s a m t k u : Bool) → s ≡ true → u ≡ true → ((c and s) and (a and m and t and k and u)) ≡ (c and a and m and t and k)
     unfolding ◌and◌

@@ -1,10 +1,11 @@
 -- A commit record's fields as its bytes have them, and its rules by these.
-use Rattle.std.specs.Prelude.{ℕ, ◌<◌, ◌≡◌, Bool, true, false, List, eqb, leb, length, take, drop, get_or}
+use Rattle.std.specs.Prelude.{ℕ, ◌≡◌, Bool, true, false, List, Option, Some, None, eqb, leb, length, take, drop, get_or}
 use Rattle.model.specs.Lists.{◌and◌, all, ascending}
 use Rattle.model.specs.Limits.{keys, keys_size, record_size}
 use Rattle.model.specs.Kinds.{Kind, wide_kind}
-use Rattle.model.specs.KeySets.{key_set}
+use Rattle.model.specs.declared as machine
 use Rattle.model.specs.Types.{Entry}
+use Rattle.model.specs.Listed.{listed_entry}
 use Rattle.model.specs.declared.Id.{Id}
 use Rattle.model.specs.Bytes.{id_in}
 use Rattle.model.specs.Entries.{keys_of, count_in, key_bytes, mark_in, entry_in, carries_keys, entry_rules}
@@ -40,6 +41,7 @@ rest_rules κ w =
     let e : Entry = entry_in κ (take record_size w) in
     (carries_keys κ (take record_size w) (keys_of e) and entry_rules κ e) and versions_carry (record_at κ w 0) e.id 1 (keys_of e)
 
--- the number of its write set, where these are kept; 0, which is none, where they are not
-unfoldable pub IsWritten : Kind → List ℕ → ℕ → Type 0
-IsWritten κ w n = (n ≡ 0 → rest_rules κ w ≡ false) × (0 < n → (rest_rules κ w ≡ true) × (key_set n ≡ keys_of (entry_in κ (take record_size w))))
+-- its entry, where these are kept; none, where they are not
+unfoldable pub IsWritten : Kind → List ℕ → Option machine.Entry.Entry → Type 0
+IsWritten κ w None = rest_rules κ w ≡ false
+IsWritten κ w (Some e) = (rest_rules κ w ≡ true) × (listed_entry e ≡ entry_in κ (take record_size w))

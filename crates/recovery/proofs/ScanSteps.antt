@@ -1,10 +1,9 @@
 -- A scan, slot by slot: what holds of the slots passed, one slot more, and what is answered.
 use Prim.Native.Nat.{ℕ, suc, ◌+◌, ◌*◌, ◌-◌, ◌<◌, ◌≤◌, ◌^◌}
 use mathlib.Core.Path.{◌≡◌, refl, sym, ap, ap₂, subst, ◌∙◌}
-use mathlib.Core.Logic.{◌≢◌}
 use mathlib.Core.Bool.{Bool, true, false}
 use mathlib.Core.List.{List, [], ◌∷◌, ◌++◌, map, append_assoc}
-use lib.ListN.{length, take, drop, get_or, replicate, set, length-set, length-map}
+use lib.ListN.{length, take, drop, replicate, set, length-set, length-map}
 use lib.Dec.{lit<}
 use lib.Seq.{take_all, take-suc, take_at, length-take-le}
 use native.Mathlib.Nat.{not-suc-le-zero}
@@ -12,41 +11,26 @@ use native.Mathlib.Decide.{ℕ_discrete}
 use native.Mathlib.Omega.{arith}
 use native.Mathlib.Numerals.{add-one}
 use borrow.Rule.Slice.PartMut.{mid_len}
-use borrow.Author.Tests.{eq-eqb, ne_eqb}
 use Rattle.model.specs.declared as machine
-use Rattle.model.specs.Types.{Entry, Station}
-use Rattle.model.specs.declared.Answer.{Answer}
+use Rattle.model.specs.Types.{Entry}
 use Rattle.model.specs.declared.Answer.TheVariants as A
-use Rattle.model.specs.Lists.{padded, any, count, member}
+use Rattle.model.specs.Lists.{padded, count, member}
 use Rattle.model.specs.Limits.{entry_places}
 use Rattle.model.specs.Kinds.{Kind, slot_size, store_size, slot_start, KindFits}
 use Rattle.model.specs.declared.Kind.TheVariants.{Narrow, Wide}
-use Rattle.model.specs.Listed.{kind_of, listed_entry, listed_entries, listed, listed_outcome}
+use Rattle.model.specs.Listed.{kind_of, listed_entry, listed_entries}
 use Rattle.model.specs.Entries.{no_entry}
 use Rattle.model.specs.Stations.{empty_station, idle_station}
 use Rattle.model.specs.Slots.{Seen, free, committed, damaged, seen}
-use Rattle.model.specs.Effects.{outcome_of, says}
+use Rattle.model.specs.Effects.{says}
 use Rattle.model.specs.Scan.{slots_seen, entry_seen, entries_seen, is_committed, breaks, scan}
-use Rattle.model.proofs.ListLaws.{count_yes, count_no, member-yes, member-no}
-use Rattle.model.proofs.ListedLaws.{listed-set}
+use Rattle.model.proofs.ListLaws.{count_yes, count_no}
+use Rattle.model.proofs.ListedLaws.{listed-set, kind_fits}
 use Rattle.model.proofs.RecordLaws.{slot-start, slot-inside}
 use Rattle.model.proofs.SlotLaws.{slot-part}
 use Rattle.model.proofs.ScanLaws.{seen-length, seen_at, txn_seen, none-keeps, scan-finds, scan-refused}
 use Rattle.records.specs.declared.Slot.{Slot}
 use Rattle.records.specs.SlotView.{seen_as}
-use Rattle.records.proofs.ListSteps.{taken_next, taken-end}
-
--- ── a column of numbers searched ──
-module _ (ts : List ℕ) (n i t : ℕ) where
-  pub column-hit : i < n → n ≤ length ts → get_or ts i 0 ≡ t → member t (drop i (take n ts)) ≡ true
-  column-hit o l h = ap (member t) (taken_next ts n i o l) ∙ member-yes t (get_or ts i 0) (drop (i + 1) (take n ts)) (eq-eqb t (get_or ts i 0) (sym h))
-
-  pub column-miss : i < n → n ≤ length ts → get_or ts i 0 ≢ t → member t (drop i (take n ts)) ≡ member t (drop (i + 1) (take n ts))
-  column-miss o l h = ap (member t) (taken_next ts n i o l) ∙ member-no t (get_or ts i 0) (drop (i + 1) (take n ts)) (ne_eqb t (get_or ts i 0) (λ e. h (sym e)))
-
-  pub column-end : n ≤ i → member t (drop i (take n ts)) ≡ false
-  unfolding member any
-  column-end h = ap (member t) (taken-end ts n i h)
 
 -- ── a slot's bytes, z of them ──
 module _ (κ : Kind) (s : List ℕ) (z d : ℕ) (q : z ≡ slot_size κ) where
@@ -69,6 +53,10 @@ module _ (κ : Kind) (s : List ℕ) (z d : ℕ) (q : z ≡ slot_size κ) where
 
   pub slot_seen : (r x : Slot) → seen_as r ≡ seen κ slot_part 0 → r ≡ x → seen κ s d ≡ seen_as x
   slot_seen r x p h = sym part-slot ∙ sym p ∙ ap seen_as h
+
+-- a store has no more slots than a station has entries
+pub slots_fit : (k : machine.Kind.Kind) → (kind_of k).slots ≤ 64
+slots_fit k = (kind_fits k).slots-fit
 
 -- a store is short enough for its places to be numbers
 pub store-short : (k : machine.Kind.Kind) → store_size (kind_of k) < 2 ^ 16
@@ -160,14 +148,14 @@ module _ (κ : Kind) (s : List ℕ) where
     pub unbroken : (j : ℕ) → j < d → breaks (passed j) (seen κ s j) ≡ false
 
   -- no slot passed yet
-  pub passed_none : (st : machine.Station.Station) → listed st ≡ empty_station κ → Passed st.entries (replicate entry_places 0) 0 0
+  pub passed_none : (es : List machine.Entry.Entry) → listed_entries es ≡ (empty_station κ).entries → Passed es (replicate entry_places 0) 0 0
   unfolding count empty_station column
-  passed_none st q = record {
+  passed_none es q = record {
     below = omega arith;
     few = omega arith;
     txn-places = refl;
     figure = refl;
-    entries = ap (λ (x : Station). x.entries) q;
+    entries = q;
     txns = refl;
     unbroken = λ j o. absurd (not-suc-le-zero o);
   }
@@ -220,16 +208,9 @@ module _ (κ : Kind) (s : List ℕ) where
     refused-damaged l x = scan-refused κ s l d o (ap (breaks (passed d)) x) p.unbroken
 
   -- all slots passed
-  pub found_all : (es : List machine.Entry.Entry) (ts : List ℕ) (n d : ℕ) → Passed es ts n d → κ.slots ≤ d → length s ≡ store_size κ
-      → scan κ s ≡ says (A.Found n) (record { kind = κ; live = (empty_station κ).live; entries = listed_entries es })
-  unfolding empty_station
+  pub found_all : (es : List machine.Entry.Entry) (ts : List ℕ) (n d : ℕ) → Passed es ts n d → κ.slots ≤ d → length s ≡ store_size κ → scan κ s ≡ says (A.Found n) (idle_station κ (listed_entries es))
   found_all es ts n d p o l =
       scan-finds κ s l (none-keeps κ s (λ j oj. p.unbroken j (omega arith)))
       ∙ ap₂ (λ (k : ℕ) (e : List Entry). says (A.Found k) (idle_station κ e))
       (sym (p.figure ∙ ap (count is_committed) (take_all d (slots_seen κ s) (omega (arith, seen-length κ s)))))
       (sym (p.entries ∙ column-all d (omega (arith, o, p.below))))
-
-  -- an answer and a station, as the scan's outcome
-  pub handed-back : (a : Answer) (st : machine.Station.Station) (t : Station) → listed st ≡ t → scan κ s ≡ says a t → listed_outcome (record { answer = a; station = st }) ≡ outcome_of (scan κ s)
-  unfolding outcome_of says
-  handed-back a st t q h = ap (λ (x : Station). record { answer = a; station = x }) q ∙ sym (ap outcome_of h)

@@ -1,65 +1,42 @@
--- Bytes that begin with others, as they are compared one by one.
-use Prim.Native.Nat.{ℕ, ◌+◌, ◌<◌, ◌≤◌}
-use mathlib.Core.Path.{◌≡◌, refl, sym, ap, ◌∙◌}
+-- Bytes that begin with a word, as `strip_prefix` tells them from others.
+use Prim.Native.Nat.{ℕ, ◌+◌}
+use mathlib.Core.Path.{◌≡◌, refl, ap, ◌∙◌}
 use mathlib.Core.Logic.{◌≢◌}
-use mathlib.Core.Bool.{Bool, true, false, true≢false}
-use mathlib.Core.List.{List, [], ◌∷◌}
-use mathlib.Core.Option.{some, none}
+use mathlib.Core.Bool.{true, false}
+use mathlib.Core.List.{List, ◌++◌}
+use mathlib.Core.Option.{Option, some, none}
 use lib.Dec.{eqb}
-use lib.ListN.{length, drop, get_or, drop_of_length-le}
-use native.Mathlib.Nat.{not-suc-le-zero}
-use native.Mathlib.Omega.{arith}
-use borrow.Author.Tests.{eq-eqb, ne_eqb}
-use Rattle.decimal.proofs.FieldLaws.{rest-next}
+use lib.ListN.{length, take, drop}
+use denote.Ref.{Bor}
+use Rattle.std.specs.Prelude as P
+use Rattle.std.specs.Prelude.{Some, None, MatchOption}
+use Rattle.std.specs.Cmp.Lexicographic.{pointwise}
+use Rattle.std.proofs.lemmas.Option.{MatchOption-at_some, MatchOption-at_none}
+use Rattle.std.proofs.lemmas.Bool.Decides.{Decides-eqb}
+use Rattle.std.proofs.lemmas.Slice.Eq.{strip_prefix_is}
 use Rattle.resp.specs.Inverse.{after}
-use Rattle.resp.specs.Parts.{Begins}
+use Rattle.resp.proofs.RestLaws.{after-own, after_is}
 
--- too few bytes
-pub after-short : (w bs : List ℕ) → length bs < length w → after w bs ≡ none
-unfolding after
-after-short [] bs h = absurd (not-suc-le-zero h)
-after-short (x ∷ w) [] h = refl
-after-short (x ∷ w) (b ∷ bs) h = go (eqb x b) refl (after-short w bs (omega arith))
+-- they are the word and nothing, whatever
+after-else : (w s : List ℕ) → ((r : List ℕ) → s ≢ w ++ r) → after w s ≡ none
+after-else w s h = go (after w s) refl
   where
-    go : (t : Bool) → eqb x b ≡ t → after w bs ≡ none → after (x ∷ w) (b ∷ bs) ≡ none
-    go true e ih = rw e ih
-    go false e ih = rw e
+    go : (o : Option (List ℕ)) → after w s ≡ o → after w s ≡ none
+    go none e = e
+    go (some r) e = absurd (h r (after_is w s r e))
 
--- ── the rest from a place on ──
-module _ (w bs : List ℕ) (i : ℕ) where
-  pub after_next : i < length w → i < length bs → get_or bs i 0 ≡ get_or w i 0 → after (drop i w) (drop i bs) ≡ after (drop (i + 1) w) (drop (i + 1) bs)
-  unfolding after
-  after_next o p h = rw (rest-next w i o, rest-next bs i p, eq-eqb (get_or w i 0) (get_or bs i 0) (sym h))
+-- what `strip_prefix` ensures
+abbrev pub Stripped : List ℕ → List ℕ → P.Option (Bor (List ℕ)) → Type 0
+Stripped w s o = MatchOption o (pointwise eqb (take (length w) s) w ≡ false)
+    (λ x. (pointwise eqb (take (length w) s) w ≡ true) × (x.now ≡ drop (length w) s) × (length x.now + length w ≡ length s))
 
-  pub after-not : i < length w → i < length bs → get_or bs i 0 ≢ get_or w i 0 → after (drop i w) (drop i bs) ≡ none
-  unfolding after
-  after-not o p h = rw (rest-next w i o, rest-next bs i p, ne_eqb (get_or w i 0) (get_or bs i 0) (λ e. h (sym e)))
+module _ (w s : List ℕ) (o : P.Option (Bor (List ℕ))) (h : Stripped w s o) where
+  pub stripped-none : o ≡ None → after w s ≡ none
+  stripped-none e = after-else w s (MatchOption-at_none _ _ e (strip_prefix_is Decides-eqb s w o h))
 
-  pub after-end : i ≡ length w → after (drop i w) (drop i bs) ≡ some (drop (length w) bs)
-  unfolding after
-  after-end e =
-      let o : length w ≤ i = omega arith in
-      ap (λ (l : List ℕ). after l (drop i bs)) (drop_of_length-le w o) ∙ ap (λ (n : ℕ). some (drop n bs)) e
+  pub stripped-some : (x : Bor (List ℕ)) → o ≡ Some x → after w s ≡ some x.now
+  stripped-some x e = ap (after w) (MatchOption-at_some _ _ x e (strip_prefix_is Decides-eqb s w o h)) ∙ after-own w x.now
 
--- ── what the code says of it ──
-module _ (w bs : List ℕ) where
-  pub begins-yes : after w bs ≡ some (drop (length w) bs) → length w ≤ length bs → Begins true w bs
-  unfolding Begins
-  begins-yes e l = ((λ z. (e, l)), λ z. absurd (true≢false z))
-
-  pub begins-no : after w bs ≡ none → Begins false w bs
-  unfolding Begins
-  begins-no e = ((λ z. absurd (true≢false (sym z))), λ z. e)
-
-  module _ {r : Bool} (h : Begins r w bs) where
-    pub begun : r ≡ true → after w bs ≡ some (drop (length w) bs)
-    unfolding Begins
-    begun e = (h.0 e).0
-
-    pub begun-long : r ≡ true → length w ≤ length bs
-    unfolding Begins
-    begun-long e = (h.0 e).1
-
-    pub not-begun : r ≡ false → after w bs ≡ none
-    unfolding Begins
-    not-begun e = h.1 e
+pub stripped : (w s : List ℕ) (o : P.Option (Bor (List ℕ))) → Stripped w s o → MatchOption o (after w s ≡ none) (λ x. after w s ≡ some x.now)
+stripped w s None h = stripped-none w s None h refl
+stripped w s (Some x) h = stripped-some w s (Some x) h x refl

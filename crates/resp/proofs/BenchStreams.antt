@@ -4,14 +4,15 @@ use mathlib.Core.Path.{◌≡◌, refl}
 use mathlib.Core.List.{List, [], ◌∷◌, ◌++◌, map}
 use mathlib.Core.Option.{Option, some, none}
 use lib.ListN.{length}
+use Rattle.std.specs.Prelude.{Result, Ok}
 use Rattle.model.specs.Lists.{◌and◌, ◌or◌, all, any, member, distinct}
 use Rattle.model.specs.Ids.{older, same_id}
 use Rattle.decimal.specs.Digits.{digits_of, digits, is_digit, number_from, is_decimal, number_below}
 use Rattle.decimal.specs.Fields.{field, after_field}
 use Rattle.resp.specs.Streams.{Transaction, line_end, bulk, set_begins, set_command, id_text, version_name, version_command, commit_name, keys_after, keys_text, commit_command, versions_text, transaction_text, stream_of, oldest_first, none_twice}
 use Rattle.resp.specs.Inverse.{◌then◌, after, bulk_of, bulk_in, id_from, id_text_in, name_in, valued, version_in, closed, goes_on, onward, versions_from, transaction_in, sequence_from, sequence_in, transactions_in}
-use Rattle.resp.specs.declared.Transfer.{Transfer}
-use Rattle.resp.specs.declared.Transfer.TheVariants.{Done, Refused}
+use Rattle.resp.specs.declared.Refused.{Refused}
+use Rattle.resp.specs.Exports.{refused}
 use Rattle.resp.specs.Imports.{taken}
 
 -- `*3`, `$3`, `SET` and `$`, each but the last ended by its line's end
@@ -101,23 +102,23 @@ pub several : ℕ → ℕ → List Transaction
 several zero n = []
 several (suc m) n = record { id = record { clock = n; txn = n }; writes = record { key = 2; value = 40 } ∷ [] } ∷ several m (n + 1)
 
-pub said : List ℕ → Transfer
+pub said : List ℕ → Result ℕ Refused
 said bs = (taken (transactions_in bs) []).answer
 
-pub sixty-four : said (stream_of (several 64 1)) ≡ Done 64
+pub sixty-four : said (stream_of (several 64 1)) ≡ Ok 64
 unfolding said several taken stream_of transaction_text versions_text version_command version_name transactions_in sequence_in sequence_from transaction_in versions_from onward goes_on closed version_in valued name_in id_text_in id_from bulk_in bulk_of ◌then◌ after oldest_first none_twice distinct older same_id commit_command set_command set_begins bulk line_end commit_name id_text keys_text keys_after digits digits_of field after_field number_below is_decimal number_from is_digit all any member ◌and◌ ◌or◌
 sixty-four = refl
 
-pub sixty-five : said (stream_of (several 65 1)) ≡ Refused 13 0
+pub sixty-five : said (stream_of (several 65 1)) ≡ refused 13 0
 unfolding said several taken stream_of transaction_text versions_text version_command version_name transactions_in sequence_in sequence_from transaction_in versions_from onward goes_on closed version_in valued name_in id_text_in id_from bulk_in bulk_of ◌then◌ after oldest_first none_twice distinct older same_id commit_command set_command set_begins bulk line_end commit_name id_text keys_text keys_after digits digits_of field after_field number_below is_decimal number_from is_digit all any member ◌and◌ ◌or◌
 sixty-five = refl
 
 -- one bad byte after 65 good ones
-pub sixty-five-and-a-byte : said (stream_of (several 65 1) ++ (42 ∷ [])) ≡ Refused 27 0
+pub sixty-five-and-a-byte : said (stream_of (several 65 1) ++ (42 ∷ [])) ≡ refused 27 0
 unfolding said several taken stream_of transaction_text versions_text version_command version_name transactions_in sequence_in sequence_from transaction_in versions_from onward goes_on closed version_in valued name_in id_text_in id_from bulk_in bulk_of ◌then◌ after oldest_first none_twice distinct older same_id commit_command set_command set_begins bulk line_end commit_name id_text keys_text keys_after digits digits_of field after_field number_below is_decimal number_from is_digit all any member ◌and◌ ◌or◌
 sixty-five-and-a-byte = refl
 
 -- the first ticket again, as the 66th: "27 .. a repeated ticket" over the whole stream
-pub again-after-sixty-five : said (stream_of (several 65 1 ++ (record { id = record { clock = 66; txn = 1 }; writes = record { key = 2; value = 40 } ∷ [] } ∷ []))) ≡ Refused 27 0
+pub again-after-sixty-five : said (stream_of (several 65 1 ++ (record { id = record { clock = 66; txn = 1 }; writes = record { key = 2; value = 40 } ∷ [] } ∷ []))) ≡ refused 27 0
 unfolding said several taken stream_of transaction_text versions_text version_command version_name transactions_in sequence_in sequence_from transaction_in versions_from onward goes_on closed version_in valued name_in id_text_in id_from bulk_in bulk_of ◌then◌ after oldest_first none_twice distinct older same_id commit_command set_command set_begins bulk line_end commit_name id_text keys_text keys_after digits digits_of field after_field number_below is_decimal number_from is_digit all any member ◌and◌ ◌or◌
 again-after-sixty-five = refl

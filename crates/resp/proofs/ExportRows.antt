@@ -7,13 +7,14 @@ use lib.ListN.{length, drop, length-append}
 use native.Mathlib.Decide.{ℕ_discrete, dec_lt}
 use native.Mathlib.Omega.{arith}
 use borrow.Author.Tests.{lt-ltb, le-ltb, eq-eqb, ne_eqb}
+use Rattle.std.specs.Prelude.{Result, Ok}
 use Rattle.model.specs.Lists.{◌or◌, count}
 use Rattle.model.specs.Kinds.{narrow_kind, store_size}
 use Rattle.model.specs.declared.Answer.TheVariants as A
 use Rattle.model.specs.Effects.{Effect, says, refusals, wrong_length}
 use Rattle.model.specs.Scan.{slots_seen, is_committed, entries_seen, lowest_broken, scanned, scan}
 use Rattle.model.proofs.ScanLaws.{seen-length, KeepsRules, keeps-lowest, lowest-keeps, scan-finds}
-use Rattle.resp.specs.declared.Transfer.TheVariants.{Done}
+use Rattle.resp.specs.declared.Refused.{Refused}
 use Rattle.resp.specs.Streams.{stream_of}
 use Rattle.resp.specs.Exports.{committed_set, target_size, unexported, exported_to, export}
 use Rattle.resp.proofs.ImportLaws.{refused≢done}
@@ -86,10 +87,10 @@ pub record Exported (s t : List ℕ) (n : ℕ) : Type 0 where
   pub long : length (stream_of (committed_set s)) ≡ n
   pub target : (export s t).target ≡ stream_of (committed_set s) ++ drop (length (stream_of (committed_set s))) t
 
-done-injective : (m n : ℕ) → Done m ≡ Done n → m ≡ n
+done-injective : (m n : ℕ) → ◌≡◌ {A = Result ℕ Refused} (Ok m) (Ok n) → m ≡ n
 done-injective m n h = cc
 
-pub export-done : (s t : List ℕ) (n : ℕ) → (export s t).answer ≡ Done n → Exported s t n
+pub export-done : (s t : List ℕ) (n : ℕ) → (export s t).answer ≡ Ok n → Exported s t n
 export-done s t n h = first (ℕ_discrete (length s) (store_size narrow_kind))
   where
     refused : (a b : ℕ) → export s t ≡ unexported a b t → ⊥
@@ -111,5 +112,5 @@ export-done s t n h = first (ℕ_discrete (length s) (store_size narrow_kind))
     first (no l) = absurd (refused 1 0 (wrong-store s t l))
 
 -- the stream lies in the target
-pub export-inside : (s t : List ℕ) (n : ℕ) → (export s t).answer ≡ Done n → n ≤ length (export s t).target
+pub export-inside : (s t : List ℕ) (n : ℕ) → (export s t).answer ≡ Ok n → n ≤ length (export s t).target
 export-inside s t n h = let e = export-done s t n h in omega (arith, ap length e.target, length-append (stream_of (committed_set s)) (drop (length (stream_of (committed_set s))) t), e.long)

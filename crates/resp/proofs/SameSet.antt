@@ -4,8 +4,8 @@ use mathlib.Core.Path.{◌≡◌, ap, ◌∙◌}
 use mathlib.Core.List.{List}
 use lib.ListN.{length, take}
 use lib.Seq.{take_at}
+use Rattle.std.specs.Prelude.{Ok}
 use Rattle.model.specs.Kinds.{narrow_kind}
-use Rattle.resp.specs.declared.Transfer.TheVariants.{Done}
 use Rattle.resp.specs.Streams.{Transaction, stream_of, CommittedSet}
 use Rattle.resp.specs.Exports.{committed_set, export}
 use Rattle.resp.specs.Imports.{Import, filled, import}
@@ -35,5 +35,5 @@ same_set s t n bytes h s₂ l₂ = (ap (λ (m : Import). m.answer) done, ap (λ 
     stream : take n (export s t).target ≡ stream_of xs
     stream = ap (take n) x.target ∙ take_at (stream_of xs) _ n x.long
 
-    done : import (take n (export s t).target) s₂ ≡ record { answer = Done (length xs); store = filled xs }
+    done : import (take n (export s t).target) s₂ ≡ record { answer = Ok (length xs); store = filled xs }
     done = rw stream (imports (stream_of xs) s₂ xs l₂ (stream-back xs fits) short)

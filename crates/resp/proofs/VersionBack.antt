@@ -3,7 +3,7 @@ use Prim.Native.Nat.{ℕ, ◌<◌}
 use mathlib.Core.Path.{◌≡◌, refl, sym, ap, ap₂, subst, ◌∙◌}
 use mathlib.Core.List.{List, ◌++◌, append_assoc}
 use mathlib.Core.Option.{some, none, some-injective}
-use lib.ListN.{length}
+use lib.ListN.{length, length-append}
 use native.Mathlib.Omega.{arith}
 use Rattle.model.specs.declared.Id.{Id}
 use Rattle.model.specs.Types.{Write}
@@ -14,6 +14,7 @@ use Rattle.decimal.proofs.DigitLaws.{count-below}
 use Rattle.decimal.proofs.RoundTrip.{read-digits}
 use Rattle.resp.specs.Streams.{bulk, set_begins, set_command, version_name, version_command, commit_name, keys_text, commit_command}
 use Rattle.resp.specs.Inverse.{◌then◌, Bulk, Name, name_in, Version, valued, version_in}
+use Rattle.resp.proofs.LengthLaws.{set-begins}
 use Rattle.resp.proofs.ThenLaws.{then_some, then-none, then-read}
 use Rattle.resp.proofs.RestLaws.{after-own, after_is, number_is}
 use Rattle.resp.proofs.BulkBack.{bulk-back, bulk-is}
@@ -92,3 +93,11 @@ version-is bs v h =
           named = subst IdNamed (sym q.2) p.named;
           fits = record { key-low = subst (λ (k : ℕ). k < keys) (sym q.3) p.key-low; value64 = q.1 };
         }
+
+-- what comes after it is shorter
+pub version-shorter : (bs : List ℕ) (v : Version) → version_in bs ≡ some v → length v.rest < length bs
+unfolding version_command set_command
+version-shorter bs v h =
+    let b : List ℕ = bulk (version_name v.write.key v.id) ++ bulk (digits v.write.value) in
+    let e = ap length (version-is bs v h).bytes-are in
+    omega (arith, e, length-append (set_begins ++ b) v.rest, length-append set_begins b, ap length set-begins)

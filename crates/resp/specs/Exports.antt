@@ -1,5 +1,5 @@
 -- 02 §11: "Export a narrow store's committed set, scanned for one station".
-use Rattle.std.specs.Prelude.{ℕ, suc, cond, not, List, [], ◌∷◌, ◌++◌, eqb, ltb, length, drop}
+use Rattle.std.specs.Prelude.{ℕ, suc, cond, not, List, [], ◌∷◌, ◌++◌, eqb, ltb, length, drop, Result, Ok, Err}
 use Rattle.model.specs.Types.{Entry, Write}
 use Rattle.model.specs.Lists.{◌or◌}
 use Rattle.model.specs.Kinds.{narrow_kind}
@@ -9,8 +9,7 @@ use Rattle.model.specs.Records.{value_in, record_at}
 use Rattle.model.specs.Slots.{Seen, free, committed, damaged}
 use Rattle.model.specs.Effects.{wrong_length}
 use Rattle.model.specs.Scan.{slots_seen, lowest_broken}
-use Rattle.resp.specs.declared.Transfer.{Transfer}
-use Rattle.resp.specs.declared.Transfer.TheVariants.{Done, Refused}
+use Rattle.resp.specs.declared.Refused.{Refused}
 use Rattle.resp.specs.Streams.{Transaction, stream_of}
 
 -- ── the committed set of a store ──
@@ -46,17 +45,21 @@ committed_set s = by_age (transactions_from s 0 (slots_seen narrow_kind s))
 abbrev pub target_size : ℕ
 target_size = 65536
 
+-- a refusal by its number and its slot, 0 where it has none
+abbrev pub refused : ℕ → ℕ → Result ℕ Refused
+refused n d = Err (record { number = n; slot = d })
+
 pub record Export : Type 0 where
-  pub answer : Transfer
+  pub answer : Result ℕ Refused
   pub target : List ℕ
 
 -- a refusal alters no byte
 abbrev pub unexported : ℕ → ℕ → List ℕ → Export
-unexported n d t = record { answer = Refused n d; target = t }
+unexported n d t = record { answer = refused n d; target = t }
 
 -- "those past the stream keep, and its length is the answer"
 unfoldable pub exported_to : List ℕ → List ℕ → Export
-exported_to bs t = record { answer = Done (length bs); target = bs ++ drop (length bs) t }
+exported_to bs t = record { answer = Ok (length bs); target = bs ++ drop (length bs) t }
 
 -- "(1: store or target of another length. 18: damage, on export.)": with the slot
 unfoldable pub export : List ℕ → List ℕ → Export

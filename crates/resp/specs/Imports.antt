@@ -1,5 +1,5 @@
 -- 02 §11: "Import takes only such a stream, checks it, then clears the lent store and fills it for one station, drawers from the top."
-use Rattle.std.specs.Prelude.{ℕ, ◌-◌, cond, List, [], ◌∷◌, ◌++◌, map, ltb, length, replicate}
+use Rattle.std.specs.Prelude.{ℕ, ◌-◌, cond, List, [], ◌∷◌, ◌++◌, map, ltb, length, replicate, Result, Ok}
 use Rattle.std.proofs.Math.Option.{Option, some, none}
 use Rattle.model.specs.declared.Id.{Id}
 use Rattle.model.specs.Types.{Entry, Write}
@@ -9,10 +9,10 @@ use Rattle.model.specs.Lives.{write_key}
 use Rattle.model.specs.Entries.{commit_record}
 use Rattle.model.specs.Records.{version_record}
 use Rattle.model.specs.Effects.{wrong_length}
-use Rattle.resp.specs.declared.Transfer.{Transfer}
-use Rattle.resp.specs.declared.Transfer.TheVariants.{Done, Refused}
+use Rattle.resp.specs.declared.Refused.{Refused}
 use Rattle.resp.specs.Streams.{Transaction}
 use Rattle.resp.specs.Inverse.{transactions_in}
+use Rattle.resp.specs.Exports.{refused}
 
 -- ── the store's bytes ──
 unfoldable pub entry_of : Transaction → Entry
@@ -37,17 +37,17 @@ filled xs = replicate (store_size narrow_kind - length (slots_down xs)) 0 ++ slo
 
 -- ── import ──
 pub record Import : Type 0 where
-  pub answer : Transfer
+  pub answer : Result ℕ Refused
   pub store : List ℕ
 
 -- a refusal alters no byte
 abbrev pub unimported : ℕ → List ℕ → Import
-unimported n s = record { answer = Refused n 0; store = s }
+unimported n s = record { answer = refused n 0; store = s }
 
 -- "(.. 27: bytes or order not of this form, or a repeated ticket, after 1. 13: more than 64 commits, after 27.)"; else how many there are
 unfoldable pub taken : Option (List Transaction) → List ℕ → Import
 taken none s = unimported 27 s
-taken (some xs) s = cond (ltb narrow_kind.slots (length xs)) (unimported 13 s) (record { answer = Done (length xs); store = filled xs })
+taken (some xs) s = cond (ltb narrow_kind.slots (length xs)) (unimported 13 s) (record { answer = Ok (length xs); store = filled xs })
 
 -- "(1: store or target of another length.": of the stream any length is right
 unfoldable pub import : List ℕ → List ℕ → Import

@@ -1,24 +1,26 @@
 // The RESP stream of a committed set (02 §11): its commands written into lent bytes, and read off them. Defined in specs/.
 #![tactic(auto)]
 
-ghost use Rattle.std.specs.Prelude.{◌≡◌, ◌+◌, ◌≤◌, ◌∷◌, ◌++◌, length, take};
+ghost use Rattle.std.specs.Prelude.{◌≡◌, suc, ◌+◌, ◌<◌, ◌≤◌, ◌∷◌, ◌++◌, length, take, IfSome, MatchOption};
+ghost use Rattle.std.proofs.Math.Option.{some, none};
+ghost use Rattle.model.specs.Refusals.{number_of};
 ghost use Rattle.model.specs.KeySets.{key_set};
-ghost use Rattle.decimal.specs.Digits.{digits};
+ghost use Rattle.decimal.specs.Digits.{digits, number_below};
 ghost use Rattle.decimal.specs.Written.{written};
 ghost use Rattle.resp.specs.Streams.{slash, bulk, set_command, id_text, keys_text};
 ghost use Rattle.resp.specs.Inverse.{bulk_in, id_text_in, name_in, version_in};
-ghost use Rattle.resp.specs.Parts.{Begins, span_of, SpanFits, id_read, name_read, version_read, ReadFits};
+ghost use Rattle.resp.specs.Parts.{number_ended};
 
-use decimal::{Number, number_in, write_bytes, write_number};
-use keysets::{lowest_key, without_lowest};
-use model::{Id, Station};
+use decimal::{number_in, write_bytes, write_number};
+use keysets::Keys;
+use model::{Id, Refusal};
 
 // The greatest transaction, key and clock (or value, or length), as numbers.
-const TXN_MAX: u64 = 4294967295;
+const TXN_MAX: u64 = u32::MAX as u64;
 
 const KEY_MAX: u64 = 63;
 
-const NUMBER_MAX: u64 = 18446744073709551615;
+const NUMBER_MAX: u64 = u64::MAX;
 
 // The bytes of an id's text, and of a name or a value, with room to write them; of a command.
 pub const ID_TEXT: usize = 48;
@@ -27,42 +29,48 @@ const TEXT: usize = 64;
 
 pub const COMMAND: usize = 256;
 
-// The bytes before a command's name: an array of three, SET.
-const SET: usize = 13;
-
-// What an export or an import comes to: the stream's length or the number of transactions; or the number of a refusal, with the slot.
-#[derive(Clone, Copy)]
-pub enum Transfer {
-    Done(usize),
-    Refused(u8, u8),
+// A refusal: its number, and the slot where it has one.
+#[derive(Clone, Copy, PartialEq, Eq)]
+pub struct Refused {
+    pub number: u8,
+    pub slot: u8,
 }
 
-// A bulk string's bytes: where they begin and where they end.
-#[derive(Clone, Copy)]
-pub enum Span {
-    Of(usize, usize),
-    Unread,
+impl From<Refusal> for Refused {
+    ghost from_gives = { λ r e. e ≡ record { number = number_of r; slot = 0 } };
+
+    fn from(refusal: Refusal) -> Refused {
+        Refused {
+            number: refusal.number(),
+            slot: 0,
+        }
+    }
 }
 
-// An id read off its text.
+// What an export or an import comes to: the stream's length, or the number of transactions.
+pub type Transfer = Result<usize, Refused>;
+
+// A bulk string: its bytes, and those after it.
 #[derive(Clone, Copy)]
-pub enum IdRead {
-    Of(Id),
-    Other,
+struct Bulk<'a> {
+    content: &'a [u8],
+    rest: &'a [u8],
 }
 
-// A version's name: its key and id.
+// A version's name.
 #[derive(Clone, Copy)]
-pub enum NameRead {
-    Of(u8, Id),
-    Other,
+struct Name {
+    key: u8,
+    id: Id,
 }
 
-// A version's command: its key, id and value, and how many bytes it has.
+// A version's command, and the bytes after it.
 #[derive(Clone, Copy)]
-pub enum VersionRead {
-    Of(u8, Id, u64, usize),
-    Other,
+pub struct Version<'a> {
+    pub key: u8,
+    pub id: Id,
+    pub value: u64,
+    pub rest: &'a [u8],
 }
 
 // ---- written
@@ -72,7 +80,7 @@ pub fn write_id(out: &mut [u8], id: Id) -> usize
     ensures { (result ≡ length (id_text id)) × (result ≤ 31) × (take result out.new ≡ id_text id) × (length out.new ≡ length out.old) }
 {
     let txn = write_number(out, 0, id.clock, b'/');
-    let end = write_number(out, txn, id.txn as u64, b'\r');
+    let end = write_number(out, txn, u64::from(id.txn), b'\r');
     end - 1
 }
 
@@ -106,7 +114,7 @@ pub fn write_version_command(out: &mut [u8], start: usize, key: u8, id: &[u8], v
     let mut name = [0u8; TEXT];
     name[0] = b'v';
     name[1] = b'/';
-    let at = write_number(&mut name, 2, key as u64, b'/');
+    let at = write_number(&mut name, 2, u64::from(key), b'/');
     let end = write_bytes(&mut name, at, id);
     let mut text = [0u8; TEXT];
     let after = write_number(&mut text, 0, value, b'\r');
@@ -118,12 +126,9 @@ fn write_keys(out: &mut [u8], set: u64) -> usize
     requires { (64 ≤ length out.old) × (1 ≤ length (key_set set)) × (length (key_set set) ≤ 8) }
     ensures { (result ≡ length (keys_text (key_set set))) × (result ≤ 31) × (take result out.new ≡ keys_text (key_set set)) × (length out.new ≡ length out.old) }
 {
-    let mut rest = set;
     let mut at = 0;
-    while rest != 0 {
-        let key = lowest_key(rest);
-        at = write_number(out, at, key as u64, b',');
-        rest = without_lowest(rest);
+    for key in Keys(set) {
+        at = write_number(out, at, u64::from(key), b',');
     }
     at - 1
 }
@@ -143,128 +148,80 @@ pub fn write_commit_command(out: &mut [u8], start: usize, id: &[u8], set: u64) -
 }
 
 // ---- read
-// The bytes begin with these.
-pub fn begins(s: &[u8], w: &[u8]) -> bool
-    ensures { Begins result w.now s.now }
+// A number, and what comes after the byte that ends it.
+fn number_before(s: &[u8], end: u8, max: u64) -> Option<(u64, &[u8])>
+    requires { 9 ≤ max }
+    ensures { MatchOption result (number_ended (suc max) end s.now ≡ none) (λ p. number_ended (suc max) end s.now ≡ some (record { number = p.0; rest = p.1.now })) }
 {
-    if s.len() < w.len() {
-        return false;
-    }
-    let mut i = 0;
-    while i < w.len() {
-        if s[i] != w[i] {
-            return false;
-        }
-        i += 1;
-    }
-    true
+    let (n, at) = number_in(s, end, max)?;
+    let rest = s.get(at + 1..)?;
+    Some((n, rest))
+}
+
+// The bytes as one number.
+fn whole_number(s: &[u8], max: u64) -> Option<u64>
+    requires { 9 ≤ max }
+    ensures { MatchOption result (number_below (suc max) s.now ≡ none) (λ n. number_below (suc max) s.now ≡ some n) }
+{
+    let (n, at) = number_in(s, b'/', max)?;
+    if at == s.len() { Some(n) } else { None }
 }
 
 // The bulk string that the bytes begin with.
-fn bulk_in(s: &[u8]) -> Span
-    ensures { (span_of result s.now ≡ bulk_in s.now) × SpanFits result (length s.now) }
+fn bulk_in(s: &[u8]) -> Option<Bulk<'_>>
+    ensures { MatchOption result (bulk_in s.now ≡ none) (λ b. bulk_in s.now ≡ some (record { content = b.content.now; rest = b.rest.now })) }
 {
-    if !begins(s, b"$") {
-        return Span::Unread;
+    let sized = s.strip_prefix(b"$")?;
+    let (size, line) = number_before(sized, b'\r', NUMBER_MAX)?;
+    let bytes = line.strip_prefix(b"\n")?;
+    if size > bytes.len() as u64 {
+        return None;
     }
-    let number = number_in(&s[1..], b'\r', NUMBER_MAX);
-    let Number::Of(size, at) = number else {
-        return Span::Unread;
-    };
-    let start = at + 3;
-    if s.len() < start {
-        return Span::Unread;
-    }
-    if s[at + 2] != b'\n' {
-        return Span::Unread;
-    }
-    if size > (s.len() - start) as u64 {
-        return Span::Unread;
-    }
-    let end = start + size as usize;
-    if !begins(&s[end..], b"\r\n") {
-        return Span::Unread;
-    }
-    Span::Of(start, end)
+    let (content, ended) = bytes.split_at(size as usize);
+    let rest = ended.strip_prefix(b"\r\n")?;
+    Some(Bulk { content, rest })
 }
 
 // An id, as it stands at the end of a name.
-fn id_text_in(s: &[u8]) -> IdRead
-    ensures { id_read result ≡ id_text_in s.now }
+fn id_text_in(s: &[u8]) -> Option<Id>
+    ensures { MatchOption result (id_text_in s.now ≡ none) (λ i. id_text_in s.now ≡ some i) }
 {
-    let first = number_in(s, b'/', NUMBER_MAX);
-    let Number::Of(clock, at) = first else {
-        return IdRead::Other;
-    };
-    if at >= s.len() {
-        return IdRead::Other;
+    let (clock, rest) = number_before(s, b'/', NUMBER_MAX)?;
+    let txn = whole_number(rest, TXN_MAX)?;
+    if clock == 0 || txn == 0 {
+        None
+    } else {
+        Some(Id {
+            clock,
+            txn: txn as u32,
+        })
     }
-    let second = number_in(&s[at + 1..], b'/', TXN_MAX);
-    let Number::Of(txn, size) = second else {
-        return IdRead::Other;
-    };
-    if size < s.len() - at - 1 {
-        return IdRead::Other;
-    }
-    if clock == 0 {
-        return IdRead::Other;
-    }
-    if txn == 0 {
-        return IdRead::Other;
-    }
-    IdRead::Of(Id {
-        clock,
-        txn: txn as u32,
-    })
 }
 
 // A version's name.
-fn name_in(s: &[u8]) -> NameRead
-    ensures { name_read result ≡ name_in s.now }
+fn name_in(s: &[u8]) -> Option<Name>
+    ensures { MatchOption result (name_in s.now ≡ none) (λ n. name_in s.now ≡ some (record { key = n.key; id = n.id })) }
 {
-    if !begins(s, b"v/") {
-        return NameRead::Other;
-    }
-    let number = number_in(&s[2..], b'/', KEY_MAX);
-    let Number::Of(key, at) = number else {
-        return NameRead::Other;
-    };
-    if at >= s.len() - 2 {
-        return NameRead::Other;
-    }
-    let read = id_text_in(&s[at + 3..]);
-    let IdRead::Of(id) = read else {
-        return NameRead::Other;
-    };
-    NameRead::Of(key as u8, id)
+    let named = s.strip_prefix(b"v/")?;
+    let (key, rest) = number_before(named, b'/', KEY_MAX)?;
+    let id = id_text_in(rest)?;
+    Some(Name { key: key as u8, id })
 }
 
 // The version's command that the bytes begin with.
-pub fn version_in(s: &[u8]) -> VersionRead
-    ensures { (version_read result s.now ≡ version_in s.now) × ReadFits result (length s.now) }
+pub fn version_in(s: &[u8]) -> Option<Version<'_>>
+    ensures read { MatchOption result (version_in s.now ≡ none) (λ v. version_in s.now ≡ some (record { id = v.id; write = record { key = v.key; value = v.value }; rest = v.rest.now })) }
+    ensures shorter { IfSome result (λ v. length v.rest.now < length s.now) }
 {
-    if !begins(s, b"*3\r\n$3\r\nSET\r\n") {
-        return VersionRead::Other;
-    }
-    let first = bulk_in(&s[SET..]);
-    let Span::Of(a, b) = first else {
-        return VersionRead::Other;
-    };
-    let name = name_in(&s[SET + a..SET + b]);
-    let NameRead::Of(key, id) = name else {
-        return VersionRead::Other;
-    };
-    let next = SET + b + 2;
-    let second = bulk_in(&s[next..]);
-    let Span::Of(c, d) = second else {
-        return VersionRead::Other;
-    };
-    let number = number_in(&s[next + c..next + d], b'/', NUMBER_MAX);
-    let Number::Of(value, at) = number else {
-        return VersionRead::Other;
-    };
-    if at < d - c {
-        return VersionRead::Other;
-    }
-    VersionRead::Of(key, id, value, next + d + 2)
+    let set = s.strip_prefix(b"*3\r\n$3\r\nSET\r\n")?;
+    let first = bulk_in(set)?;
+    let Name { key, id } = name_in(first.content)?;
+    let second = bulk_in(first.rest)?;
+    let value = whole_number(second.content, NUMBER_MAX)?;
+    Some(Version {
+        key,
+        id,
+        value,
+        rest: second.rest,
+    })
 }

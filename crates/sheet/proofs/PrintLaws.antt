@@ -1,13 +1,12 @@
 -- A line of output, written part by part.
-use Prim.Native.Nat.{ℕ, ◌+◌, ◌-◌, ◌≤◌}
-use mathlib.Core.Path.{◌≡◌, ap, ◌∙◌}
+use Prim.Native.Nat.{ℕ, ◌≤◌}
+use mathlib.Core.Path.{◌≡◌, ◌∙◌}
 use mathlib.Core.List.{List, [], ◌∷◌, ◌++◌, append_assoc}
-use lib.ListN.{length, take, drop, length-append, length-take}
+use lib.ListN.{length, take, drop}
 use native.Mathlib.Omega.{arith}
 use Rattle.model.specs.declared.Answer.{Answer}
 use Rattle.model.specs.Answers.{values_of}
 use Rattle.decimal.specs.Digits.{digits}
-use Rattle.decimal.specs.Written.{written}
 use Rattle.decimal.proofs.WrittenLaws.{Field, wrote-field, wrote-more, wrote-all}
 use Rattle.sheet.specs.Words.{word_of}
 use Rattle.sheet.specs.Sheets.{printed}
@@ -16,16 +15,6 @@ use Rattle.sheet.specs.Sheets.{printed}
 line-parts : (n : ℕ) (x : Answer) → (digits n ++ (44 ∷ [])) ++ (word_of x ++ (44 ∷ [])) ++ (digits (values_of x).a ++ (44 ∷ [])) ++ (digits (values_of x).b ++ (44 ∷ [])) ++ (digits (values_of x).c ++ (10 ∷ [])) ≡ printed n x
 unfolding printed
 line-parts n x = simp append_assoc
-
--- an answer's word, copied from a part of the words
-pub word-field : (s t : List ℕ) (base till at size : ℕ) (x : Answer) (ws : List ℕ)
-    → till ≡ base + length (take (at + size - at) (drop at ws)) → t ≡ written s base (take (at + size - at) (drop at ws))
-    → take size (drop at ws) ≡ word_of x ++ (44 ∷ []) → size ≤ 10 → Field s t base till 10 (word_of x) 44
-word-field s t base till at size x ws h k e o =
-    let z : at + size - at ≡ size = omega arith in
-    let p : take (at + size - at) (drop at ws) ≡ word_of x ++ (44 ∷ []) = ap (λ (n : ℕ). take n (drop at ws)) z ∙ e in
-    let l : length (take (at + size - at) (drop at ws)) ≡ length (word_of x) + 1 = ap length p ∙ length-append (word_of x) (44 ∷ []) in
-    (omega arith, omega (arith, length-take (at + size - at) (drop at ws)), k ∙ ap (written s base) p)
 
 -- the five fields of a line
 pub line-written : (s t₁ t₂ t₃ t₄ t₅ : List ℕ) (p₁ p₂ p₃ p₄ p₅ n : ℕ) (x : Answer) (a b c : ℕ) → 96 ≤ length s

@@ -1,5 +1,5 @@
 -- What the functions below the two of the sheet read and write.
-use Rattle.std.specs.Prelude.{ℕ, Bool, true, false, List, [], ◌∷◌}
+use Rattle.std.specs.Prelude.{Bool, true, false}
 use Rattle.std.proofs.Math.Option.{Option, some, none}
 use Rattle.sheet.specs.declared.Command.{Command}
 use Rattle.sheet.specs.declared.Command.TheVariants as C
@@ -23,25 +23,3 @@ verb_of W.Unknown = none
 unfoldable pub only_if : Bool → Command → Command
 only_if true c = c
 only_if false c = C.Malformed
-
--- the words of the answers, each with the comma after it
-unfoldable pub words : List ℕ
-words =
-    115 ∷ 116 ∷ 97 ∷ 114 ∷ 116 ∷ 101 ∷ 100 ∷ 44 ∷
-    107 ∷ 101 ∷ 112 ∷ 116 ∷ 44 ∷
-    111 ∷ 119 ∷ 110 ∷ 44 ∷
-    118 ∷ 101 ∷ 114 ∷ 115 ∷ 105 ∷ 111 ∷ 110 ∷ 44 ∷
-    110 ∷ 111 ∷ 110 ∷ 101 ∷ 44 ∷
-    110 ∷ 111 ∷ 102 ∷ 105 ∷ 116 ∷ 44 ∷
-    99 ∷ 108 ∷ 111 ∷ 115 ∷ 105 ∷ 110 ∷ 103 ∷ 44 ∷
-    101 ∷ 109 ∷ 112 ∷ 116 ∷ 121 ∷ 44 ∷
-    100 ∷ 111 ∷ 110 ∷ 101 ∷ 44 ∷
-    115 ∷ 116 ∷ 111 ∷ 114 ∷ 101 ∷ 100 ∷ 44 ∷
-    115 ∷ 108 ∷ 105 ∷ 112 ∷ 112 ∷ 101 ∷ 100 ∷ 44 ∷
-    100 ∷ 114 ∷ 111 ∷ 112 ∷ 112 ∷ 101 ∷ 100 ∷ 44 ∷
-    99 ∷ 111 ∷ 108 ∷ 108 ∷ 101 ∷ 99 ∷ 116 ∷ 101 ∷ 100 ∷ 44 ∷
-    102 ∷ 111 ∷ 117 ∷ 110 ∷ 100 ∷ 44 ∷
-    114 ∷ 101 ∷ 102 ∷ 117 ∷ 115 ∷ 101 ∷ 100 ∷ 44 ∷
-    115 ∷ 119 ∷ 101 ∷ 112 ∷ 116 ∷ 44 ∷
-    109 ∷ 111 ∷ 118 ∷ 101 ∷ 100 ∷ 44 ∷
-    []

@@ -6,7 +6,7 @@ use mathlib.Core.Option.{some}
 use Rattle.model.specs.declared.Id.{Id}
 use Rattle.model.specs.Lists.{◌and◌, ◌or◌, all, any, member}
 use Rattle.model.specs.Ids.{older, same_id}
-use Rattle.shoplog.specs.declared.Finding.TheVariants as F
+use Rattle.shoplog.specs.Findings as F
 use Rattle.shoplog.specs.declared.Verdict.{Verdict}
 use Rattle.shoplog.specs.declared.Verdict.TheVariants.{Clean, Bad}
 use Rattle.shoplog.specs.Lines.{Line, write, commit, read}

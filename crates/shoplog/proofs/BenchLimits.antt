@@ -4,7 +4,7 @@ use mathlib.Core.Path.{◌≡◌, refl}
 use mathlib.Core.List.{List, [], ◌∷◌, ◌++◌, map}
 use mathlib.Core.Option.{some, none}
 use Rattle.model.specs.Lists.{from}
-use Rattle.shoplog.specs.declared.Finding.TheVariants as F
+use Rattle.shoplog.specs.Findings as F
 use Rattle.shoplog.specs.declared.Verdict.TheVariants.{Clean, Bad, Refused}
 use Rattle.shoplog.specs.Lines.{Line, write, commit, read}
 use Rattle.shoplog.specs.Verdicts.{finding_of}

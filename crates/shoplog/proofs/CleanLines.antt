@@ -5,8 +5,9 @@ use mathlib.Core.List.{List, [], ◌∷◌, map}
 use mathlib.Core.Option.{Option, some, none}
 use lib.ListN.{length}
 use native.Mathlib.Omega.{arith}
-use Rattle.shoplog.specs.declared.Finding.{Finding}
-use Rattle.shoplog.specs.declared.Finding.TheVariants as F
+use Rattle.std.specs.Prelude.{Ok, Err}
+use Rattle.shoplog.specs.declared.Fault.TheVariants as F
+use Rattle.shoplog.specs.Findings.{Finding, Fine}
 use Rattle.shoplog.specs.declared.Verdict.{Verdict}
 use Rattle.shoplog.specs.declared.Verdict.TheVariants.{Clean, Bad, Refused}
 use Rattle.shoplog.specs.Lines.{Line}
@@ -21,11 +22,11 @@ both-clean Clean w h = (refl, h)
 both-clean (Bad n) w h = absurd (let z : ◌≡◌ {A = ℕ} 0 1 = cc in omega arith)
 both-clean (Refused c n) w h = absurd (let z : ◌≡◌ {A = ℕ} 0 1 = cc in omega arith)
 
-pub finding-clean : (n : ℕ) (x : Finding) → finding_at n x ≡ Clean → x ≡ F.Fine
+pub finding-clean : (n : ℕ) (x : Finding) → finding_at n x ≡ Clean → x ≡ Fine
 unfolding finding_at
-finding-clean n F.Fine h = refl
-finding-clean n F.Over h = absurd (let z : ◌≡◌ {A = ℕ} 0 1 = cc in omega arith)
-finding-clean n F.Bad h = absurd (let z : ◌≡◌ {A = ℕ} 0 1 = cc in omega arith)
+finding-clean n (Ok u) h = refl
+finding-clean n (Err F.Over) h = absurd (let z : ◌≡◌ {A = ℕ} 0 1 = cc in omega arith)
+finding-clean n (Err F.Bad) h = absurd (let z : ◌≡◌ {A = ℕ} 0 1 = cc in omega arith)
 
 clean-from : (ls : List Line) (n : ℕ) (xs : List (Option Line)) → verdict_from ls n xs ≡ Clean → AllFine ls
     → AllFine (above_from ls (length xs) xs) × (length (above_from ls (length xs) xs) ≡ length ls + length xs)

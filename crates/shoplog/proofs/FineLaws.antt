@@ -15,7 +15,7 @@ use Rattle.model.specs.Ids.{older, same_id}
 use Rattle.model.proofs.Tests.{or_left, or_right, nand, and_second}
 use Rattle.model.proofs.ListLaws.{all-mem, any_none}
 use Rattle.model.proofs.IdLaws.{same_id_lem}
-use Rattle.shoplog.specs.declared.Finding.TheVariants.{Fine, Over, Bad}
+use Rattle.shoplog.specs.Findings.{Fine, Over, Bad}
 use Rattle.shoplog.specs.Lines.{Line, commit, read}
 use Rattle.shoplog.specs.Verdicts.{write_set, read_set, has_written, is_committed, committed_as, is_over, is_atomic, at_another, is_bad, finding_of}
 use Rattle.shoplog.specs.Claims.{AllFine}

@@ -5,7 +5,7 @@ use Rattle.std.proofs.Math.Option.{Option, none}
 use Rattle.model.specs.declared.Id.{Id}
 use Rattle.model.specs.declared.Read.{Read}
 use Rattle.model.specs.Ids.{older}
-use Rattle.shoplog.specs.declared.Finding.TheVariants.{Fine}
+use Rattle.shoplog.specs.Findings.{Fine}
 use Rattle.shoplog.specs.declared.Verdict.{Verdict}
 use Rattle.shoplog.specs.declared.Verdict.TheVariants.{Clean}
 use Rattle.shoplog.specs.Lines.{Line, commit, read}

@@ -1,4 +1,5 @@
 pub mod Lines
+pub mod Findings
 pub mod Verdicts
 pub mod Logs
 pub mod Claims

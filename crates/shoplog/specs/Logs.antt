@@ -1,9 +1,9 @@
 -- 02 §10: the verdict on a log, as a function of its bytes. "Answer clean, or the first bad line."
-use Rattle.std.specs.Prelude.{ℕ, ◌+◌, List, [], ◌∷◌, map}
+use Rattle.std.specs.Prelude.{ℕ, ◌+◌, List, [], ◌∷◌, map, Ok, Err}
 use Rattle.std.proofs.Math.Option.{Option, some, none}
 use Rattle.lines.specs.Lines.{lines_in}
-use Rattle.shoplog.specs.declared.Finding.{Finding}
-use Rattle.shoplog.specs.declared.Finding.TheVariants as F
+use Rattle.shoplog.specs.declared.Fault.TheVariants as F
+use Rattle.shoplog.specs.Findings.{Finding}
 use Rattle.shoplog.specs.declared.Verdict.{Verdict}
 use Rattle.shoplog.specs.declared.Verdict.TheVariants.{Clean, Bad, Refused}
 use Rattle.shoplog.specs.Lines.{Line, line_in}
@@ -11,9 +11,9 @@ use Rattle.shoplog.specs.Verdicts.{finding_of}
 
 -- what a finding says of line n
 unfoldable pub finding_at : ℕ → Finding → Verdict
-finding_at n F.Fine = Clean
-finding_at n F.Over = Refused 28 n
-finding_at n F.Bad = Bad n
+finding_at n (Ok u) = Clean
+finding_at n (Err F.Over) = Refused 28 n
+finding_at n (Err F.Bad) = Bad n
 
 -- line n, below those above: "19 for form or range", "19 before 28, 28 before bad"
 unfoldable pub line_verdict : List Line → ℕ → Option Line → Verdict

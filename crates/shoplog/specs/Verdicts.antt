@@ -4,8 +4,8 @@ use Rattle.model.specs.declared.Id.{Id}
 use Rattle.model.specs.declared.Read.{Read}
 use Rattle.model.specs.Lists.{◌and◌, ◌or◌, all, any, member}
 use Rattle.model.specs.Ids.{older, same_id}
-use Rattle.shoplog.specs.declared.Finding.{Finding}
-use Rattle.shoplog.specs.declared.Finding.TheVariants.{Fine, Over, Bad}
+use Rattle.shoplog.specs.Findings.{Finding}
+use Rattle.shoplog.specs.Findings.{Fine, Over, Bad}
 use Rattle.shoplog.specs.Lines.{Line, write, commit, read}
 
 -- ── what lines say; `ls` are always the lines above, the nearest first ──

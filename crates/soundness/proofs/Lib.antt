@@ -1,5 +1,4 @@
 pub mod Loops
-pub mod AllLoop
 pub mod OrLoop
 pub mod SetLoop
 pub mod Distinct

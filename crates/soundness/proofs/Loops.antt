@@ -1,18 +1,18 @@
--- Laws of the loops of soundness: a set tested element by element, a column filled, a sum that may not fit.
-use Prim.Native.Nat.{ℕ, suc, ◌+◌, ◌-◌, ◌<◌, ◌≤◌}
+-- Laws of the loops of soundness: a set tested element by element, a column filled.
+use Prim.Native.Nat.{ℕ, zero, suc, ◌+◌, ◌-◌, ◌<◌, ◌≤◌}
 use mathlib.Core.Path.{◌≡◌, sym, ap, ap₂, ◌∙◌}
-use mathlib.Core.Logic.{◌⊎◌, inl, inr}
 use mathlib.Core.Bool.{Bool, true, false}
 use mathlib.Core.List.{List, [], ◌∷◌, ◌++◌, append_assoc}
-use lib.Dec.{leb}
 use lib.ListN.{length, take, drop, get_or, set, drop_of_length-le}
 use lib.Seq.{take-suc-set, take_all, take-suc, drop-cons}
+use native.Mathlib.Nat.{zero-lt-suc}
 use native.Mathlib.Omega.{arith}
 use native.Mathlib.Numerals.{add-one}
-use borrow.Author.Tests.{ltb-true, leb-true, leb-false, le-leb, lt-leb}
-use Rattle.model.specs.Lists.{◌and◌}
+use borrow.Author.Tests.{ltb-true}
+use Rattle.model.specs.Lists.{◌and◌, all}
 use Rattle.model.specs.Limits.{keys}
-use Rattle.model.proofs.Tests.{and_right, bool_cases}
+use Rattle.model.proofs.Tests.{and_right, and_assoc}
+use Rattle.model.proofs.RestLaws.{all_split, all_end}
 use Rattle.soundness.specs.Parts.{fits, set_right}
 
 -- ── sets: ascending keys, then zeros ──
@@ -21,13 +21,6 @@ module _ {A : Type 0} (key : A → ℕ) (good is_zero : A → Bool) (lo n : ℕ)
       → set_right key good is_zero lo (n - j) (drop j xs) ≡ (fits lo (key (get_or xs j d)) and good (get_or xs j d) and set_right key good is_zero (key (get_or xs j d) + 1) (n - (j + 1)) (drop (j + 1) xs))
   unfolding set_right
   in_is m = let e : n - j ≡ suc (n - (j + 1)) = omega arith in rw (e, drop-cons xs j d h, add-one j, add-one (key (get_or xs j d)))
-
-  past_is : n ≤ j → set_right key good is_zero lo (n - j) (drop j xs) ≡ (is_zero (get_or xs j d) and set_right key good is_zero lo (n - (j + 1)) (drop (j + 1) xs))
-  unfolding set_right
-  past_is m =
-      let e : n - j ≡ 0 = omega arith in
-      let f : n - (j + 1) ≡ 0 = omega arith in
-      rw (f, e, drop-cons xs j d h, add-one j)
 
   pub key_more : j < n → fits lo (key (get_or xs j d)) ≡ true → good (get_or xs j d) ≡ true
       → set_right key good is_zero lo (n - j) (drop j xs) ≡ set_right key good is_zero (key (get_or xs j d) + 1) (n - (j + 1)) (drop (j + 1) xs)
@@ -42,18 +35,24 @@ module _ {A : Type 0} (key : A → ℕ) (good is_zero : A → Bool) (lo n : ℕ)
   unfolding ◌and◌
   good-stop m e g = in_is m ∙ ap₂ (λ (a b : Bool). a and b and set_right key good is_zero (key (get_or xs j d) + 1) (n - (j + 1)) (drop (j + 1) xs)) e g
 
-  pub zero_more : n ≤ j → is_zero (get_or xs j d) ≡ true → set_right key good is_zero lo (n - j) (drop j xs) ≡ set_right key good is_zero lo (n - (j + 1)) (drop (j + 1) xs)
-  unfolding ◌and◌
-  zero_more m e = past_is m ∙ ap (λ (b : Bool). b and set_right key good is_zero lo (n - (j + 1)) (drop (j + 1) xs)) e
-
-  pub zero-stop : n ≤ j → is_zero (get_or xs j d) ≡ false → set_right key good is_zero lo (n - j) (drop j xs) ≡ false
-  unfolding ◌and◌
-  zero-stop m e = past_is m ∙ ap (λ (b : Bool). b and set_right key good is_zero lo (n - (j + 1)) (drop (j + 1) xs)) e
-
-module _ {A : Type 0} (key : A → ℕ) (good is_zero : A → Bool) (lo n : ℕ) (xs : List A) (j : ℕ) where
-  pub set-end : length xs ≤ j → set_right key good is_zero lo (n - j) (drop j xs) ≡ true
+module _ {A : Type 0} (key : A → ℕ) (good is_zero : A → Bool) where
+  pub set-end : (lo n : ℕ) (xs : List A) (j : ℕ) → length xs ≤ j → set_right key good is_zero lo n (drop j xs) ≡ true
   unfolding set_right
-  set-end h = rw (drop_of_length-le xs h)
+  set-end lo n xs j h = rw (drop_of_length-le xs h)
+
+  -- past the keys
+  zeros-is : (lo : ℕ) (xs : List A) → set_right key good is_zero lo 0 xs ≡ all is_zero xs
+  unfolding set_right
+  zeros-is lo [] = sym (all_end is_zero [] 0 (omega arith))
+  zeros-is lo (x ∷ xs) = ap (λ (b : Bool). is_zero x and b) (zeros-is lo xs) ∙ sym (all_split is_zero (x ∷ xs) 0 x (zero-lt-suc _))
+
+  pub set-split : (lo n : ℕ) (xs : List A) → set_right key good is_zero lo n xs ≡ (set_right key good is_zero lo n (take n xs) and all is_zero (drop n xs))
+  unfolding set_right ◌and◌
+  set-split lo zero xs = zeros-is lo xs
+  set-split lo (suc n) [] = sym (all_end is_zero [] 0 (omega arith))
+  set-split lo (suc n) (x ∷ xs) =
+      ap (λ (b : Bool). fits lo (key x) and good x and b) (set-split (suc (key x)) n xs)
+      ∙ and_assoc (fits lo (key x) and good x) (set_right key good is_zero (suc (key x)) n (take n xs)) (all is_zero (drop n xs))
 
 -- a key that fits is below the limit
 pub fits_low : (lo k : ℕ) → fits lo k ≡ true → k < keys
@@ -67,11 +66,3 @@ column-more before xs ys i j a h k e t =
 
 pub column-end : (xs ys : List ℕ) (n i : ℕ) → length xs ≡ n → length ys ≡ n → n ≤ i → take i xs ≡ take i ys → xs ≡ ys
 column-end xs ys n i h k m e = sym (take_all i xs (omega arith)) ∙ e ∙ take_all i ys (omega arith)
-
--- ── a sum that may not fit, tested by a difference ──
-pub leb-less : (n w : ℕ) → 1 ≤ n → leb (n - 1) w ≡ leb n (w + 1)
-leb-less n w h = go (bool_cases (leb n (w + 1)))
-  where
-    go : (leb n (w + 1) ≡ true) ⊎ (leb n (w + 1) ≡ false) → leb (n - 1) w ≡ leb n (w + 1)
-    go (inl e) = le-leb (n - 1) w (omega (arith, leb-true n (w + 1) e)) ∙ sym e
-    go (inr e) = lt-leb (n - 1) w (omega (arith, leb-false n (w + 1) e)) ∙ sym e

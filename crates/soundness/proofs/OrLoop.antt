@@ -23,24 +23,22 @@ crossed true false false d = refl
 crossed false b c d = refl
 
 -- ── the elements one by one ──
--- of the n elements those from i on are asked for
-module _ {A : Type 0} (p : A → Bool) (xs : List A) (n i : ℕ) where
+module _ {A : Type 0} (p : A → Bool) (xs : List A) where
   -- those before j are passed, and b says whether they all pass
   abbrev pub OrPassed : Bool → ℕ → Type 0
-  OrPassed b j = (j ≤ n) × (all p (drop i xs) ≡ (b and all p (drop j xs)))
+  OrPassed b j = all p xs ≡ (b and all p (drop j xs))
 
-  pub or-start : i ≤ n → OrPassed true i
+  pub or-start : OrPassed true 0
   unfolding ◌and◌
-  or-start o = (o, refl)
+  or-start = refl
 
-  module _ (long : length xs ≡ n) (b : Bool) (j : ℕ) (h : OrPassed b j) where
-    pub or-next : (d : A) (c : Bool) → j < n → (b and p (get_or xs j d)) ≡ c → OrPassed c (j + 1)
+  module _ (b : Bool) (j : ℕ) (h : OrPassed b j) where
+    pub or-next : (d : A) (c : Bool) → j < length xs → (b and p (get_or xs j d)) ≡ c → OrPassed c (j + 1)
     or-next d c o e =
-        let q : j < length xs = omega arith in
-        (omega arith, h.1 ∙ ap (λ (x : Bool). b and x) (all_split p xs j d q) ∙ and_assoc b (p (get_or xs j d)) (all p (drop (j + 1) xs)) ∙ ap (λ (x : Bool). x and all p (drop (j + 1) xs)) e)
+        h ∙ ap (λ (x : Bool). b and x) (all_split p xs j d o) ∙ and_assoc b (p (get_or xs j d)) (all p (drop (j + 1) xs)) ∙ ap (λ (x : Bool). x and all p (drop (j + 1) xs)) e
 
-    pub or-done : n ≤ j → all p (drop i xs) ≡ b
-    or-done o = let q : length xs ≤ j = omega arith in h.1 ∙ ap (λ (x : Bool). b and x) (all_end p xs j q) ∙ and-true b
+    pub or-done : length xs ≤ j → b ≡ all p xs
+    or-done o = sym (h ∙ ap (λ (x : Bool). b and x) (all_end p xs j o) ∙ and-true b)
 
 -- ── fields ──
 pub or-zero : (a b : ℕ) → eqb (bit_or a b) 0 ≡ (eqb a 0 and eqb b 0)

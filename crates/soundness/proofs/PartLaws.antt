@@ -2,14 +2,14 @@
 use Prim.Native.Nat.{ℕ, zero, suc, ◌+◌, ◌<◌, ◌≤◌}
 use mathlib.Core.Path.{◌≡◌, refl, sym, ap, ap₂, subst, ◌∙◌}
 use mathlib.Core.Logic.{◌≢◌}
-use mathlib.Core.Bool.{Bool, true, false, true≢false, not}
+use mathlib.Core.Bool.{Bool, true, false}
 use mathlib.Core.List.{List, [], ◌∷◌, ◌++◌, map}
 use lib.Dec.{eqb, ltb, leb}
 use lib.ListN.{length, take, drop, get_or, set, length-drop, length-map, take-append-drop, drop_of_length-le, get_or-map}
 use lib.Seq.{take_all, drop-set-add}
 use native.Mathlib.Nat.{zero-lt-suc, suc-ne-zero}
 use native.Mathlib.Omega.{arith}
-use borrow.Author.Tests.{lt-ltb, le-ltb, le-leb, lt-leb, eq-eqb, ne_eqb, eqb-true}
+use borrow.Author.Tests.{lt-ltb, le-ltb, le-leb, lt-leb, leb-true, eq-eqb, ne_eqb, eqb-true}
 use Rattle.model.specs.declared as machine
 use Rattle.model.specs.declared.Read.{Read}
 use Rattle.model.specs.Types.{Live}
@@ -21,17 +21,21 @@ use Rattle.model.specs.Listed.{valued, listed_live, listed_lives, listed_entry, 
 use Rattle.model.proofs.KeySetLaws.{set-ascends, set-none, set-number}
 use Rattle.model.proofs.ValuedLaws.{valued-keys}
 use Rattle.model.proofs.ListedLaws.{zero_live, lives-any, zero_entry, listed-any}
-use Rattle.model.specs.Lists.{◌and◌, ◌or◌, all, ascending}
+use Rattle.std.specs.Prelude.{Option, Some, None, cond}
+use Rattle.std.specs.Option.{unwrap_or}
+use Rattle.std.specs.List.{position_or_len}
+use Rattle.model.proofs.StdWords.{first_from_position, eqb-swap}
+use Rattle.model.specs.Lists.{◌and◌, ◌or◌, all, first, member, ascending}
 use Rattle.model.specs.Limits.{keys, number_range}
 use Rattle.model.specs.Kinds.{Kind}
 use Rattle.model.specs.Ids.{same_id}
 use Rattle.model.specs.Lives.{no_write, writes_of, write_key, slot_mark}
-use Rattle.model.specs.Entries.{no_entry}
-use Rattle.model.proofs.Tests.{same_test, and-none-right}
+use Rattle.model.specs.Entries.{no_entry, wrote}
+use Rattle.model.proofs.Tests.{and_left, and_right, same_test, and-none-right}
 use Rattle.model.proofs.InsideLaws.{right-none, right-some}
 use Rattle.model.specs.Sound.{is_no_write, is_no_read, is_no_live, entry_right}
-use Rattle.soundness.specs.Parts.{fits, is_zero, set_right, writes_right, reads_right, live_column, held_column, txn_column, mark_column, slot_in}
-use Rattle.soundness.specs.Parts.{is_unused, shape_right, shape, is_named, named_by, place_fits, slot_free}
+use Rattle.soundness.specs.Parts.{fits, is_zero, set_right, writes_right, reads_right, lists_right, live_column, held_column, txn_column, mark_column, slot_in}
+use Rattle.soundness.specs.Parts.{shape_right, shape, is_named, named_by, place_fits, slot_free}
 use Rattle.soundness.proofs.Loops.{column-more, column-end}
 use Rattle.model.proofs.RestLaws.{all_split}
 
@@ -106,9 +110,18 @@ module _ (es : List Entry) (ts : List ℕ) (r : Read) (d : ℕ) (e : d ≡ slot_
   unfolding named_by ◌and◌
   named-is h = rw (← e, lt-ltb d 64 (omega arith))
 
--- the entry at a slot, as the machine has it
-pub named-listed : (es : List machine.Entry.Entry) (d : ℕ) (r : Read) → is_named (get_or (listed_entries es) d no_entry) r ≡ is_named (listed_entry (get_or es d zero_entry)) r
-named-listed es d r = ap (λ (e : Entry). is_named e r) (listed-any es d)
+-- what a search of the held transactions comes to
+pub found-slot : (ts : List ℕ) (t : ℕ) (r : Option ℕ) → length ts ≡ 72
+    → r ≡ cond (ltb (position_or_len (λ x. eqb x t) (drop 8 ts)) (length (drop 8 ts))) (Some (position_or_len (λ x. eqb x t) (drop 8 ts))) None → unwrap_or r 64 ≡ slot_in ts t
+unfolding slot_in
+found-slot ts t r l e = first_from_position (λ x. eqb x t) (drop 8 ts) r 64 e (omega (arith, l, length-drop 8 ts)) ∙ (λ i. first (λ x. eqb-swap x t i) (drop 8 ts))
+
+-- the entry at the slot, as the machine has it: a says whether it has the read's id, b whether it wrote the key
+pub named-at : (es : List machine.Entry.Entry) (ts : List ℕ) (r : Read) (d : ℕ) → d ≡ slot_in ts r.id.txn → d ≤ 63 → (a b : Bool)
+    → a ≡ same_id (get_or es d zero_entry).id r.id → b ≡ member r.key (key_set (get_or es d zero_entry).keys) → named_by (listed_entries es) ts r ≡ (a and b)
+unfolding is_named wrote
+named-at es ts r d e h a b p q =
+    named-is (listed_entries es) ts r d e h ∙ ap (λ (x : Entry). is_named x r) (listed-any es d) ∙ sym (ap₂ (λ (x y : Bool). x and y) p q)
 
 -- a place that is wrong but for its reads; a place that is right so
 module _ (κ : Kind) (es : List Entry) (ts : List ℕ) (l : Live) where
@@ -120,12 +133,18 @@ module _ (κ : Kind) (es : List Entry) (ts : List ℕ) (l : Live) where
   unfolding place_fits ◌and◌
   place-reads e = rw e
 
--- by the phase
-pub unused-shape : (κ : Kind) (p : Phase) (l : Live) → is_unused p ≡ true → shape_right κ p l ≡ is_no_live l
-unfolding is_unused shape_right
-unused-shape κ Unused l h = refl
-unused-shape κ Open l h = absurd (true≢false (sym h))
-unused-shape κ (Closing d c n) l h = absurd (true≢false (sym h))
+-- a place that is right but for its reads has few enough
+pub few-reads : (κ : Kind) (p : Phase) (l : Live) → shape_right κ p l ≡ true → l.read_count ≤ 16
+unfolding shape_right is_no_live lists_right
+few-reads κ Unused l h = omega (arith, eqb-true l.read_count 0 (and_right _ _ (and_left _ _ (and_left _ _ h))))
+few-reads κ Open l h = leb-true l.read_count 16 (and_right _ _ (and_left _ _ h))
+few-reads κ (Closing d c n) l h = leb-true l.read_count 16 (and_right _ _ (and_left _ _ (and_right _ _ h)))
+
+-- the machine's places, all of them
+pub all-map-is : {A B : Type 0} (f : A → B) (p : B → Bool) (xs : List A) → all (λ x. p (f x)) xs ≡ all p (map f xs)
+unfolding all
+all-map-is f p [] = refl
+all-map-is f p (x ∷ xs) = ap (λ (b : Bool). elim (p (f x)) [ true ↦ b | false ↦ false ]) (all-map-is f p xs)
 
 -- ── columns ──
 mark-at : (ls : List machine.Live.Live) (i : ℕ) → get_or (mark_column (listed_lives ls)) i 0 ≡ slot_mark (get_or ls i zero_live).phase
@@ -212,8 +231,3 @@ module _ (κ : Kind) (e : machine.Entry.Entry) (n : ℕ) (q : n ≡ length (key_
 
 pub right-listed : (κ : Kind) (es : List machine.Entry.Entry) (d : ℕ) → entry_right κ (get_or (listed_entries es) d no_entry) ≡ entry_right κ (listed_entry (get_or es d zero_entry))
 right-listed κ es d = ap (entry_right κ) (listed-any es d)
-
--- a number that is not 0 is at least 1
-pub some-clock : (n : ℕ) → not (eqb n 0) ≡ leb 1 n
-some-clock zero = refl
-some-clock (suc n) = rw (ne_eqb (suc n) 0 (suc-ne-zero n), le-leb 1 (suc n) (omega arith))

@@ -3,7 +3,7 @@ use Prim.Native.Nat.{ℕ, suc, ◌+◌, ◌<◌, ◌≤◌}
 use mathlib.Core.Path.{◌≡◌, refl, sym, ap, ap₂, subst, ◌∙◌}
 use mathlib.Core.Logic.{◌⊎◌, inl, inr, ⊎_elim}
 use mathlib.Core.Bool.{Bool, true, false, true≢false}
-use mathlib.Core.List.{List, [], ◌∷◌, map}
+use mathlib.Core.List.{List, [], ◌∷◌}
 use lib.Dec.{eqb, leb}
 use lib.ListN.{drop, length, take, get_or, length-map}
 use lib.Seq.{get_or-append-add, drop_at, drop-drop}
@@ -24,7 +24,7 @@ use Rattle.model.specs.Entries.{is_no_entry, wrote_as, no_entry, entry_rules}
 use Rattle.model.specs.Stations.{entry_at, live_txns, held_txns, holds, closing_slots}
 use Rattle.model.specs.Sound.{is_no_read, is_no_live, names, place_right, entry_right, sound}
 use Rattle.model.proofs.Tests.{and_left, and_right, and_intro, or_cases, bool_cases, same_test}
-use Rattle.model.proofs.ListLaws.{first_finds, all_head, all_tail, all_cons, all-at, all-mem, all-by, any-finds, any_at, all_map, all_drop, drop-map}
+use Rattle.model.proofs.ListLaws.{first_finds, all_head, all_tail, all-at, all-mem, all-by, any-finds, any_at, all_map, all_drop, drop-map}
 use Rattle.model.proofs.RestLaws.{all_split}
 use Rattle.model.proofs.DistinctLaws.{once-right}
 use Rattle.model.proofs.IdLaws.{same_id_lem}
@@ -33,7 +33,7 @@ use Rattle.model.proofs.SoundLaws.{Used, used-at, used-of, write-limit, read-lim
 use Rattle.model.proofs.SoundLaws.{reads-zero, zeros_of, Shut, shut_at, shut-of, unheld-wrote}
 use Rattle.soundness.specs.Parts.{set_right, writes_right, reads_right, lists_right, counts_right, shape_right, live_column, held_column, txn_column}
 use Rattle.soundness.specs.Parts.{mark_column, slot_in, is_named, named_by, place_fits, slot_free, none_past, parts}
-use Rattle.soundness.proofs.PartLaws.{free-none, free-high, free-is, held-txn-at, set_is}
+use Rattle.soundness.proofs.PartLaws.{free-none, free-high, free-is, held-txn-at, set_is, all-map-is}
 
 -- ── a place of a station, by its phase ──
 module _ (κ : Kind) (es : List Entry) (l : Live) where
@@ -165,11 +165,6 @@ module _ (ls : List Live) (es : List Entry) (hl : length ls ≡ 8) (he : length 
           and_intro _ _ (lt-ltb (slot_in (txn_column ls es) t) 64 (omega (arith, slot_is t))) (subst (λ (i : ℕ). is_named (get_or es i no_entry) r ≡ true) (sym (slot_is t ∙ same)) q)
 
 -- ── the whole ──
-all-unmap : {A B : Type 0} (f : A → B) (q : B → Bool) (l : List A) → all q (map f l) ≡ true → all (λ x. q (f x)) l ≡ true
-unfolding all
-all-unmap f q [] h = refl
-all-unmap f q (x ∷ xs) h = all_cons (λ y. q (f y)) x xs (all_head q (f x) (map f xs) h) (all-unmap f q xs (all_tail q (f x) (map f xs) h))
-
 -- an entry that keeps the rules is unused where it has no transaction; so are all of them
 unused-is : (κ : Kind) (e : Entry) → entry_right κ e ≡ true → is_no_entry e ≡ eqb 0 e.id.txn
 unfolding entry_right is_no_entry entry_rules same_id
@@ -230,7 +225,7 @@ module _ (st : Station) (hl : length st.live ≡ 8) (he : length st.entries ≡ 
       let a : all (entry_right st.kind) st.entries ≡ true = and_left _ _ (and_left _ _ (and_left _ _ (and_left _ _ g))) in
       let u : distinct (txn_column st.live st.entries) ≡ true = and_right _ _ (and_left _ _ (and_left _ _ (and_left _ _ g))) in
       let x : all is_no_entry (drop st.kind.slots st.entries) ≡ true = none-past-is st.kind st.live st.entries hl a st.kind.slots ∙ and_right _ _ h in
-      let f' = all-unmap (λ (l : Live). slot_mark l.phase) (slot_free st.kind.slots (txn_column st.live st.entries)) st.live f in
+      let f' = all-map-is (λ (l : Live). slot_mark l.phase) (slot_free st.kind.slots (txn_column st.live st.entries)) st.live ∙ f in
       and_intro _ _
       (and_intro _ _
       (and_intro _ _ (and_intro _ _ a x)
@@ -242,5 +237,17 @@ module _ (st : Station) (hl : length st.live ≡ 8) (he : length st.entries ≡ 
       u)
       m
 
-  pub sound-is : sound st ≡ parts st.kind st.live st.entries
+  sound-is : sound st ≡ parts st.kind st.live st.entries
   sound-is = same_test (sound st) (parts st.kind st.live st.entries) to-parts of_parts
+
+  -- no station with a wrong entry is sound
+  pub sound-wrong : all (entry_right st.kind) st.entries ≡ false → sound st ≡ false
+  unfolding parts ◌and◌
+  sound-wrong e = sound-is ∙ rw e
+
+  -- by the columns and the number of slots that are at hand, where the entries are right
+  pub sound-by : (ts ms : List ℕ) (n : ℕ) → txn_column st.live st.entries ≡ ts → mark_column st.live ≡ ms → st.kind.slots ≡ n → all (entry_right st.kind) st.entries ≡ true
+      → sound st ≡ (distinct ts and all (place_fits st.kind st.entries ts) st.live and distinct ms and all (slot_free n ts) ms and none_past n ts)
+  unfolding parts ◌and◌
+  sound-by ts ms n t m s e =
+      sound-is ∙ (λ i. e i and distinct (t i) and all (place_fits st.kind st.entries (t i)) st.live and distinct (m i) and all (slot_free (s i) (t i)) (m i) and none_past (s i) (t i))

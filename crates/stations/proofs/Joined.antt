@@ -3,10 +3,11 @@ use Prim.Native.Nat.{ℕ, zero, suc, ◌+◌, ◌-◌, ◌<◌, ◌≤◌, suc-l
 use mathlib.Core.Path.{◌≡◌, refl, sym, ap, ap₂, ◌∙◌}
 use mathlib.Core.Logic.{◌≢◌}
 use mathlib.Core.Bool.{Bool, true}
-use mathlib.Core.List.{List, [], ◌∷◌, ◌++◌, map, map-append, append_assoc}
-use lib.ListN.{length, take, drop, get_or, replicate, set, length-append, take-append-drop, length-drop, length-set}
-use lib.Seq.{take-suc-set, drop-set-lt, append_snoc, take_all, drop-cons, take-append-le, drop-append-le, take-append-add, set-append_left, get_or-take, take_at, length-take-le}
-use native.Mathlib.Nat.{le_of_suc-le-suc, not-suc-le-zero, zero-lt-suc, lt_irrefl}
+use mathlib.Core.List.{List, [], ◌∷◌, ◌++◌, map, map-append, append_assoc, append-nil}
+use lib.ListN.{length, take, drop, get_or, replicate, set, length-append, take-append-drop, length-drop, length-set, drop_of_length-le}
+use Rattle.std.specs.List.{copy_within}
+use lib.Seq.{append_snoc, set_at, take-suc, take-append-le, drop-append-le, take-append-add, set-append_left, get_or-take, length-take-le}
+use native.Mathlib.Nat.{le_of_suc-le-suc, not-suc-le-zero, zero-lt-suc, lt_irrefl, le_refl}
 use native.Mathlib.Omega.{arith}
 use native.Mathlib.Numerals.{add-one}
 use borrow.Author.Tests.{le-leb, lt-leb}
@@ -17,19 +18,17 @@ use Rattle.stations.specs.Found.{at_least, joined}
 use Rattle.stations.proofs.Search.{first-at-most}
 
 module _ {A : Type 0} where
-  -- carrying the element one position further, and leaving what was carried
-  pub joined-next : (m : List A) (i : ℕ) (x d : A) → i < length m → joined (i + 1) (get_or m i d) (set m i x) ≡ joined i x m
+  -- what a list holds with those from a position on moved up by one, and the element put there
+  pub joined-shifted : (m : List A) (i : ℕ) (x : A) → i < length m → set (copy_within m i (length m - 1) (i + 1)) i x ≡ take (length m) (joined i x m)
   unfolding joined
-  joined-next m i x d o =
-      rw (add-one, take-suc-set m i x o, drop-set-lt (suc i) m i x (omega arith), drop-cons m i d o)
-      (append_snoc (take i m) x (get_or m i d ∷ drop (suc i) m))
-
-  pub joined_end : (m : List A) (n : ℕ) (x : A) → length m ≡ n → take n (joined n x m) ≡ m
-  unfolding joined
-  joined_end m n x e =
-      let a : n ≤ length m = omega arith in
-      let b : length m ≤ n = omega arith in
-      take_at (take n m) (x ∷ drop n m) n (length-take-le n m a) ∙ take_all n m b
+  joined-shifted m i x o =
+      let k : i + 1 + (length m - 1 - i) ≡ length m = omega arith in
+      let n : length m ≡ length (take i m) + suc (length m - 1 - i) = omega (arith, length-take-le i m (omega arith)) in
+      rw (k, add-one i, take-suc m i x o, append_assoc, append_snoc (take i m) (get_or m i x))
+      (set_at (take i m) (get_or m i x) _ x i (length-take-le i m (omega arith))
+      ∙ (ap (λ (l : List A). take i m ++ (x ∷ (take (length m - 1 - i) (drop i m) ++ l))) (drop_of_length-le m (le_refl (length m)))
+      ∙ (ap (λ (l : List A). take i m ++ (x ∷ l)) (append-nil (take (length m - 1 - i) (drop i m)))
+      ∙ (sym (take-append-add (take i m) (x ∷ drop i m) (suc (length m - 1 - i))) ∙ ap (λ (j : ℕ). take j (take i m ++ (x ∷ drop i m))) (sym n)))))
 
   joined_length : (i : ℕ) (x : A) (m : List A) → i ≤ length m → length (joined i x m) ≡ suc (length m)
   unfolding joined

@@ -1,5 +1,4 @@
 pub mod Search
-pub mod Fill
 pub mod Joined
 pub mod Free
 pub mod Clocks

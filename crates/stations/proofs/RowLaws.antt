@@ -1,5 +1,5 @@
 -- The first row that applies, as the code finds it, against a call's list of refusals; and what holds where none applies.
-use Prim.Native.Nat.{ℕ, ◌<◌, ◌≤◌}
+use Prim.Native.Nat.{ℕ, suc, ◌<◌, ◌≤◌}
 use mathlib.Core.Path.{◌≡◌, refl, sym, ap, subst, ◌∙◌}
 use mathlib.Core.Logic.{◌≢◌}
 use mathlib.Core.Bool.{Bool, true, false, not}
@@ -20,6 +20,9 @@ use Rattle.model.specs.Lives.{is_closing}
 use Rattle.model.specs.Stations.{live_at, is_live, place_of, live_txns}
 use Rattle.model.specs.Sound.{sound}
 use Rattle.model.specs.Effects.{Effect, Row, says, ◌when◌, refusals, unsound}
+use Rattle.model.specs.declared.refusal.Refusal.{Refusal}
+use Rattle.model.specs.declared.refusal.Refusal.TheVariants as R
+use Rattle.model.specs.Refusals.{number_of}
 use Rattle.model.proofs.ListLaws.{all_head, all_tail, any-no}
 use Rattle.model.proofs.RefusalLaws.{row-off}
 use Rattle.model.proofs.SoundFacts.{live_facts}
@@ -34,6 +37,37 @@ is_numbered r = leb 1 r.returned
 
 abbrev pub applies : Row → Bool
 applies r = r.applies
+
+ne_zero : (n : ℕ) → suc n ≢ 0
+ne_zero n z = lt_irrefl 0 (omega arith)
+
+-- a refusal's number is not 0, which stands for none
+pub numbered : (r : Refusal) → number_of r ≢ 0
+numbered R.StoreLength = λ z. ne_zero 0 z
+numbered R.Unsound = λ z. ne_zero 1 z
+numbered R.TransactionZero = λ z. ne_zero 2 z
+numbered R.KeyRange = λ z. ne_zero 3 z
+numbered R.ClockZero = λ z. ne_zero 4 z
+numbered R.Taken = λ z. ne_zero 5 z
+numbered R.LiveFull = λ z. ne_zero 6 z
+numbered R.NotLive = λ z. ne_zero 7 z
+numbered R.IsClosing = λ z. ne_zero 8 z
+numbered R.NotClosing = λ z. ne_zero 9 z
+numbered R.WritesFull = λ z. ne_zero 10 z
+numbered R.ReadsFull = λ z. ne_zero 11 z
+numbered R.SlotsFull = λ z. ne_zero 12 z
+numbered R.NotHeld = λ z. ne_zero 13 z
+numbered R.Newest = λ z. ne_zero 14 z
+numbered R.IsRead = λ z. ne_zero 15 z
+numbered R.RecordChanged = λ z. ne_zero 16 z
+numbered R.Damaged = λ z. ne_zero 17 z
+numbered R.Malformed = λ z. ne_zero 18 z
+numbered R.LimitRange = λ z. ne_zero 19 z
+numbered R.NoClock = λ z. ne_zero 20 z
+numbered R.TooManySlots = λ z. ne_zero 21 z
+numbered R.TooManyKeys = λ z. ne_zero 22 z
+numbered R.NotAStream = λ z. ne_zero 26 z
+numbered R.LogLimits = λ z. ne_zero 27 z
 
 -- ── the first row that applies ──
 first-hit : (rs : List Row) (st : Station) (e : Effect) → first_row rs ≢ 0 → refusals rs st e ≡ says (A.Refused (first_row rs) 0) st
@@ -101,8 +135,17 @@ module _ (st : Station) (rows : Bool → List Row) (b : Bool) (tested : b ≡ so
   pub rows-off : all is_numbered (rows (sound st)) ≡ true → r ≡ 0 → any applies (rows (sound st)) ≡ false
   rows-off n z = first-none (rows (sound st)) n (sym rows-first ∙ z)
 
-  pub rows-passed : all is_numbered (rows (sound st)) ≡ true → r ≡ 0 → (x : Effect) → refusals (rows (sound st)) st x ≡ x
-  rows-passed n z x = none-skipped (rows (sound st)) st x (rows-off n z)
+-- the same of what the code answers: the refusal, or that no row applies
+module _ (st : Station) (rows : Bool → List Row) (b : Bool) (tested : b ≡ sound st) where
+  pub refusal-comes : (r : Refusal) → number_of r ≡ first_row (rows b) → (x : Effect) → refusals (rows (sound st)) st x ≡ says (A.Refused (number_of r) 0) st
+  refusal-comes r e x = rows-refused st rows b tested (number_of r) e (numbered r) x
+
+  module _ (e : first_row (rows b) ≡ 0) (n : all is_numbered (rows (sound st)) ≡ true) where
+    pub none-applies : any applies (rows (sound st)) ≡ false
+    none-applies = rows-off st rows b tested 0 (sym e) n refl
+
+    pub rows-passed : (x : Effect) → refusals (rows (sound st)) st x ≡ x
+    rows-passed x = none-skipped (rows (sound st)) st x none-applies
 
 pub named-numbered : (ls : List Live) (t k : ℕ) (b : Bool) → all is_numbered (named_rows ls t k b) ≡ true
 unfolding all named_rows
@@ -131,23 +174,15 @@ module _ (st : Station) (t k i : ℕ) (p : i ≡ place_in t st.live) (o : i < li
       let d = row-off 8 _ _ c.1 in
       (record { right = not-false _ a.0; number = eqb-false t 0 b.0; key = leb-false keys k c.0; low = o; place = p; live = not-false _ d.0 }, d.1)
 
-  module _ (b : Bool) (tested : b ≡ sound st) (r : ℕ) (z : r ≡ 0) where
-    pub named-found : r ≡ first_row (named_rows st.live t k b) → Placed st t k i
+  module _ (b : Bool) (tested : b ≡ sound st) where
+    pub named-found : first_row (named_rows st.live t k b) ≡ 0 → Placed st t k i
     unfolding named_rows
-    named-found e = (found [] (rows-off st (named_rows st.live t k) b tested r e (named-numbered st.live t k (sound st)) z)).0
+    named-found e = (found [] (none-applies st (named_rows st.live t k) b tested e (named-numbered st.live t k (sound st)))).0
 
     -- past row 9 it is open
-    module _ (e : r ≡ first_row (open_rows st.live t k b)) where
-      open-both : Placed st t k i × (any applies (9 when is_closing (live_in st.live (place_in t st.live)).phase ∷ []) ≡ false)
-      unfolding open_rows
-      open-both = found _ (rows-off st (open_rows st.live t k) b tested r e (open-numbered st.live t k (sound st)) z)
-
-      pub open-found : Placed st t k i
-      open-found = open-both.0
-
-      pub open-unclosed : is_closing (live_at st i).phase ≡ false
-      unfolding live_at
-      open-unclosed = ap (λ (j : ℕ). is_closing (live_at st j).phase) p ∙ (row-off 9 _ _ open-both.1).0
+    pub open-found : first_row (open_rows st.live t k b) ≡ 0 → Placed st t k i
+    unfolding open_rows
+    open-found e = (found (9 when is_closing (live_in st.live (place_in t st.live)).phase ∷ []) (none-applies st (open_rows st.live t k) b tested e (open-numbered st.live t k (sound st)))).0
 
 -- its transaction keeps the rules of one in use
 module _ (st : Station) (t k i : ℕ) (f : Placed st t k i) where
@@ -165,35 +200,23 @@ place-row ls t i n at = go (dec_lt i 8)
     go (yes y) = lt-leb 8 i y ∙ sym (ap not (member-hit t i (map live_txn ls) (sym at) (rw (length-map ls live_txn, n) y)))
     go (no y) = let o : 8 ≤ i = omega (arith, y) in le-leb 8 i o ∙ sym (ap not (member-miss t i (map live_txn ls) (sym at) (rw (length-map ls live_txn, n) o)))
 
-pub named-row-is : (ls : List Live) (t k i : ℕ) (b : Bool) → length ls ≡ 8 → i ≡ first (eqb t) (map live_txn ls)
-    → first_row (2 when not b ∷ 3 when eqb t 0 ∷ 4 when leb keys k ∷ 8 when leb live_places i ∷ []) ≡ first_row (named_rows ls t k b)
-unfolding named_rows
-named-row-is ls t k i b n at = ap (λ (x : Bool). first_row (2 when not b ∷ 3 when eqb t 0 ∷ 4 when leb keys k ∷ 8 when x ∷ [])) (place-row ls t i n at)
-
--- no row applies: the place is there
-pub named-low : (t k i : ℕ) (b : Bool) → first_row (2 when not b ∷ 3 when eqb t 0 ∷ 4 when leb keys k ∷ 8 when leb live_places i ∷ []) ≡ 0 → i < live_places
-unfolding all
-named-low t k i b h =
-    let z = first-none (2 when not b ∷ 3 when eqb t 0 ∷ 4 when leb keys k ∷ 8 when leb live_places i ∷ []) refl h in
-    leb-false live_places i (row-off 8 _ _ (row-off 4 _ _ (row-off 3 _ _ (row-off 2 _ _ z).1).1).1).0
-
 -- row 9 after the others
-module _ (ls : List Live) (t k i : ℕ) (b : Bool) (r : ℕ) (e : r ≡ first_row (named_rows ls t k b)) where
-  pub open-early : r ≢ 0 → r ≡ first_row (open_rows ls t k b)
+module _ (ls : List Live) (t k : ℕ) (b : Bool) where
+  pub open-early : (r : Refusal) → number_of r ≡ first_row (named_rows ls t k b) → number_of r ≡ first_row (open_rows ls t k b)
   unfolding open_rows
-  open-early n = e ∙ first-append (named_rows ls t k b) _ (λ z. n (e ∙ z))
+  open-early r e = e ∙ first-append (named_rows ls t k b) _ (λ z. numbered r (e ∙ z))
 
-  module _ (z : r ≡ 0) (p : i ≡ place_in t ls) (h : Phase) (f : h ≡ (live_in ls i).phase) where
+  module _ (z : first_row (named_rows ls t k b) ≡ 0) (i : ℕ) (p : i ≡ place_in t ls) (h : Phase) (f : h ≡ (live_in ls i).phase) where
     open-late : first_row (9 when is_closing h ∷ []) ≡ first_row (open_rows ls t k b)
     unfolding open_rows
     open-late =
         ap (λ (x : Phase). first_row (9 when is_closing x ∷ [])) (f ∙ ap (λ (j : ℕ). (live_in ls j).phase) p)
-        ∙ first-beyond (named_rows ls t k b) _ (first-none (named_rows ls t k b) (named-numbered ls t k b) (sym e ∙ z))
+        ∙ first-beyond (named_rows ls t k b) _ (first-none (named_rows ls t k b) (named-numbered ls t k b) z)
 
     pub open-closing : is_closing h ≡ true → 9 ≡ first_row (open_rows ls t k b)
     unfolding first_row
     open-closing c = sym (ap (λ (x : Bool). first_row (9 when x ∷ [])) c) ∙ open-late
 
-    pub open_none : is_closing h ≡ false → r ≡ first_row (open_rows ls t k b)
+    pub open_none : is_closing h ≡ false → first_row (open_rows ls t k b) ≡ 0
     unfolding first_row
-    open_none c = z ∙ sym (ap (λ (x : Bool). first_row (9 when x ∷ [])) c) ∙ open-late
+    open_none c = sym open-late ∙ ap (λ (x : Bool). first_row (9 when x ∷ [])) c

@@ -4,7 +4,7 @@ use mathlib.Core.Path.{◌≡◌, refl, sym, ap, ap₂, subst, ◌∙◌}
 use mathlib.Core.Logic.{◌≢◌}
 use mathlib.Core.Bool.{Bool, true, false, not}
 use mathlib.Core.List.{List, map}
-use lib.Dec.{eqb, ltb, leb}
+use lib.Dec.{eqb, leb}
 use lib.ListN.{length, take, drop, get_or, replicate, set, length-map, length-take, length-drop, drop_of_length-le}
 use lib.Seq.{get_or-take, take_all}
 use native.Mathlib.Omega.{arith}
@@ -30,7 +30,7 @@ use Rattle.model.proofs.ValuedLaws.{valued-length, valued-keys, valued-all, valu
 use Rattle.model.proofs.KeySetLaws.{ascending-same, first-same, set-ascends, set-position}
 use Rattle.keysets.specs.Parts.{AlsoHas}
 use Rattle.stations.specs.Found.{at_least, joined}
-use Rattle.stations.proofs.Search.{first-within, first-map, member-key}
+use Rattle.stations.proofs.Search.{first-within, first-map}
 use Rattle.stations.proofs.Joined.{joined-map, all_same, replaced-length, replaced, added-length, added}
 
 no_write_lem : (w : Write) → is_no_write w ≡ true → w ≡ no_write
@@ -184,14 +184,10 @@ module _ (l : machine.Live.Live) (long : length l.values ≡ write_places) (few 
       λ z. record { txn = l.txn; phase = l.phase; write_count = q.0 z; writes = q.1 z; read_count = l.read_count; reads = l.reads }
 
 -- ── a read set ──
-pub has-read : (l : Live) (k i : ℕ) → length l.reads ≡ read_limit → l.read_count ≤ read_limit → i ≡ first (eqb k) (map read_key (reads_of l)) → has_read k l ≡ ltb i l.read_count
-unfolding has_read reads_of
-has-read l k i long fits place = member-key read_key k l.read_count l.reads (omega arith) ∙ ap (λ (j : ℕ). ltb j l.read_count) (sym place)
-
--- the place for a key lies within the limit
-pub read-place-within : (l : Live) (k i : ℕ) → l.read_count ≤ read_limit → i ≡ first (at_least read_key k) (reads_of l) → i ≤ read_limit
+-- the place for a key lies among the reads, or right after them
+pub read-place-within : (l : Live) (k i : ℕ) → i ≡ first (at_least read_key k) (reads_of l) → i ≤ l.read_count
 unfolding reads_of
-read-place-within l k i fits e = omega (arith, e, first-within (at_least read_key k) l.read_count l.reads, fits)
+read-place-within l k i e = omega (arith, e, first-within (at_least read_key k) l.read_count l.reads)
 
 module _ (l : Live) (sets : ReadsFit l) (zeros : zero_past_counts l ≡ true) (i : ℕ) (q : Read) (long : length l.reads ≡ read_limit)
     (place : i ≡ first (at_least read_key q.key) (reads_of l)) where
@@ -212,25 +208,24 @@ module _ (l : Live) (sets : ReadsFit l) (zeros : zero_past_counts l ≡ true) (i
     reads = replaced read_key q no_read no_read 16 l.read_count i l.reads long sets.0 past-read place o e z;
   }
 
-  pub read-added : (i < l.read_count → q.key ≢ (get_or l.reads i no_read).key) → (not (has_read q.key l) and leb read_limit l.read_count) ≡ false
-      → record { txn = l.txn; phase = l.phase; write_count = l.write_count; writes = l.writes; read_count = l.read_count + 1; reads = take 16 (joined i q l.reads) }
-      ≡ with_read q.key q.id l
-  unfolding with_read with_reads reads_of has_read
-  read-added f r = λ z. record {
-    txn = l.txn;
-    phase = l.phase;
-    write_count = l.write_count;
-    writes = l.writes;
-    read_count = longer z;
-    reads = added read_key q no_read no_read 16 l.read_count i l.reads long sets.0 past-read place f room z;
-  }
-    where
-      longer : l.read_count + 1 ≡ length (insert read_key q (take l.read_count l.reads))
-      longer = added-length read_key q no_read no_read 16 l.read_count i l.reads long sets.0 past-read place f
+  module _ (f : i < l.read_count → q.key ≢ (get_or l.reads i no_read).key) (r : (not (has_read q.key l) and leb read_limit l.read_count) ≡ false) where
+    longer : l.read_count + 1 ≡ length (insert read_key q (take l.read_count l.reads))
+    unfolding reads_of
+    longer = added-length read_key q no_read no_read 16 l.read_count i l.reads long sets.0 past-read place f
 
-      limit : length (insert read_key q (take l.read_count l.reads)) ≤ 16
-      limit = insert-fits read_key q keys l.read_count 16 (take l.read_count l.reads) (unfold reads_of in sets.1)
-          (omega (arith, length-take l.read_count l.reads)) sets.0 r
+    -- there is room for it
+    pub read-room : l.read_count < 16
+    unfolding reads_of has_read
+    read-room = omega (arith, longer, insert-fits read_key q keys l.read_count 16 (take l.read_count l.reads) sets.1 (omega (arith, length-take l.read_count l.reads)) sets.0 r)
 
-      room : l.read_count < 16
-      room = omega (arith, longer, limit)
+    pub read-added : record { txn = l.txn; phase = l.phase; write_count = l.write_count; writes = l.writes; read_count = l.read_count + 1; reads = take 16 (joined i q l.reads) }
+        ≡ with_read q.key q.id l
+    unfolding with_read with_reads reads_of
+    read-added = λ z. record {
+      txn = l.txn;
+      phase = l.phase;
+      write_count = l.write_count;
+      writes = l.writes;
+      read_count = longer z;
+      reads = added read_key q no_read no_read 16 l.read_count i l.reads long sets.0 past-read place f read-room z;
+    }

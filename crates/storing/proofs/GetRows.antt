@@ -22,13 +22,15 @@ use Rattle.model.specs.Sound.{sound}
 use Rattle.model.specs.Orders.{newest}
 use Rattle.model.specs.Reading.{passes, key_in_the_way, Choice, own, absent, nofit, version, chosen, choose}
 use Rattle.model.specs.Effects.{Effect, says, ◌when◌, refusals, wrong_length, unsound}
+use Rattle.model.specs.declared.refusal.Refusal.{Refusal}
+use Rattle.model.specs.Refusals.{number_of}
 use Rattle.model.specs.Get.{choice_of, with_read, version_at, no_room, not_carried, answered, get}
 use Rattle.model.proofs.RefusalLaws.{refusals-none, skipped, hit}
 use Rattle.model.proofs.Tests.{not_of_false, not-of-true}
 use Rattle.reading.specs.declared.Chosen.TheVariants.{Version, Nofit, None}
 use Rattle.reading.specs.Choosing.{chosen_as}
 use Rattle.stations.specs.Found.{place_in, first_row, named_rows, open_rows}
-use Rattle.stations.proofs.RowLaws.{rows-refused, rows-passed, open-numbered}
+use Rattle.stations.proofs.RowLaws.{refusal-comes, rows-passed, open-numbered}
 use Rattle.storing.proofs.Parts.{length-right}
 
 -- ── what Algorithm 1 chose, from the code's answer ──
@@ -77,17 +79,17 @@ module _ (st : Station) (s : List ℕ) (t k : ℕ) where
   unfolding get refusals open_rows named_rows unsound is_live live_txns place_of live_at
   get_rows = refl
 
-  module _ (z : length s ≡ store_size st.kind) (b : Bool) (tested : b ≡ sound st) (r : ℕ) (e : r ≡ first_row (open_rows st.live t k b)) where
+  module _ (z : length s ≡ store_size st.kind) (b : Bool) (tested : b ≡ sound st) where
     get-sized : get st s t k ≡ refusals (open_rows st.live t k (sound st)) st (get-rest (place_of t st) (live_at st (place_of t st)))
     get-sized = get_rows ∙ (skipped 1 _ [] st _ (length-right st.kind s z) ∙ refusals-none st _)
 
-    pub get_refused : r ≢ 0 → get st s t k ≡ says (A.Refused r 0) st
-    get_refused n = get-sized ∙ rows-refused st (open_rows st.live t k) b tested r e n _
+    pub get_refused : (r : Refusal) → number_of r ≡ first_row (open_rows st.live t k b) → get st s t k ≡ says (A.Refused (number_of r) 0) st
+    get_refused r e = get-sized ∙ refusal-comes st (open_rows st.live t k) b tested r e _
 
-    pub get-open : r ≡ 0 → (i : ℕ) → i ≡ place_in t st.live → (l : Live) → l ≡ live_at st i → get st s t k ≡ get-rest i l
+    pub get-open : first_row (open_rows st.live t k b) ≡ 0 → (i : ℕ) → i ≡ place_in t st.live → (l : Live) → l ≡ live_at st i → get st s t k ≡ get-rest i l
     unfolding place_of live_txns
-    get-open n i p l q =
-        get-sized ∙ (rows-passed st (open_rows st.live t k) b tested r e (open-numbered st.live t k (sound st)) n _
+    get-open e i p l q =
+        get-sized ∙ (rows-passed st (open_rows st.live t k) b tested e (open-numbered st.live t k (sound st)) _
         ∙ (ap (λ (j : ℕ). get-rest j (live_at st j)) (sym p) ∙ ap (get-rest i) (sym q)))
 
   module _ (i : ℕ) (l : Live) (g : get st s t k ≡ get-rest i l) where

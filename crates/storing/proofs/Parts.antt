@@ -26,6 +26,11 @@ module _ (st : machine.Station) (c : Change) (e : Effect) (a : Answer) (x : Stat
   unfolding outcome_of says says_storing stored
   handed-storing d n r s z q h w = (as-outcome st e (says a x) c (ap outcome_of q) h, w ∙ sym (ap (λ (y : Effect). stored y.stores s) q))
 
+-- a refusal stores nothing
+pub refused-stores : (e : Effect) (a : Answer) (x : Station) (s : List ℕ) → e ≡ says a x → s ≡ stored e.stores s
+unfolding says stored
+refused-stores e a x s q = sym (ap (λ (y : Effect). stored y.stores s) q)
+
 -- row 1 does not apply
 pub length-right : (κ : Kind) (s : List ℕ) → length s ≡ store_size κ → wrong_length κ s ≡ false
 unfolding wrong_length

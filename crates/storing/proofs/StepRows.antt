@@ -24,13 +24,15 @@ use Rattle.model.specs.Stations.{live_at, set_live, set_entry, live_txns, is_liv
 use Rattle.model.specs.Records.{version_record, with_record}
 use Rattle.model.specs.Sound.{sound}
 use Rattle.model.specs.Effects.{Effect, stored, outcome_of, says, says_storing, ◌when◌, refusals, wrong_length, unsound}
+use Rattle.model.specs.declared.refusal.Refusal.{Refusal}
+use Rattle.model.specs.Refusals.{number_of}
 use Rattle.model.specs.Step.{one_more, stepped, step}
 use Rattle.model.proofs.ListedLaws.{lives-set, listed-set}
 use Rattle.model.proofs.RefusalLaws.{refusals-none, skipped, hit}
 use Rattle.model.proofs.Tests.{not_of_false, not-of-true}
 use Rattle.stations.specs.Changes.{changed_by, IsChange}
 use Rattle.stations.specs.Found.{place_in, first_row, named_rows}
-use Rattle.stations.proofs.RowLaws.{rows-refused, rows-passed, named-numbered}
+use Rattle.stations.proofs.RowLaws.{refusal-comes, rows-passed, named-numbered}
 use Rattle.storing.specs.Parts.{record_answer, record_stored}
 use Rattle.storing.proofs.Parts.{length-right}
 
@@ -74,16 +76,16 @@ module _ (st : Station) (s : List ℕ) (t : ℕ) where
   unfolding step refusals named_rows unsound is_live live_txns place_of
   step-rows = refl
 
-  module _ (z : length s ≡ store_size st.kind) (b : Bool) (tested : b ≡ sound st) (r : ℕ) (e : r ≡ first_row (named_rows st.live t 0 b)) where
+  module _ (z : length s ≡ store_size st.kind) (b : Bool) (tested : b ≡ sound st) where
     step-sized : step st s t ≡ refusals (named_rows st.live t 0 (sound st)) st (step-rest (place_of t st))
     step-sized = step-rows ∙ (skipped 1 _ [] st _ (length-right st.kind s z) ∙ refusals-none st _)
 
-    pub step-refused : r ≢ 0 → step st s t ≡ says (A.Refused r 0) st
-    step-refused n = step-sized ∙ rows-refused st (named_rows st.live t 0) b tested r e n _
+    pub step-refused : (r : Refusal) → number_of r ≡ first_row (named_rows st.live t 0 b) → step st s t ≡ says (A.Refused (number_of r) 0) st
+    step-refused r e = step-sized ∙ refusal-comes st (named_rows st.live t 0) b tested r e _
 
-    pub step-open : r ≡ 0 → (i : ℕ) → i ≡ place_in t st.live → step st s t ≡ step-rest i
+    pub step-open : first_row (named_rows st.live t 0 b) ≡ 0 → (i : ℕ) → i ≡ place_in t st.live → step st s t ≡ step-rest i
     unfolding place_of live_txns
-    step-open n i p = step-sized ∙ (rows-passed st (named_rows st.live t 0) b tested r e (named-numbered st.live t 0 (sound st)) n _ ∙ ap step-rest (sym p))
+    step-open e i p = step-sized ∙ (rows-passed st (named_rows st.live t 0) b tested e (named-numbered st.live t 0 (sound st)) _ ∙ ap step-rest (sym p))
 
   module _ (i : ℕ) (g : step st s t ≡ step-rest i) where
     pub step-10 : is_closing (live_at st i).phase ≡ false → step st s t ≡ says (A.Refused 10 0) st

@@ -3,7 +3,7 @@
 // the effect. A refusal changes no byte; a record is written whole, into its own 24 bytes lent to the record writer.
 #![tactic(auto)]
 
-ghost use Rattle.std.specs.Prelude.{◌≡◌, true, not, ◌+◌, ◌<◌, ◌≤◌, leb, length};
+ghost use Rattle.std.specs.Prelude.{◌≡◌, true, false, not, ◌+◌, ◌<◌, ◌≤◌, leb, length, IfOk, IfErr, MatchOption};
 ghost use Rattle.model.specs.Lists.{◌and◌};
 ghost use Rattle.model.specs.Limits.{read_limit, record_size};
 ghost use Rattle.model.specs.Kinds.{narrow_kind, width, store_size};
@@ -13,7 +13,8 @@ ghost use Rattle.model.specs.Records.{value_in, version_record, zero_record, car
 ghost use Rattle.model.specs.KeySets.{key_set};
 ghost use Rattle.model.specs.Listed.{kind_of, listed_live, listed_entry, listed};
 ghost use Rattle.model.specs.Sound.{sound};
-ghost use Rattle.model.specs.Effects.{stored};
+ghost use Rattle.model.specs.Effects.{stored, says};
+ghost use Rattle.model.specs.Refusals.{number_of};
 ghost use Rattle.model.specs.Get.{get};
 ghost use Rattle.model.specs.Step.{step};
 ghost use Rattle.model.specs.Collect.{collect};
@@ -21,7 +22,7 @@ ghost use Rattle.stations.specs.Changes.{IsChange};
 ghost use Rattle.storing.specs.Parts.{record_answer, record_stored};
 
 use keysets::nth_key;
-use model::{Answer, Entry, Id, Kind, Live, Phase, Station, slots, store_size, write_count};
+use model::{Answer, Entry, Id, Kind, Live, Phase, Refusal, Station, write_count};
 use reading::{Chosen, choose_version, is_read, is_superseded};
 use records::{carries_entry, carries_version, value_in, write_commit, write_version, write_zero};
 use stations::{
@@ -78,32 +79,22 @@ fn no_read_room(l: Live, key: u8) -> bool
     requires { l.read_count ≤ read_limit }
     ensures { result ≡ (not (has_read key (listed_live l)) and leb read_limit l.read_count) }
 {
-    if has_read(l, key) {
-        return false;
-    }
-    l.read_count >= Station::READS_U8
+    !has_read(l, key) && l.read_count >= Station::READS_U8
 }
 
-// A version record as read: whether it carries its key and id, and its value.
-#[derive(Clone, Copy)]
-struct VersionRead {
-    carried: bool,
-    value: u64,
-}
-
-// The version record of a key, in the slot of an entry that wrote it.
-fn read_version(kind: Kind, store: &[u8], slot: usize, e: Entry, key: u8) -> VersionRead
+// The value of a key in the slot of an entry that wrote it, if the version record carries its key and id.
+fn read_version(kind: Kind, store: &[u8], slot: usize, e: Entry, key: u8) -> Option<u64>
     requires store_len { length store.now ≡ store_size (kind_of kind) }
     requires slot_bound { slot < (kind_of kind).slots }
     requires keys_len_bound { (length (key_set e.keys) ≤ (kind_of kind).write_limit) × (wrote (listed_entry e) key ≡ true) }
-    ensures carried_value { result.carried ≡ carries_version (record_at (kind_of kind) store.now slot (record_of (listed_entry e) key)) key e.id }
-    ensures value_value { result.value ≡ value_in (record_at (kind_of kind) store.now slot (record_of (listed_entry e) key)) }
+    ensures { let r = record_at (kind_of kind) store.now slot (record_of (listed_entry e) key) in MatchOption result (carries_version r key e.id ≡ false) (λ value. (carries_version r key e.id ≡ true) × (value ≡ value_in r)) }
 {
-    let id = e.id;
     let at = record_place(kind, slot, record_of(e, key));
-    VersionRead {
-        carried: carries_version(&store[at..at + Station::RECORD], key, id),
-        value: value_in(&store[at..at + Station::RECORD]),
+    let record = &store[at..at + Station::RECORD];
+    if carries_version(record, key, e.id) {
+        Some(value_in(record))
+    } else {
+        None
     }
 }
 
@@ -112,39 +103,45 @@ pub fn get(station: Station, tested: bool, store: &[u8], txn: u32, key: u8) -> C
     requires { tested ≡ sound (listed station) }
     ensures { IsChange station (get (listed station) store.now txn key) result }
 {
+    try_get(station, tested, store, txn, key).unwrap_or_else(|refusal| refused(station, refusal))
+}
+
+fn try_get(
+    station: Station,
+    tested: bool,
+    store: &[u8],
+    txn: u32,
+    key: u8,
+) -> Result<Change, Refusal>
+    requires { tested ≡ sound (listed station) }
+    ensures ok { IfOk result (IsChange station (get (listed station) store.now txn key)) }
+    ensures err { IfErr result (λ refusal. get (listed station) store.now txn key ≡ says (Answer.Refused (number_of refusal) 0) (listed station)) }
+{
     let kind = station.kind;
-    if store.len() != store_size(kind) {
-        return refused(station, 1);
+    if store.len() != kind.store_size() {
+        return Err(Refusal::StoreLength);
     }
-    let live = station.live;
-    let at = open_at(live, tested, txn, key);
-    if at.row != 0 {
-        return refused(station, at.row);
-    }
-    let place = at.place;
+    let place = open_at(station.live, tested, txn, key)?;
     // Measured: here an index costs less than live_at.
     let l = station.live[place];
     if has_written(l, key) {
-        return unchanged(station, Answer::Own(value_under(l, key)));
+        return Ok(unchanged(station, Answer::Own(value_under(l, key))));
     }
-    let entries = station.entries;
-    let chosen = choose_version(entries, l, key);
-    let d = match chosen {
-        Chosen::None => return unchanged(station, Answer::None),
-        Chosen::Nofit(k) => return unchanged(station, Answer::Nofit(k)),
-        Chosen::Version(slot) => slot as usize,
+    let chosen = choose_version(station.entries, l, key);
+    let slot = match chosen {
+        Chosen::None => return Ok(unchanged(station, Answer::None)),
+        Chosen::Nofit(k) => return Ok(unchanged(station, Answer::Nofit(k))),
+        Chosen::Version(slot) => usize::from(slot),
     };
     if no_read_room(l, key) {
-        return refused(station, 12);
+        return Err(Refusal::ReadsFull);
     }
-    let e = station.entries[d];
-    let id = e.id;
-    let version = read_version(kind, store, d, e, key);
-    if !version.carried {
-        return refused(station, 17);
-    }
-    let joined = with_read(l, key, id);
-    live_changed(station, Answer::Version(version.value, id), place, joined)
+    let e = station.entries[slot];
+    let Some(value) = read_version(kind, store, slot, e, key) else {
+        return Err(Refusal::RecordChanged);
+    };
+    let joined = with_read(l, key, e.id);
+    Ok(live_changed(station, Answer::Version(value, e.id), place, joined))
 }
 
 // ---- step
@@ -155,16 +152,15 @@ fn store_record(kind: Kind, store: &mut [u8], l: Live, e: Entry, slot: u8, n: u8
     requires n_bound { (n ≤ write_count (listed_live l)) × (write_count (listed_live l) ≤ (kind_of kind).write_limit) × (length (key_set e.keys) ≤ (kind_of kind).write_limit) }
     ensures { (result ≡ record_answer (listed_live l) slot n) × (store.new ≡ record_stored (kind_of kind) (listed_live l) (listed_entry e) slot n store.old) }
 {
-    let d = slot as usize;
+    let d = usize::from(slot);
     if n == write_count(l) {
         store_commit(kind, store, d, e);
         return Answer::Slipped(slot);
     }
-    let id = e.id;
-    let j = n as usize;
+    let j = usize::from(n);
     let key = nth_key(l.keys, j);
     let value = l.values[j];
-    store_version(kind, store, d, j + 1, key, id, value);
+    store_version(kind, store, d, j + 1, key, e.id, value);
     Answer::Stored(key)
 }
 
@@ -173,38 +169,41 @@ pub fn step(station: Station, tested: bool, store: &mut [u8], txn: u32) -> Chang
     requires { tested ≡ sound (listed station) }
     ensures { (IsChange station (step (listed station) store.old txn) result) × (store.new ≡ stored (step (listed station) store.old txn).stores store.old) }
 {
+    try_step(station, tested, store, txn).unwrap_or_else(|refusal| refused(station, refusal))
+}
+
+fn try_step(station: Station, tested: bool, store: &mut [u8], txn: u32) -> Result<Change, Refusal>
+    requires { tested ≡ sound (listed station) }
+    ensures ok { IfOk result (IsChange station (step (listed station) store.old txn)) }
+    ensures err { IfErr result (λ refusal. step (listed station) store.old txn ≡ says (Answer.Refused (number_of refusal) 0) (listed station)) }
+    ensures store { store.new ≡ stored (step (listed station) store.old txn).stores store.old }
+{
     let kind = station.kind;
-    if store.len() != store_size(kind) {
-        return refused(station, 1);
+    if store.len() != kind.store_size() {
+        return Err(Refusal::StoreLength);
     }
-    let live = station.live;
-    let at = named_at(live, tested, txn, 0);
-    if at.row != 0 {
-        return refused(station, at.row);
-    }
-    let place = at.place;
+    let place = named_at(station.live, tested, txn, 0)?;
     // Measured: here too an index costs less.
     let l = station.live[place];
     let phase = l.phase;
     let Phase::Closing(slot, clock, n) = phase else {
-        return refused(station, 10);
+        return Err(Refusal::NotClosing);
     };
-    let d = slot as usize;
+    let d = usize::from(slot);
     let e = entry_for(l);
     if n > write_count(l) {
-        let id = e.id;
         let unused = no_live();
-        return Change {
-            answer: Answer::Done(id),
+        return Ok(Change {
+            answer: Answer::Done(e.id),
             place,
             live: unused,
             slot: d,
             entry: e,
-        };
+        });
     }
     let on = with_phase(l, Phase::Closing(slot, clock, n + 1));
     let answer = store_record(kind, store, l, e, slot, n);
-    live_changed(station, answer, place, on)
+    Ok(live_changed(station, answer, place, on))
 }
 
 // ---- collect
@@ -213,35 +212,43 @@ pub fn collect(station: Station, tested: bool, store: &mut [u8], slot: u8) -> Ch
     requires { tested ≡ sound (listed station) }
     ensures { (IsChange station (collect (listed station) store.old slot) result) × (store.new ≡ stored (collect (listed station) store.old slot).stores store.old) }
 {
+    try_collect(station, tested, store, slot).unwrap_or_else(|refusal| refused(station, refusal))
+}
+
+fn try_collect(
+    station: Station,
+    tested: bool,
+    store: &mut [u8],
+    slot: u8,
+) -> Result<Change, Refusal>
+    requires { tested ≡ sound (listed station) }
+    ensures ok { IfOk result (IsChange station (collect (listed station) store.old slot)) }
+    ensures err { IfErr result (λ refusal. collect (listed station) store.old slot ≡ says (Answer.Refused (number_of refusal) 0) (listed station)) }
+    ensures store { store.new ≡ stored (collect (listed station) store.old slot).stores store.old }
+{
     let kind = station.kind;
-    if store.len() != store_size(kind) {
-        return refused(station, 1);
+    if store.len() != kind.store_size() {
+        return Err(Refusal::StoreLength);
     }
     if !tested {
-        return refused(station, 2);
+        return Err(Refusal::Unsound);
     }
-    let d = slot as usize;
-    if d >= slots(kind) {
-        return refused(station, 14);
+    let d = usize::from(slot);
+    if d >= kind.slots() || station.entries[d].id.txn == 0 {
+        return Err(Refusal::NotHeld);
     }
     let e = station.entries[d];
-    let id = e.id;
-    if id.txn == 0 {
-        return refused(station, 14);
+    if !is_superseded(station.entries, d) {
+        return Err(Refusal::Newest);
     }
-    let entries = station.entries;
-    if !is_superseded(entries, d) {
-        return refused(station, 15);
-    }
-    let live = station.live;
-    if is_read(live, id) {
-        return refused(station, 16);
+    if is_read(station.live, e.id) {
+        return Err(Refusal::IsRead);
     }
     let at = record_place(kind, d, 0);
     if !carries_entry(kind, &store[at..at + Station::RECORD], e) {
-        return refused(station, 17);
+        return Err(Refusal::RecordChanged);
     }
     store_zero(kind, store, d);
     let free = no_entry();
-    entry_changed(station, Answer::Collected(id), d, free)
+    Ok(entry_changed(station, Answer::Collected(e.id), d, free))
 }

@@ -1,17 +1,31 @@
 -- Loops that mark more and more: over rows, and for one element of a list after the other.
-use Prim.Native.Nat.{ℕ, ◌+◌, ◌<◌, ◌≤◌}
-use mathlib.Core.Path.{◌≡◌, refl, sym, ap, ◌∙◌}
-use mathlib.Core.Bool.{Bool, true, false}
-use mathlib.Core.List.{List}
+use Prim.Native.Nat.{ℕ, zero, suc, ◌+◌, ◌<◌, ◌≤◌}
+use mathlib.Core.Path.{◌≡◌, refl, sym, ap, ap₂, ◌∙◌}
+use mathlib.Core.Bool.{Bool, true, false, ◌||◌}
+use mathlib.Core.List.{List, [], ◌∷◌}
 use lib.ListN.{length, take, get_or, set, length-set}
 use lib.Seq.{take_all}
 use native.Mathlib.Nat.{not-suc-le-zero, lt_irrefl}
+use native.Mathlib.Numerals.{add-one}
 use native.Mathlib.Omega.{arith}
 use Rattle.model.specs.Lists.{◌or◌, any}
-use Rattle.model.proofs.Tests.{or-intro-right, or-false, or_assoc}
-use Rattle.model.proofs.ListLaws.{at_set, below_more}
+use Rattle.model.proofs.Tests.{or-false, or_assoc}
+use Rattle.model.proofs.ListLaws.{at_set, any-yes, any-no}
 use Rattle.reading.proofs.Loops.{any-take-more}
 use Rattle.sweeping.specs.Marks.{AlsoMarked}
+
+or-is : (a b : Bool) → (a || b) ≡ (a or b)
+unfolding ◌or◌
+or-is true b = refl
+or-is false b = refl
+
+first-or : {A : Type 0} (p : A → Bool) (x : A) (xs : List A) → (p x or any p xs) ≡ any p (x ∷ xs)
+unfolding ◌or◌
+first-or p x xs = go (p x) refl
+  where
+    go : (b : Bool) → p x ≡ b → (p x or any p xs) ≡ any p (x ∷ xs)
+    go true e = ap (λ (b : Bool). b or any p xs) e ∙ sym (any-yes p x xs e)
+    go false e = ap (λ (b : Bool). b or any p xs) e ∙ sym (any-no p x xs e)
 
 -- ── row after row ──
 -- the first d of m rows are marked where they were, or pass; the others where they were
@@ -26,21 +40,13 @@ module _ (p : ℕ → Bool) (m : ℕ) (xs : List Bool) where
   marking-start l = record { fits = omega arith; long = l; passed = λ j o. absurd (not-suc-le-zero o); left = λ j o. refl }
 
   module _ (d : ℕ) (ys : List Bool) (h : Marking p m d xs ys) where
-    -- row d does not pass, and stays; or it does, and is marked
-    pub marking-skip : d < m → p d ≡ false → Marking p m (d + 1) xs ys
-    marking-skip o e = record {
+    -- row d is marked where it was, or passes
+    pub marking-next : d < m → (x : Bool) → x ≡ p d → Marking p m (d + 1) xs (set ys d (get_or ys d false || x))
+    marking-next o x e = record {
       fits = omega arith;
-      long = h.long;
-      passed = below_more (λ j. get_or ys j false ≡ (get_or xs j false or p j)) d h.passed (h.left d (omega arith) ∙ (sym (or-false (get_or xs d false)) ∙ ap (λ (b : Bool). get_or xs d false or b) (sym e)));
-      left = λ j u. h.left j (omega arith);
-    }
-
-    pub marking-hit : d < m → p d ≡ true → Marking p m (d + 1) xs (set ys d true)
-    marking-hit o e = record {
-      fits = omega arith;
-      long = length-set ys d true ∙ h.long;
-      passed = at_set (λ j y. j < d + 1 → y ≡ (get_or xs j false or p j)) ys d true false inside (λ u. sym (or-intro-right (get_or xs d false) _ e)) (λ j n u. h.passed j (omega arith));
-      left = at_set (λ j y. d + 1 ≤ j → y ≡ get_or xs j false) ys d true false inside (λ u. absurd (lt_irrefl d (omega arith))) (λ j n u. h.left j (omega arith));
+      long = length-set ys d _ ∙ h.long;
+      passed = at_set (λ j y. j < d + 1 → y ≡ (get_or xs j false or p j)) ys d _ false inside (λ u. or-is (get_or ys d false) x ∙ ap₂ (λ (a b : Bool). a or b) (h.left d (omega arith)) e) (λ j n u. h.passed j (omega arith));
+      left = at_set (λ j y. d + 1 ≤ j → y ≡ get_or xs j false) ys d _ false inside (λ u. absurd (lt_irrefl d (omega arith))) (λ j n u. h.left j (omega arith));
     }
       where
         inside : d < length ys
@@ -69,3 +75,33 @@ module _ {A : Type 0} (f : A → ℕ → Bool) (ls : List A) (m : ℕ) (xs : Lis
 
     pub also-all : length ls ≤ i → AlsoMarked (λ d. any (λ x. f x d) ls) m xs ys
     also-all o d u = h.marked d u ∙ ap (λ (l : List A). get_or xs d false or any (λ x. f x d) l) (take_all i ls o)
+
+-- the same of a list that gets shorter: what is marked, with what its elements mark, is what all of them mark
+pub record MarksLeft {A : Type 0} (f : A → ℕ → Bool) (m : ℕ) (xs : List Bool) (ls left : List A) (ys : List Bool) : Type 0 where
+  pub whole : (d : ℕ) → d < m → (get_or ys d false or any (λ x. f x d) left) ≡ (get_or xs d false or any (λ x. f x d) ls)
+
+module _ {A : Type 0} (f : A → ℕ → Bool) (m : ℕ) (xs : List Bool) (ls : List A) where
+  pub left-all : (left : List A) → left ≡ ls → MarksLeft f m xs ls left xs
+  left-all left q = record { whole = λ d o. ap (λ (l : List A). get_or xs d false or any (λ x. f x d) l) q }
+
+  module _ (left : List A) (ys : List Bool) (h : MarksLeft f m xs ls left ys) where
+    pub left-more : (x : A) (more : List A) (zs : List Bool) → left ≡ x ∷ more → AlsoMarked (f x) m ys zs → MarksLeft f m xs ls more zs
+    left-more x more zs q g = record {
+      whole = λ d o.
+          ap (λ (b : Bool). b or any (λ x. f x d) more) (g d o)
+          ∙ (or_assoc (get_or ys d false) (f x d) (any (λ x. f x d) more) ∙ (ap (λ (b : Bool). get_or ys d false or b) (first-or (λ x. f x d) x more ∙ ap (any (λ x. f x d)) (sym q)) ∙ h.whole d o));
+    }
+
+    pub left-none : left ≡ [] → AlsoMarked (λ d. any (λ x. f x d) ls) m xs ys
+    unfolding any
+    left-none q d o = sym (or-false (get_or ys d false)) ∙ (ap (λ (l : List A). get_or ys d false or any (λ x. f x d) l) (sym q) ∙ h.whole d o)
+
+-- what an iterator has left that gives the first n of a list
+module _ {A : Type 0} where
+  pub take-more : (n k : ℕ) (xs more : List A) (x : A) → xs ≡ x ∷ more → k + 1 ≡ n → take n xs ≡ x ∷ take k more
+  take-more n k xs more x q e = ap (λ (l : List A). take n l) q ∙ ap (λ (j : ℕ). take j (x ∷ more)) (sym e ∙ add-one k)
+
+  pub take-none : (n : ℕ) (xs : List A) → (0 < n → length xs ≡ 0) → take n xs ≡ []
+  take-none zero xs h = refl
+  take-none (suc n) [] h = refl
+  take-none (suc n) (x ∷ xs) h = absurd (omega (arith, h (omega arith)))

@@ -2,32 +2,29 @@
 use Prim.Native.Nat.{ℕ, ◌<◌, ◌≤◌}
 use mathlib.Core.Path.{◌≡◌, refl, sym, ap}
 use mathlib.Core.Logic.{◌≢◌}
-use mathlib.Core.Bool.{Bool, true, not}
-use mathlib.Core.List.{List, [], ◌∷◌}
-use lib.Dec.{eqb, ltb}
+use mathlib.Core.Bool.{Bool, true}
+use mathlib.Core.List.{List}
 use lib.ListN.{length}
 use native.Mathlib.Omega.{arith}
 use borrow.Author.Tests.{not-false, eqb-true, eqb-false, ltb-false}
 use Rattle.model.specs.Types.{Station, Outcome}
 use Rattle.model.specs.declared.Answer.TheVariants as A
-use Rattle.model.specs.Lists.{◌or◌, all}
+use Rattle.model.specs.Lists.{all}
 use Rattle.model.specs.Limits.{sweep_limit}
-use Rattle.model.specs.Kinds.{Kind, store_size}
+use Rattle.model.specs.Kinds.{store_size}
 use Rattle.model.specs.Sound.{sound}
-use Rattle.model.specs.Effects.{Effect, Row, stored, outcome_of, says, ◌when◌, wrong_length, unsound}
+use Rattle.model.specs.Effects.{Effect, stored, outcome_of, says, wrong_length, unsound}
 use Rattle.model.specs.Sweep.{sweep}
 use Rattle.model.proofs.Tests.{or_left, or_right}
 use Rattle.model.proofs.RefusalLaws.{row-off}
 use Rattle.stations.specs.Found.{first_row}
+use Rattle.sweeping.specs.Rows.{sweep_rows}
 use Rattle.stations.proofs.RowLaws.{rows-refused, rows-off}
 
-abbrev pub sweep_rows : Kind → List ℕ → ℕ → Bool → List Row
-sweep_rows κ s n b = 1 when not (eqb (length s) (store_size κ)) ∷ 2 when not b ∷ 20 when (eqb n 0 or ltb sweep_limit n) ∷ []
-
-module _ (st : Station) (s : List ℕ) (n : ℕ) (b : Bool) (tested : b ≡ sound st) (r : ℕ) (e : r ≡ first_row (sweep_rows st.kind s n b)) where
+module _ (st : Station) (s : List ℕ) (n : ℕ) (b : Bool) (tested : b ≡ sound st) (r : ℕ) (e : r ≡ first_row (sweep_rows st.kind (length s) n b)) where
   refused : r ≢ 0 → sweep st s n ≡ says (A.Refused r 0) st
   unfolding sweep wrong_length unsound
-  refused z = rows-refused st (sweep_rows st.kind s n) b tested r e z _
+  refused z = rows-refused st (sweep_rows st.kind (length s) n) b tested r e z _
 
   -- a refused sweep hands back what it was given
   pub sweep-refused : r ≢ 0 → (◌≡◌ {A = Outcome} (record { station = st; answer = A.Refused r 0 }) (outcome_of (sweep st s n))) × (s ≡ stored (sweep st s n).stores s)
@@ -38,7 +35,7 @@ module _ (st : Station) (s : List ℕ) (n : ℕ) (b : Bool) (tested : b ≡ soun
   pub sweep-allowed : r ≡ 0 → (length s ≡ store_size st.kind) × (sound st ≡ true) × (0 < n) × (n ≤ sweep_limit)
   unfolding all
   sweep-allowed z =
-      let a = row-off 1 _ _ (rows-off st (sweep_rows st.kind s n) b tested r e refl z) in
+      let a = row-off 1 _ _ (rows-off st (sweep_rows st.kind (length s) n) b tested r e refl z) in
       let c = row-off 2 _ _ a.1 in
       let d = row-off 20 _ _ c.1 in (
         eqb-true (length s) (store_size st.kind) (not-false _ a.0),

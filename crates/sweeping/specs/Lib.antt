@@ -1,3 +1,4 @@
 pub mod Marks
 pub mod Sifted
 pub mod Order
+pub mod Rows

@@ -2,26 +2,26 @@
 // read (collect-leaves-others, model), so they are found and put in order once, and then cleared one after the other.
 #![tactic(auto)]
 
-ghost use Rattle.std.specs.Prelude.{◌≡◌, true, false, not, [], ◌∷◌, ◌<◌, ◌≤◌, eqb, ltb, length};
-ghost use Rattle.model.specs.Lists.{◌and◌, ◌or◌, any};
+ghost use Rattle.std.specs.Prelude.{◌≡◌, true, false, ◌<◌, ◌≤◌, ltb, length, MatchResult};
+ghost use Rattle.model.specs.Lists.{◌and◌, any};
 ghost use Rattle.model.specs.Limits as Limits;
 ghost use Rattle.model.specs.Kinds as Kinds;
 ghost use Rattle.model.specs.Ids.{same_id};
 ghost use Rattle.model.specs.Listed.{kind_of, listed_live, listed_lives, listed_entries, listed, listed_outcome};
 ghost use Rattle.model.specs.Lives.{reads_of};
 ghost use Rattle.model.specs.Sound.{sound};
-ghost use Rattle.model.specs.Effects.{◌when◌, outcome_of, stored};
+ghost use Rattle.model.specs.Refusals.{number_of};
+ghost use Rattle.model.specs.Effects.{outcome_of, stored};
 ghost use Rattle.model.specs.Sweep.{sweep};
 ghost use Rattle.stations.specs.Found.{first_row};
 ghost use Rattle.reading.specs.Columns.{Column, AreRows, id_at, has_id};
 ghost use Rattle.sweeping.specs.Marks.{AlsoMarked, Marked};
 ghost use Rattle.sweeping.specs.Sifted.{AreSifted};
 ghost use Rattle.sweeping.specs.Order.{AreToCollect, AreToCollectOf};
+ghost use Rattle.sweeping.specs.Rows.{sweep_rows};
 
 use keysets::is_within;
-use model::{
-    Answer, Entry, Id, Kind, Live, Outcome, Station, no_entry, read_count, store_size, wide,
-};
+use model::{Answer, Entry, Id, Kind, Live, Outcome, Refusal, Station, no_entry};
 use reading::{Candidates, clocks_of, held_of, newest_first, txns_of};
 use records::carries_entry;
 use storing::{record_place, store_zero};
@@ -32,125 +32,88 @@ fn has_id(clocks: &[u64; Station::SLOTS], txns: &[u32; Station::SLOTS], d: usize
     requires { d < Limits.entry_places }
     ensures { result ≡ same_id (id_at clocks.now txns.now d) id }
 {
-    if txns[d] != id.txn {
-        return false;
-    }
-    clocks[d] == id.clock
+    txns[d] == id.txn && clocks[d] == id.clock
 }
 
-// The rows marked, and those that have the id.
-fn with_id(
-    marks: [bool; Station::SLOTS],
+// Marks the rows that have the id.
+fn mark_id(
+    marks: &mut [bool; Station::SLOTS],
     clocks: &[u64; Station::SLOTS],
     txns: &[u32; Station::SLOTS],
     id: Id,
-) -> [bool; Station::SLOTS]
-    ensures { AlsoMarked (λ d. same_id (id_at clocks.now txns.now d) id) Limits.entry_places marks result }
+)
+    ensures { AlsoMarked (λ d. same_id (id_at clocks.now txns.now d) id) Limits.entry_places marks.old marks.new }
 {
-    let mut out = marks;
-    let mut d = 0;
-    while d < Station::SLOTS {
-        let at = d;
-        d += 1;
-        if !has_id(clocks, txns, at, id) {
-            continue;
-        }
-        out[at] = true;
+    for (d, mark) in marks.iter_mut().enumerate() {
+        *mark |= has_id(clocks, txns, d, id);
     }
-    out
 }
 
 // Those that the transaction has read.
-fn with_reads(
-    marks: [bool; Station::SLOTS],
+fn mark_reads(
+    marks: &mut [bool; Station::SLOTS],
     clocks: &[u64; Station::SLOTS],
     txns: &[u32; Station::SLOTS],
-    l: Live,
-) -> [bool; Station::SLOTS]
-    ensures { AlsoMarked (λ d. has_id (reads_of (listed_live l)) (id_at clocks.now txns.now d)) Limits.entry_places marks result }
+    l: &Live,
+)
+    ensures { AlsoMarked (λ d. has_id (reads_of (listed_live l.now)) (id_at clocks.now txns.now d)) Limits.entry_places marks.old marks.new }
 {
-    let n = read_count(l);
-    let mut out = marks;
-    let mut i = 0;
-    while i < n {
-        let r = l.reads[i];
-        let id = r.id;
-        let next = with_id(out, clocks, txns, id);
-        out = next;
-        i += 1;
+    for read in l.reads.iter().take(usize::from(l.read_count)) {
+        mark_id(marks, clocks, txns, read.id);
     }
-    out
 }
 
 // Those that any live transaction has read.
 fn read_of(
-    live: [Live; Station::LIVE],
+    live: &[Live; Station::LIVE],
     clocks: &[u64; Station::SLOTS],
     txns: &[u32; Station::SLOTS],
 ) -> [bool; Station::SLOTS]
-    ensures { Marked (λ d. any (λ l. has_id (reads_of l) (id_at clocks.now txns.now d)) (listed_lives live)) Limits.entry_places result }
+    ensures { Marked (λ d. any (λ l. has_id (reads_of l) (id_at clocks.now txns.now d)) (listed_lives live.now)) Limits.entry_places result }
 {
-    let mut out = [false; Station::SLOTS];
-    let mut i = 0;
-    while i < Station::LIVE {
-        let l = live[i];
-        let next = with_reads(out, clocks, txns, l);
-        out = next;
-        i += 1;
+    let mut marks = [false; Station::SLOTS];
+    for l in live {
+        mark_reads(&mut marks, clocks, txns, l);
     }
-    out
+    marks
 }
 
 // ---- which are superseded
-fn both(a: bool, b: bool) -> bool
-    ensures { result ≡ (a and b) }
-{
-    if a {
-        return b;
-    }
-    false
-}
-
 // Of all entries, newest first, those that are superseded by the ones before them and not read: all their keys are among those that the ones
 // before have written.
 fn sifted(
-    entries: [Entry; Station::SLOTS],
-    order: Candidates,
-    read: [bool; Station::SLOTS],
+    entries: &[Entry; Station::SLOTS],
+    order: &Candidates,
+    read: &[bool; Station::SLOTS],
 ) -> Candidates
-    requires { (order.n ≤ Limits.entry_places) × AreRows order.n order.slots }
-    ensures { AreSifted (listed_entries entries) order.slots read order.n result.n result.slots }
+    requires { (order.now.n ≤ Limits.entry_places) × AreRows order.now.n order.now.slots }
+    ensures { AreSifted (listed_entries entries.now) order.now.slots read.now order.now.n result.n result.slots }
 {
-    let mut seen = 0u64;
-    let mut slots = [0u8; Station::SLOTS];
+    let mut seen = 0;
+    let mut slots = [0; Station::SLOTS];
     let mut n = 0;
-    let mut c = 0;
-    while c < order.n {
-        let s = order.slots[c];
-        let d = wide(s);
-        c += 1;
-        let e = entries[d];
-        let old = is_within(e.keys, seen);
-        seen = seen | e.keys;
-        if !both(old, !read[d]) {
-            continue;
+    for &s in order.slots() {
+        let d = usize::from(s);
+        let keys = entries[d].keys;
+        if is_within(keys, seen) && !read[d] {
+            slots[n] = s;
+            n += 1;
         }
-        slots[n] = s;
-        n += 1;
+        seen |= keys;
     }
     Candidates { n, slots }
 }
 
 // The slots whose entries may be collected, newest first.
-fn to_collect(live: [Live; Station::LIVE], entries: [Entry; Station::SLOTS]) -> Candidates
-    ensures { AreToCollectOf (listed_lives live) (listed_entries entries) result.n result.slots }
+fn to_collect(live: &[Live; Station::LIVE], entries: &[Entry; Station::SLOTS]) -> Candidates
+    ensures { AreToCollectOf (listed_lives live.now) (listed_entries entries.now) result.n result.slots }
 {
-    let clocks = clocks_of(entries);
-    let txns = txns_of(entries);
-    let held = held_of(entries);
+    let clocks = clocks_of(*entries);
+    let txns = txns_of(*entries);
+    let held = held_of(*entries);
     let order = newest_first(&held, &clocks, &txns);
     let read = read_of(live, &clocks, &txns);
-    sifted(entries, order, read)
+    sifted(entries, &order, &read)
 }
 
 // ---- the sweep
@@ -158,38 +121,28 @@ fn to_collect(live: [Live; Station::LIVE], entries: [Entry; Station::SLOTS]) -> 
 fn goes_on(left: usize, count: u8, limit: u64) -> bool
     ensures { result ≡ (ltb 0 left and ltb count limit) }
 {
-    if left == 0 {
-        return false;
-    }
-    (count as u64) < limit
+    left != 0 && u64::from(count) < limit
 }
 
 // Clears the last of the slots, which has the oldest entry, and so on to the first, as far as the limit. A commit record that is not its
 // entry's ends it.
-fn collect_all(station: Station, store: &mut [u8], order: Candidates, limit: u64) -> Outcome
+fn collect_all(station: Station, store: &mut [u8], order: &Candidates, limit: u64) -> Outcome
     requires store_len { length store.old ≡ Kinds.store_size (kind_of station.kind) }
     requires station_value { (sound (listed station) ≡ true) × (0 < limit) × (limit ≤ Limits.sweep_limit) }
-    requires are_to_collect { AreToCollect (listed station) order.n order.slots }
+    requires are_to_collect { AreToCollect (listed station) order.now.n order.now.slots }
     ensures { (listed_outcome result ≡ outcome_of (sweep (listed station) store.old limit)) × (store.new ≡ stored (sweep (listed station) store.old limit).stores store.old) }
 {
     let mut next = station;
     let mut left = order.n;
     let mut count = 0u8;
     while goes_on(left, count, limit) {
-        let s = order.slots[left - 1];
-        let d = wide(s);
-        let e = next.entries[d];
-        let kind = next.kind;
-        let at = record_place(kind, d, 0);
-        if !carries_entry(kind, &store[at..at + Station::RECORD], e) {
-            return Outcome {
-                station: next,
-                answer: Answer::Swept(count),
-            };
+        let d = usize::from(order.slots[left - 1]);
+        let at = record_place(next.kind, d, 0);
+        if !carries_entry(next.kind, &store[at..at + Station::RECORD], next.entries[d]) {
+            break;
         }
-        store_zero(kind, store, d);
-        let free = no_entry();
-        next.entries[d] = free;
+        store_zero(next.kind, store, d);
+        next.entries[d] = no_entry();
         left -= 1;
         count += 1;
     }
@@ -199,23 +152,19 @@ fn collect_all(station: Station, store: &mut [u8], order: Candidates, limit: u64
     }
 }
 
-// The first of rows 1, 2 and 20 that applies; 0 where none does.
-fn sweep_row(kind: Kind, size: usize, tested: bool, limit: u64) -> u8
-    ensures { result ≡ first_row (1 when not (eqb size (Kinds.store_size (kind_of kind))) ∷ 2 when not tested ∷ 20 when (eqb limit 0 or ltb Limits.sweep_limit limit) ∷ []) }
+// The first of rows 1, 2 and 20 that applies.
+fn sweep_row(kind: Kind, size: usize, tested: bool, limit: u64) -> Result<(), Refusal>
+    ensures { MatchResult result (λ _. first_row (sweep_rows (kind_of kind) size limit tested) ≡ 0) (λ row. number_of row ≡ first_row (sweep_rows (kind_of kind) size limit tested)) }
 {
-    if size != store_size(kind) {
-        return 1;
+    if size != kind.store_size() {
+        Err(Refusal::StoreLength)
+    } else if !tested {
+        Err(Refusal::Unsound)
+    } else if limit == 0 || limit > Station::SWEEP {
+        Err(Refusal::LimitRange)
+    } else {
+        Ok(())
     }
-    if !tested {
-        return 2;
-    }
-    if limit == 0 {
-        return 20;
-    }
-    if limit > Station::SWEEP {
-        return 20;
-    }
-    0
 }
 
 // Collects the oldest entries that may be collected, at most so many, and answers how many.
@@ -223,16 +172,12 @@ pub fn sweep(station: Station, tested: bool, store: &mut [u8], limit: u64) -> Ou
     requires { tested ≡ sound (listed station) }
     ensures { (listed_outcome result ≡ outcome_of (sweep (listed station) store.old limit)) × (store.new ≡ stored (sweep (listed station) store.old limit).stores store.old) }
 {
-    let kind = station.kind;
-    let row = sweep_row(kind, store.len(), tested, limit);
-    if row != 0 {
+    if let Err(row) = sweep_row(station.kind, store.len(), tested, limit) {
         return Outcome {
             station,
-            answer: Answer::Refused(row, 0),
+            answer: Answer::Refused(row.number(), 0),
         };
     }
-    let live = station.live;
-    let entries = station.entries;
-    let order = to_collect(live, entries);
-    collect_all(station, store, order, limit)
+    let order = to_collect(&station.live, &station.entries);
+    collect_all(station, store, &order, limit)
 }

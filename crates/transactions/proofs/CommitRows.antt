@@ -21,6 +21,8 @@ use Rattle.model.specs.Stations.{live_at, entry_at, set_live, live_txns, is_live
 use Rattle.model.specs.Clocks.{clocks, clock_above}
 use Rattle.model.specs.Sound.{sound}
 use Rattle.model.specs.Effects.{Effect, Row, says, ◌when◌, refusals, unsound}
+use Rattle.model.specs.declared.refusal.Refusal.{Refusal}
+use Rattle.model.specs.Refusals.{number_of}
 use Rattle.model.specs.Commit.{highest_free, commit}
 use Rattle.model.proofs.ListLaws.{get_or-inside}
 use Rattle.model.proofs.ClockLaws.{clock-real}
@@ -30,7 +32,7 @@ use Rattle.model.proofs.StationLaws.{place-hit, live_out}
 use Rattle.model.proofs.Tests.{and_intro, not_of_false, not-of-true, and-none-left, and-none-right, and_first}
 use Rattle.stations.specs.Found.{live_in, first_row}
 use Rattle.stations.proofs.Callers.{place-eq, place-live, slot-eq, slot_held, slot-none, free-some, free-none}
-use Rattle.stations.proofs.RowLaws.{is_numbered, rows-refused, rows-off, rows-passed, place-row}
+use Rattle.stations.proofs.RowLaws.{is_numbered, refusal-comes, none-applies, rows-passed, place-row}
 use Rattle.transactions.specs.Committing.{unknown_rows, slot_for, clock_for, after_commit, commit_answer}
 use Rattle.transactions.proofs.Rows.{Sought}
 
@@ -121,18 +123,18 @@ module _ (st : Station) (t j i : ℕ) (y : Sought st t j i) where
     unfolding commit refusals unknown_rows unsound commit-rest last-rows closed
     commit-rows = ap₂ (λ (a b : Bool). refusals (2 when unsound st ∷ 3 when eqb t 0 ∷ 5 when eqb x 0 ∷ 8 when (a and b) ∷ []) st rest) (sym unlive) (sym unheld)
 
-    module _ (b : Bool) (tested : b ≡ sound st) (r : ℕ) (e : r ≡ first_row (unknown_rows t x j i b)) where
-      pub commit-unknown : r ≢ 0 → commit st t x ≡ says (A.Refused r 0) st
-      commit-unknown n = commit-rows ∙ rows-refused st (unknown_rows t x j i) b tested r e n _
+    module _ (b : Bool) (tested : b ≡ sound st) where
+      pub commit-unknown : (r : Refusal) → number_of r ≡ first_row (unknown_rows t x j i b) → commit st t x ≡ says (A.Refused (number_of r) 0) st
+      commit-unknown r e = commit-rows ∙ refusal-comes st (unknown_rows t x j i) b tested r e _
 
       unknown-numbered : all is_numbered (unknown_rows t x j i (sound st)) ≡ true
       unfolding all unknown_rows
       unknown-numbered = refl
 
-      pub known : r ≡ 0 → Known st t x j i
+      pub known : first_row (unknown_rows t x j i b) ≡ 0 → Known st t x j i
       unfolding unknown_rows
-      known z =
-          let c = row-off 2 _ _ (rows-off st (unknown_rows t x j i) b tested r e unknown-numbered z) in
+      known e =
+          let c = row-off 2 _ _ (none-applies st (unknown_rows t x j i) b tested e unknown-numbered) in
           let d = row-off 3 _ _ c.1 in
           let f = row-off 5 _ _ d.1 in
           let g = row-off 8 _ _ f.1 in
@@ -142,7 +144,7 @@ module _ (st : Station) (t j i : ℕ) (y : Sought st t j i) where
             numbered = eqb-false t 0 d.0;
             clocked = eqb-false x 0 f.0;
             somewhere = λ o. leb-false live_places i (and_first _ _ g.0 (le-leb entry_places j o));
-            passed = commit-rows ∙ rows-passed st (unknown_rows t x j i) b tested r e unknown-numbered z _;
+            passed = commit-rows ∙ rows-passed st (unknown_rows t x j i) b tested e unknown-numbered _;
           }
 
 module _ {st : Station} {t x j i : ℕ} (k : Known st t x j i) where

@@ -16,6 +16,8 @@ use Rattle.model.specs.Lives.{no_live, has_written}
 use Rattle.model.specs.Stations.{live_at, set_live, live_txns, is_live, is_held, place_of}
 use Rattle.model.specs.Sound.{sound}
 use Rattle.model.specs.Effects.{Effect, says, ◌when◌, refusals, unsound}
+use Rattle.model.specs.declared.refusal.Refusal.{Refusal}
+use Rattle.model.specs.Refusals.{number_of}
 use Rattle.model.specs.Start.{opened, start}
 use Rattle.model.specs.Put.{with_write, put}
 use Rattle.model.specs.Abort.{abort}
@@ -23,7 +25,7 @@ use Rattle.model.proofs.RefusalLaws.{refusals-none, skipped, hit}
 use Rattle.model.proofs.Tests.{and_intro, or-none, or-intro-left, or-intro-right, not_of_false, not-of-true, and-none-left, and-none-right}
 use Rattle.stations.specs.Found.{live_txn, entry_txn, live_in, place_in, first_row, named_rows, open_rows}
 use Rattle.stations.proofs.Callers.{place_none, slot-none}
-use Rattle.stations.proofs.RowLaws.{is-unsound, not-unsound, rows-refused, rows-passed, open-numbered}
+use Rattle.stations.proofs.RowLaws.{is-unsound, not-unsound, refusal-comes, rows-passed, open-numbered}
 
 -- with the answer and the transaction that the code made
 pub placed : (a a' : Answer) (st : Station) (i : ℕ) (l l' : Live) (e : Effect) → a ≡ a' → l ≡ l' → e ≡ says a' (set_live st i l') → e ≡ says a (set_live st i l)
@@ -71,22 +73,22 @@ module _ (st : Station) (t j i : ℕ) (y : Sought st t j i) (h : sound st ≡ tr
       ∙ (refusals-none st _ ∙ ap (λ (m : ℕ). says A.Started (set_live st m (opened t))) (sym at)))))
 
 -- ── abort ──
-module _ (st : Station) (t : ℕ) (b : Bool) (tested : b ≡ sound st) (r : ℕ) (e : r ≡ first_row (open_rows st.live t 0 b)) where
+module _ (st : Station) (t : ℕ) (b : Bool) (tested : b ≡ sound st) where
   abort-rows : abort st t ≡ refusals (open_rows st.live t 0 (sound st)) st (says A.Dropped (set_live st (place_of t st) no_live))
   unfolding abort refusals open_rows named_rows unsound is_live live_txns place_of live_at
   abort-rows = refl
 
-  pub abort_refused : r ≢ 0 → abort st t ≡ says (A.Refused r 0) st
-  abort_refused n = abort-rows ∙ rows-refused st (open_rows st.live t 0) b tested r e n _
+  pub abort_refused : (r : Refusal) → number_of r ≡ first_row (open_rows st.live t 0 b) → abort st t ≡ says (A.Refused (number_of r) 0) st
+  abort_refused r e = abort-rows ∙ refusal-comes st (open_rows st.live t 0) b tested r e _
 
-  pub abort-done : r ≡ 0 → (i : ℕ) → i ≡ place_in t st.live → abort st t ≡ says A.Dropped (set_live st i no_live)
+  pub abort-done : first_row (open_rows st.live t 0 b) ≡ 0 → (i : ℕ) → i ≡ place_in t st.live → abort st t ≡ says A.Dropped (set_live st i no_live)
   unfolding place_of live_txns
-  abort-done z i p =
-      abort-rows ∙ (rows-passed st (open_rows st.live t 0) b tested r e (open-numbered st.live t 0 (sound st)) z _
+  abort-done e i p =
+      abort-rows ∙ (rows-passed st (open_rows st.live t 0) b tested e (open-numbered st.live t 0 (sound st)) _
       ∙ ap (λ (j : ℕ). says A.Dropped (set_live st j no_live)) (sym p))
 
 -- ── put ──
-module _ (st : Station) (t k v : ℕ) (b : Bool) (tested : b ≡ sound st) (r : ℕ) (e : r ≡ first_row (open_rows st.live t k b)) where
+module _ (st : Station) (t k v : ℕ) (b : Bool) (tested : b ≡ sound st) where
   -- row 11 and the effect, of transaction l at place i
   abbrev put_rest : ℕ → Live → Effect
   put_rest i l = refusals (11 when (not (has_written k l) and leb st.kind.write_limit l.write_count) ∷ []) st (says A.Kept (set_live st i (with_write k v l)))
@@ -95,14 +97,14 @@ module _ (st : Station) (t k v : ℕ) (b : Bool) (tested : b ≡ sound st) (r : 
   unfolding put refusals open_rows named_rows unsound is_live live_txns place_of live_at
   put-rows = refl
 
-  pub put_refused : r ≢ 0 → put st t k v ≡ says (A.Refused r 0) st
-  put_refused n = put-rows ∙ rows-refused st (open_rows st.live t k) b tested r e n _
+  pub put_refused : (r : Refusal) → number_of r ≡ first_row (open_rows st.live t k b) → put st t k v ≡ says (A.Refused (number_of r) 0) st
+  put_refused r e = put-rows ∙ refusal-comes st (open_rows st.live t k) b tested r e _
 
-  module _ (z : r ≡ 0) (i : ℕ) (p : i ≡ place_in t st.live) (l : Live) (f : l ≡ live_in st.live i) where
+  module _ (e : first_row (open_rows st.live t k b) ≡ 0) (i : ℕ) (p : i ≡ place_in t st.live) (l : Live) (f : l ≡ live_in st.live i) where
     put-passed : put st t k v ≡ put_rest i l
     unfolding live_at place_of live_txns
     put-passed =
-        put-rows ∙ (rows-passed st (open_rows st.live t k) b tested r e (open-numbered st.live t k (sound st)) z _
+        put-rows ∙ (rows-passed st (open_rows st.live t k) b tested e (open-numbered st.live t k (sound st)) _
         ∙ (ap (λ (j : ℕ). put_rest j (live_at st j)) (sym p) ∙ ap (put_rest i) (sym f)))
 
     pub put-11 : st.kind.write_limit ≤ l.write_count → has_written k l ≡ false → put st t k v ≡ says (A.Refused 11 0) st

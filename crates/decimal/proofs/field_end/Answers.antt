@@ -1,23 +1,18 @@
-use mathlib.Core.Path.{ap}
+-- `decimal::field_end` meets its contract.
+use mathlib.Core.Path.{refl, ◌∙◌}
+use lib.Dec.{eqb}
 use lib.ListN.{length}
-use native.Mathlib.Omega.{arith}
-use Rattle.decimal.proofs.FieldLaws.{field-here, field_next, field_end}
+use Rattle.std.proofs.Common.{ℕ, rules, tests}
+use Rattle.std.proofs.lemmas.Iterator.{YieldsList-from_slice}
+use Rattle.std.proofs.lemmas.Iterator.Search.{position_from_yields_List}
+use Rattle.model.proofs.StdWords.{first_from_position}
+use Rattle.decimal.proofs.FieldLaws.{first-field}
 use Rattle.decimal.proofs.field_end.Goals as goal
-
-pub loop-i-init : goal.loop-i-init
-loop-i-init c = (omega arith, omega arith)
-
-pub returns-then-s-i : goal.returns-then-s-i
-returns-then-s-i c =
-    let a = c.args in
-    omega (arith, ap length (field-here a.end a.s.now c.loop-i.i (omega arith) c.if-s-i.true))
-
-pub loop-i-preserved : goal.loop-i-preserved
-loop-i-preserved c =
-    let a = c.args in
-    (omega arith, omega (arith, ap length (field_next a.end a.s.now c.loop-i.i (omega arith) c.if-s-i.false)))
 
 pub returns : goal.returns
 returns c =
-    let a = c.args in
-    omega (arith, ap length (field_end a.end a.s.now c.loop-i.i (omega arith)))
+    let s = c.args.s.now in
+    let ends = λ (b : ℕ). eqb b c.args.end in
+    c.unwrap_or.ensures
+    ∙ first_from_position ends s c.position.result (length s) (position_from_yields_List ends _ _ c.position.result c.position.ensures.ran (YieldsList-from_slice s c.iter.ensures.rest) (λ x b q k. search (rules, tests))) refl
+    ∙ first-field c.args.end s

@@ -1,14 +1,13 @@
 -- `decimal::number_in` meets its contract.
-use Prim.Native.Nat.{suc, ◌+◌, ◌-◌, ◌≤◌}
+use Prim.Native.Nat.{suc, ◌≤◌}
 use mathlib.Core.Path.{◌≡◌}
-use lib.ListN.{length, drop}
+use lib.ListN.{drop}
 use Rattle.decimal.specs.Digits.{number_below}
-use Rattle.decimal.specs.Fields.{field}
 use Rattle.decimal.proofs.ReadLaws.{read_on}
 use Rattle.decimal.proofs.number_in.Given as goal
 
-abbrev pub invariant-loop-i : goal.invariant-loop-i
-invariant-loop-i l = (l.i ≤ length l.s) × (l.sum ≤ l.max) × (length (field l.end l.s) ≡ l.i + length (field l.end (drop l.i l.s))) × (number_below (suc l.max) (field l.end l.s) ≡ read_on (suc l.max) l.sum (field l.end (drop l.i l.s)))
-
-abbrev pub decreases-loop-i : goal.decreases-loop-i
-decreases-loop-i l = length l.s - l.i
+abbrev pub invariant-loop-b : goal.invariant-loop-b
+invariant-loop-b l = record {
+  small : l.sum ≤ l.max;
+  rest : number_below (suc l.max) l.field ≡ read_on (suc l.max) l.sum (drop l.b-index l.field);
+}

@@ -1,22 +1,26 @@
 -- `decimal::starts_number` meets its contract.
-use mathlib.Core.Path.{sym}
-use Rattle.decimal.proofs.ReadLaws.{start-empty, start-end, start-digit, start-alone, start-zero}
+use mathlib.Core.Path.{◌≡◌}
+use lib.ListN.{length}
+use native.Mathlib.Omega.{arith}
+use borrow.Author.Tests.{le-leb, ne_eqb}
+use Rattle.model.specs.Lists.{◌and◌, ◌or◌}
+use Rattle.decimal.specs.Fields.{starts_number}
 use Rattle.decimal.proofs.starts_number.Goals as goal
 
-pub returns-then-s-eq0 : goal.returns-then-s-eq0
-returns-then-s-eq0 c = sym (start-empty c.args.end c.args.s.now c.if-s-eq0.true)
+pub returns-in-empty : goal.returns-in-empty
+unfolding starts_number ◌and◌ ◌or◌
+returns-in-empty c =
+    let e : length c.args.field.now ≡ 0 = omega arith in
+    rw e
 
-pub returns-then-s-end : goal.returns-then-s-end
-returns-then-s-end c = sym (start-end c.args.end c.args.s.now c.if-s-eq0.false c.if-s-end.true)
+pub returns-in-len1 : goal.returns-in-len1
+unfolding starts_number ◌and◌ ◌or◌
+returns-in-len1 c =
+    let e : length c.args.field.now ≡ 1 = omega arith in
+    rw e
 
-pub returns-then-s-ne48 : goal.returns-then-s-ne48
-returns-then-s-ne48 c =
-    sym (start-digit c.args.end c.args.s.now c.if-s-eq0.false c.if-s-end.false c.if-s-ne48.true)
-
-pub returns-then-s-eq1 : goal.returns-then-s-eq1
-returns-then-s-eq1 c =
-    sym (start-alone c.args.end c.args.s.now c.if-s-eq1.true c.if-s-end.false)
-
-pub returns : goal.returns
-returns c =
-    sym (start-zero c.args.end c.args.s.now c.if-s-eq0.false c.if-s-eq1.false c.if-s-end.false c.if-s-ne48.false)
+pub returns-in-len1-up : goal.returns-in-len1-up
+unfolding starts_number ◌and◌ ◌or◌
+returns-in-len1-up c =
+    let n = length c.args.field.now in
+    rw (le-leb 1 n (omega arith), ne_eqb n 1 (λ e. omega arith))

@@ -22,12 +22,6 @@ loop-rest-init c =
 pub overflow_sub-at : goal.overflow_sub-at
 overflow_sub-at c = omega (arith, count-large c.loop-rest.rest c.loop-rest-test.true)
 
-pub bounds-out-at : goal.bounds-out-at
-bounds-out-at c = omega arith
-
-pub loop-rest-smaller : goal.loop-rest-smaller
-loop-rest-smaller c = omega arith
-
 pub loop-rest-preserved : goal.loop-rest-preserved
 loop-rest-preserved c =
     let l = c.loop-rest in
@@ -42,9 +36,6 @@ loop-rest-preserved c =
           ∙ ap (written l.out start) (sym (digits-large l.rest c.loop-rest-test.true))
           ∙ l.invariant.4,
     )
-
-pub bounds-out-start : goal.bounds-out-start
-bounds-out-start c = omega arith
 
 pub bounds-out-after : goal.bounds-out-after
 bounds-out-after c = simp length-set (omega (arith, c.digit_count.ensures))

@@ -1,6 +1,7 @@
 -- `desk::decide` meets its contract. Assumes nothing.
 use mathlib.Core.Path.{sym, ap, ◌∙◌}
 use mathlib.Core.Bool.{true≢false}
+use mathlib.Core.Logic.{⊎_elim}
 use Rattle.model.specs.Calls.{Start, Put, Get, Commit, Step, Abort, Collect, does, is_scan, is_sweep}
 use Rattle.model.proofs.StoreLaws.{start-stores-nothing, put-stores-nothing, get-stores-nothing, commit-stores-nothing, abort-stores-nothing}
 use Rattle.sheet.specs.declared.Command.{Command}
@@ -36,16 +37,14 @@ pub returns-in-Collect : goal.returns-in-Collect
 unfolding call_of does
 returns-in-Collect c = decides _ _ _ (Collect _) (ap call_of c.in-Collect.is) _ _ c.collect.ensures.0 _ c.collect.ensures.1
 
--- a cut was ruled out
-pub returns-in-Cut : goal.returns-in-Cut
-unfolding call_of asks_scan is_scan
-returns-in-Cut c = absurd (true≢false (sym (ap (λ (x : Command). asks_scan (call_of x)) c.in-Cut.is) ∙ c.requires.1))
-
 pub returns-in-Malformed : goal.returns-in-Malformed
 unfolding call_of does
-returns-in-Malformed c = decides_not _ _ _ (ap call_of c.in-Malformed.is) _ _ c.refused-in-Malformed.ensures
+returns-in-Malformed c = decides_not _ _ _ (ap call_of c.in-Malformed.is) _ _ c.refused.ensures
 
--- nor was a sweep asked
-pub returns-in-Sweep : goal.returns-in-Sweep
-unfolding call_of asks_sweep is_sweep
-returns-in-Sweep c = absurd (true≢false (sym (ap (λ (x : Command). asks_sweep (call_of x)) c.in-Sweep.is) ∙ c.requires.2))
+-- neither a cut nor a sweep was asked
+pub returns-in-Cut : goal.returns-in-Cut
+unfolding call_of asks_scan asks_sweep is_scan is_sweep
+returns-in-Cut c = ⊎_elim
+    (λ e. absurd (true≢false (sym (ap (λ (x : Command). asks_scan (call_of x)) e) ∙ c.requires.1)))
+    (λ e. absurd (true≢false (sym (ap (λ (x : Command). asks_sweep (call_of x)) e.1) ∙ c.requires.2)))
+    c.in-Cut.is

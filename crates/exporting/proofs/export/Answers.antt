@@ -1,6 +1,7 @@
 -- `exporting::export` meets its contract.
 use Prim.Native.Nat.{ℕ}
 use mathlib.Core.Path.{◌≡◌}
+use mathlib.Core.Logic.{⊎_elim}
 use mathlib.Core.List.{List}
 use Rattle.model.specs.Types.{Entry}
 use Rattle.model.specs.Kinds.{narrow_kind}
@@ -45,27 +46,20 @@ module _ (c : After-newest_first-order) where
       )
 
 pub returns-then-store-ne-STORE : goal.returns-then-store-ne-STORE
-returns-then-store-ne-STORE c = let a = c.args in handed _ _ (wrong-store a.store.now a.target.now c.if-store-ne-STORE.true)
-
-pub returns-then-target-ne-TARGET : goal.returns-then-target-ne-TARGET
-returns-then-target-ne-TARGET c = let a = c.args in handed _ _ (wrong_target a.store.now a.target.now c.if-store-ne-STORE.false c.if-target-ne-TARGET.true)
+returns-then-store-ne-STORE c =
+    rw c.into.ensures
+    (handed _ _ (⊎_elim (λ n. wrong-store c.args.store.now c.args.target.now n) (λ p. wrong_target c.args.store.now c.args.target.now p.0 p.1) c.then-store-ne-STORE.either))
 
 pub returns-in-Refused : goal.returns-in-Refused
 returns-in-Refused c =
-    let a = c.args in
-    let o = c.scan_of-scanned in
-    let e = c in
-    refused-is a.store.now e.if-store-ne-STORE.false o.result o.ensures a.target.now c.in-Refused.number c.in-Refused.slot e.if-target-ne-TARGET.false c.in-Refused.is
+    refused-is c.args.store.now c.if-store-ne-STORE.false c.scan_of-scanned.result c.scan_of-scanned.ensures c.args.target.now c.in-Refused.number c.in-Refused.slot
+    c.if-target-ne-TARGET.false c.in-Refused.is
 
-pub write_stream-size-requires : goal.write_stream-size-requires
-write_stream-size-requires c =
-    let e = c in
-    (e.if-target-ne-TARGET.false, e.if-store-ne-STORE.false, (set-written (goal.at.write_stream-size-requires c).After-newest_first-order).0)
+pub write_stream-requires : goal.write_stream-requires
+write_stream-requires c = (c.if-target-ne-TARGET.false, c.if-store-ne-STORE.false, (set-written (goal.at.write_stream-requires c).After-newest_first-order).0)
 
 pub returns : goal.returns
 returns c =
     let n = (goal.at.returns c).After-newest_first-order in
-    let e = c in
-    let t = e.args.target.now in
-    let w = c.write_stream-size in
-    stream-exported (store_of n) t w.new.out w.result _ e.if-store-ne-STORE.false e.if-target-ne-TARGET.false (keeps n).0 (set-written n).1 w.ensures.0 w.ensures.1
+    let w = c.write_stream in
+    stream-exported (store_of n) c.args.target.now w.new.out w.result _ c.if-store-ne-STORE.false c.if-target-ne-TARGET.false (keeps n).0 (set-written n).1 w.ensures.0 w.ensures.1

@@ -1,46 +1,46 @@
+-- `exporting::write_stream` meets its contract.
 use Prim.Native.Nat.{◌+◌, ◌*◌, ◌≤◌}
-use mathlib.Core.Path.{refl}
+use mathlib.Core.Path.{◌≡◌, refl}
+use mathlib.Core.List.{[], ◌∷◌, ◌++◌}
 use lib.ListN.{length}
 use native.Mathlib.Omega.{arith}
+use Rattle.std.specs.Slice.Iter.{iter_rest}
+use Rattle.std.specs.Iterator.Adapters.{rev_source}
 use Rattle.model.specs.Kinds.{narrow_kind, slot_size}
 use Rattle.model.specs.Listed.{listed_entries}
 use Rattle.recovery.proofs.ScanSteps.{slot-ends, part_length}
-use Rattle.exporting.proofs.StreamLaws.{LastSlot, last-slot, streaming-next, streaming-ends}
-use Rattle.exporting.proofs.write_stream.Goals.{After-wide-d}
+use Rattle.exporting.proofs.StreamLaws.{LastSlot, last-slot, streaming-starts, streaming-next, streaming-ends}
+use Rattle.exporting.proofs.write_stream.Goals.{After-from-d}
 use Rattle.exporting.proofs.write_stream.Goals as goal
 
 -- ── a turn: the slot, which is the last one that is left ──
-module _ (c : After-wide-d) where
-  last : LastSlot c.args.entries c.loop-i.out c.loop-i.at c.wide-d.result
-  last =
-      let a = c.args in
-      let l = c.loop-i in
-      last-slot a.out.now a.store.now a.entries a.order.slots a.order.n l.out l.at l.i c.wide-d.result
-      c.requires.2 l.invariant c.loop-i-test.true c.wide-d.ensures c.requires.0
+module _ (c : After-from-d) where
+  taken : iter_rest (rev_source c.loop-slot.slot-iterator) ≡ iter_rest (rev_source c.next.new.self) ++ (c.from-d.result ∷ [])
+  taken = rw c.from-d.ensures c.in-Some.ensures.steps
 
-  ends : slot_size narrow_kind * c.wide-d.result + slot_size narrow_kind ≤ length c.args.store.now
-  ends = omega (arith, slot-ends narrow_kind c.args.store.now (slot_size narrow_kind) c.wide-d.result refl last.low, c.requires.1)
+  last : LastSlot c.args.entries c.loop-slot.out c.loop-slot.at c.from-d.result
+  last = last-slot _ _ _ _ _ _ _ _ _ _ c.requires.2 c.loop-slot.invariant taken c.requires.0
+
+  ends : slot_size narrow_kind * c.from-d.result + slot_size narrow_kind ≤ length c.args.store.now
+  ends = omega (arith, slot-ends narrow_kind c.args.store.now (slot_size narrow_kind) c.from-d.result refl last.low, c.requires.1)
+
+pub loop-slot-init : goal.loop-slot-init
+loop-slot-init c =
+    let o : c.args.order.n ≤ length c.args.order.slots = omega (arith, c.requires.2.fits) in
+    rw (c.into_iter-slot-iterator.ensures.into_iter_gives, c.rev-slot-items.ensures.source)
+    (streaming-starts c.args.out.now c.args.store.now (listed_entries c.args.entries) c.args.order.slots c.args.order.n _ o c.iter.ensures.rest)
 
 pub write_transaction-at-requires : goal.write_transaction-at-requires
 write_transaction-at-requires c =
-    let w = (goal.at.write_transaction-at-requires c).After-wide-d in
-    let s = c in
-    (part_length narrow_kind s.args.store.now (slot_size narrow_kind) w.wide-d.result refl s.requires.1 (last w).low, (last w).some_key, (last w).keys-fit, (last w).room)
+    let p = (goal.at.write_transaction-at-requires c).After-from-d in
+    (part_length narrow_kind c.args.store.now (slot_size narrow_kind) c.from-d.result refl c.requires.1 (last p).low, (last p).some_key, (last p).keys-fit, (last p).room)
 
-pub loop-i-preserved : goal.loop-i-preserved
-loop-i-preserved c =
-    let w = c in
-    let s = c in
-    let a = c.args in
-    let l = c.loop-i in
-    let t = c.write_transaction-at in
-    streaming-next a.out.now a.store.now a.entries a.order.slots a.order.n l.out l.at l.i w.wide-d.result
-    s.requires.2 l.invariant w.loop-i-test.true w.wide-d.ensures s.requires.0 t.new.out t.result t.ensures.1 (t.ensures.0, t.ensures.2)
+pub loop-slot-preserved : goal.loop-slot-preserved
+loop-slot-preserved c =
+    let w = c.write_transaction-at in
+    streaming-next _ _ _ _ _ _ _ _ _ _ c.requires.2 c.loop-slot.invariant (taken (goal.at.loop-slot-preserved c).After-from-d) c.requires.0 w.new.out w.result w.ensures.1 (w.ensures.0, w.ensures.2)
 
 pub returns : goal.returns
 returns c =
-    let s = c in
-    let l = c.loop-i in
-    let a = s.args in
-    let w = streaming-ends a.out.now a.store.now (listed_entries a.entries) a.order.slots a.order.n l.out l.at l.i l.invariant (omega (arith, c.loop-i-test.false)) in
+    let w = streaming-ends c.loop-slot.invariant c.in-None.ensures.steps.0 in
     (omega (arith, w.till-is), w.now-is)

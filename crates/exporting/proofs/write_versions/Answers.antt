@@ -1,54 +1,47 @@
-use Prim.Native.Nat.{◌≤◌}
+-- `exporting::write_versions` meets its contract.
+use Prim.Native.Nat.{◌+◌, ◌≤◌}
 use mathlib.Core.Path.{ap, ◌∙◌}
 use lib.ListN.{length}
 use native.Mathlib.Omega.{arith}
 use borrow.Author.Rules.{rules}
+use Rattle.model.specs.KeySets.{key_set}
 use Rattle.model.specs.Records.{value_in}
+use Rattle.resp.proofs.KeysLaws.{first-low}
 use Rattle.resp.proofs.LengthLaws.{id-long}
-use Rattle.exporting.proofs.VersionsLaws.{version-ends, version-length, version-part}
-use Rattle.exporting.proofs.VersionsLaws.{Versioning, versioning-starts, versioning-nth, versioning-room, versioning-next, versioning-ends}
-use Rattle.exporting.proofs.write_versions.Goals.{After-lowest_key-key, Start}
+use Rattle.keysets.specs.Parts.{keys_left}
+use Rattle.exporting.proofs.VersionsLaws.{version-part}
+use Rattle.exporting.proofs.VersionsLaws.{Versioning, versioning-nth, versioning-room, versioning-next, versioning-ends}
+use Rattle.exporting.proofs.write_versions.Goals.{In-Some, Start}
 use Rattle.exporting.proofs.write_versions.Goals as goal
 
--- ── a turn ──
 short : (s : Start) → length s.args.id.now ≤ 31
 short s = omega (arith, ap length s.requires.1, id-long s.args.e.id (search rules) (search rules))
 
-held : (c : After-lowest_key-key) → Versioning c.args.e.id c.args.out.now c.args.start c.args.slot.now c.args.e.keys c.loop-rest.out c.loop-rest.at c.loop-rest.rest c.loop-rest.n
-held c = c.loop-rest.invariant c.args.e.id c.requires.1
-
-nth : (c : After-lowest_key-key) → c.loop-rest.n ≤ 8
-nth c = versioning-nth _ _ _ _ _ _ _ _ _ _ (held c) c.lowest_key-key.ensures c.requires.2
-
-pub loop-rest-init : goal.loop-rest-init
-loop-rest-init c i e = let a = c.args in versioning-starts i a.out.now a.start a.slot.now a.e.keys
+held : (c : In-Some) → Versioning c.args.e.id c.args.out.now c.args.start c.args.slot.now (key_set c.args.e.keys) c.loop-n.out c.loop-n.at (keys_left c.loop-n.n-iterator.iter) (c.loop-n.n-iterator.count + 1)
+held c = c.loop-n.invariant c.args.e.id c.requires.1
 
 pub slice_bounds-value_in-end : goal.slice_bounds-value_in-end
-slice_bounds-value_in-end c = version-ends c.args.slot.now c.loop-rest.n c.requires.0 (nth (goal.at.slice_bounds-value_in-end c).After-lowest_key-key)
-
-pub value_in-value-requires : goal.value_in-value-requires
-value_in-value-requires c = version-length c.args.slot.now c.loop-rest.n c.requires.0 (nth (goal.at.value_in-value-requires c).After-lowest_key-key)
+slice_bounds-value_in-end c =
+    let s = c.in-Some.ensures.steps in
+    omega (arith, c.requires.0, versioning-nth (held (goal.at.slice_bounds-value_in-end c).In-Some) c.requires.2 s.0, s.1)
 
 pub write_version_command-at-requires : goal.write_version_command-at-requires
 write_version_command-at-requires c =
-    let k = (goal.at.write_version_command-at-requires c).After-lowest_key-key in
-    (short (goal.at.write_version_command-at-requires c).Start, versioning-room _ _ _ _ _ _ _ _ _ _ (held k) k.lowest_key-key.ensures c.requires.2 c.requires.3)
+    let p = goal.at.write_version_command-at-requires c in
+    (short p.Start, versioning-room (held p.In-Some) c.requires.2 c.in-Some.ensures.steps.0 c.requires.3)
 
-pub loop-rest-preserved : goal.loop-rest-preserved
-loop-rest-preserved c i e =
-    let l = c.loop-rest in
+pub loop-n-preserved : goal.loop-n-preserved
+loop-n-preserved c i h =
+    let s = c.in-Some.ensures.steps in
     let w = c.write_version_command-at in
     let v = c.value_in-value in
-    let a = c.args in
-    let is = v.ensures ∙ ap value_in (version-part a.slot.now l.n) in
-    versioning-next i a.out.now a.start a.slot.now a.e.keys l.out l.at l.rest l.n c.lowest_key-key.result (l.invariant i e) c.lowest_key-key.ensures
-    a.id.now v.result c.without_lowest-rest.result w.new.out w.result e (short (goal.at.loop-rest-preserved c).Start) (search rules) is c.requires.2 c.requires.3 c.without_lowest-rest.ensures w.ensures
+    let is = v.ensures ∙ ap value_in (version-part c.args.slot.now (c.in-Some.n + 1)) in
+    rw s.2
+    (versioning-next (c.loop-n.invariant i h) c.requires.2 s.0 c.requires.3 c.args.id.now v.result w.new.out w.result (first-low _ _ _ s.0) h
+    (short (goal.at.loop-n-preserved c).Start) (search rules) (rw s.1 at is) w.ensures)
 
 pub returns : goal.returns
 returns c =
-    let s = c in
-    let l = c.loop-rest in
-    let h = l.invariant s.args.e.id s.requires.1 in
-    let a = s.args in
-    let w = versioning-ends a.e.id a.out.now a.start a.slot.now a.e.keys l.out l.at l.rest l.n h c.loop-rest-test.false in
+    let h : Versioning _ _ _ _ _ _ _ _ _ = c.loop-n.invariant c.args.e.id c.requires.1 in
+    let w = versioning-ends h c.in-None.ensures.steps.0.0 in
     (w.till-is, omega (arith, h.room), w.now-is)

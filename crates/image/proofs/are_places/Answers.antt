@@ -1,18 +1,11 @@
-use Rattle.image.proofs.Names.{◌*◌, sym, ◌∙◌, arith, part_length, place_size}
-use Rattle.image.proofs.PartLaws.{test-start, test-next, test-stop, test-end}
+use Rattle.std.proofs.Common.{◌∙◌, arith, rules, tests}
+use Rattle.std.proofs.lemmas.Iterator.Search.{all_from_yields_List}
+use Rattle.image.proofs.Names.{live_places, place_size, is_place}
+use Rattle.image.proofs.Chunks.{YieldsList-from_parts}
+use Rattle.model.proofs.StdWords.{list_all-all}
 use Rattle.image.proofs.are_places.Goals as goal
 
-pub loop-i-preserved : goal.loop-i-preserved
-loop-i-preserved c = test-next c.loop-i.invariant (omega arith) (sym c.is_place.ensures ∙ c.if-not-is_place.false)
-
-pub loop-i-init : goal.loop-i-init
-loop-i-init c = test-start _ _ _ _
-
-pub is_place-requires : goal.is_place-requires
-is_place-requires c = part_length c.args.b.now (place_size * c.loop-i.i) place_size (omega arith)
-
-pub returns-then-not-is_place : goal.returns-then-not-is_place
-returns-then-not-is_place c = sym (test-stop c.loop-i.invariant (omega arith) (sym c.is_place.ensures ∙ c.if-not-is_place.true))
-
 pub returns : goal.returns
-returns c = sym (test-end c.loop-i.invariant (omega arith))
+returns c =
+    all_from_yields_List is_place _ _ _ c.all.ensures.ran (YieldsList-from_parts place_size live_places c.args.b.now (omega arith) c.requires c.chunks_exact.ensures.rest c.chunks_exact.ensures.size) (λ x b q k. search (rules, tests))
+    ∙ list_all-all _ _

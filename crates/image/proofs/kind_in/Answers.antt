@@ -5,5 +5,5 @@ use Rattle.image.proofs.kind_in.Goals as goal
 pub returns-then-b-eq-WIDE : goal.returns-then-b-eq-WIDE
 returns-then-b-eq-WIDE c = kind-wide c.args.b.now c.if-b-eq-WIDE.true
 
-pub returns : goal.returns
-returns c = kind-narrow c.args.b.now c.if-b-eq-WIDE.false
+pub returns-else-b-eq-WIDE : goal.returns-else-b-eq-WIDE
+returns-else-b-eq-WIDE c = kind-narrow c.args.b.now c.if-b-eq-WIDE.false

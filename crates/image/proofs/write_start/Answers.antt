@@ -23,7 +23,7 @@ returns c =
     let v = c.write_number-2 in
     let i = k.args.id in
     start-written k.args.part.now w.new.part v.new.part k.args.a k.args.b k.args.c k.args.d i k.requires
-    (number-written k.args.part.now w.new.part 4 4 i.txn (omega arith) w.ensures)
+    (number-written k.args.part.now w.new.part 4 4 i.txn (omega arith) (rw k.from.ensures at w.ensures))
     (number-written (put_mid 4 4 k.args.part.now w.new.part) v.new.part 8 8 i.clock (omega (arith, long k)) v.ensures)
 
 pub bounds-part-1 : goal.bounds-part-1

@@ -1,10 +1,6 @@
 -- `importing::versions_in` meets its contract.
-use Prim.Native.Nat.{◌-◌}
 use Rattle.importing.proofs.VersionsRead.{VersionsSoFar}
 use Rattle.importing.proofs.versions_in.Given as goal
 
 abbrev pub invariant-loop-n : goal.invariant-loop-n
-invariant-loop-n l = VersionsSoFar l.id l.s l.slot l.keys l.last l.at l.n
-
-abbrev pub decreases-loop-n : goal.decreases-loop-n
-decreases-loop-n l = 8 - l.n
+invariant-loop-n l = VersionsSoFar l.id l.s l.slot l.keys l.last l.rest l.n

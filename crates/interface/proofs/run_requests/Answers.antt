@@ -54,7 +54,7 @@ loop-i-preserved-then-asks_scan c =
 
 pub loop-i-preserved-in-Sweep : goal.loop-i-preserved-in-Sweep
 loop-i-preserved-in-Sweep c =
-    let r = c.run_sweep-next in
+    let r = c.run_sweep-station in
     let z = c.in-Sweep.is in
     let m = c.command_in-command in
     let l = c.loop-i in
@@ -80,17 +80,17 @@ decide-change-requires c = (c.loop-i.invariant.3, sym c.asks_scan.ensures ∙ c.
 inside : (c : After-decide-change) → (c.decide-change.result.place < live_places) × (c.decide-change.result.slot < entry_places)
 inside c = is-inside _ _ _ c.decide-change.ensures.0
 
-pub offset_bounds-station-place : goal.offset_bounds-station-place
-offset_bounds-station-place c = omega (arith, inside (goal.at.offset_bounds-station-place c).After-decide-change)
+pub offset_bounds-station-change : goal.offset_bounds-station-change
+offset_bounds-station-change c = omega (arith, inside (goal.at.offset_bounds-station-change c).After-decide-change)
 
-pub bounds-station-place : goal.bounds-station-place
-bounds-station-place c = omega (arith, inside (goal.at.bounds-station-place c).After-decide-change)
+pub bounds-station-change : goal.bounds-station-change
+bounds-station-change c = omega (arith, inside (goal.at.bounds-station-change c).After-decide-change)
 
-pub offset_bounds-station-slot : goal.offset_bounds-station-slot
-offset_bounds-station-slot c = omega (arith, inside (goal.at.offset_bounds-station-slot c).After-decide-change)
+pub offset_bounds-station-change-in-loop-i : goal.offset_bounds-station-change-in-loop-i
+offset_bounds-station-change-in-loop-i c = omega (arith, inside (goal.at.offset_bounds-station-change-in-loop-i c).After-decide-change)
 
-pub bounds-station-slot : goal.bounds-station-slot
-bounds-station-slot c = omega (arith, inside (goal.at.bounds-station-slot c).After-decide-change)
+pub bounds-station-change-in-loop-i : goal.bounds-station-change-in-loop-i
+bounds-station-change-in-loop-i c = omega (arith, inside (goal.at.bounds-station-change-in-loop-i c).After-decide-change)
 
 -- the answer's end is a number
 ends : (c : In-loop-i) → answer_size * c.loop-i.i + answer_size < 18446744073709551616

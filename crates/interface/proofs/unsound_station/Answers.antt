@@ -6,7 +6,7 @@ use Rattle.model.specs.Kinds.{narrow_kind}
 use Rattle.model.specs.declared as machine
 use Rattle.model.specs.Types.{Entry, Station}
 use Rattle.model.specs.KeySets.{key_set, keys_below, with_lowest}
-use Rattle.model.specs.Listed.{listed_entry, listed}
+use Rattle.model.specs.Listed.{kind_of, listed_entry, listed}
 use Rattle.model.specs.Ids.{no_id}
 use Rattle.model.specs.Entries.{no_entry}
 use Rattle.model.proofs.ListedLaws.{zero_entry, listed-any, listed-set}
@@ -23,7 +23,7 @@ made st e =
     λ z. record { kind = (e z).kind; live = (e z).live; entries = (listed-set st.entries 0 (record { id = (get_or st.entries 0 zero_entry).id; keys = 1 }) ∙ ap₂ (λ (x : Station) (y : Entry). set x.entries 0 (record { id = y.id; keys = 0 ∷ [] })) e i) z }
 
 pub returns : goal.returns
-unfolding set_entry unsound_station
+unfolding set_entry unsound_station kind_of
 returns c =
     let r = c.empty-station in
     made r.result r.ensures

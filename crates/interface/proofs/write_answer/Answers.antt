@@ -7,5 +7,5 @@ pub returns : goal.returns
 unfolding answer_bytes
 returns c =
     let v = c.values_in-v in
-    let k = c.answer_kind-kind in
+    let k = c.answer_kind in
     c.write_four.ensures ∙ (λ i. four_bytes (k.ensures i) (v.ensures.0 i) (v.ensures.1 i) (v.ensures.2 i))

@@ -1,21 +1,15 @@
-use native.Mathlib.Omega.{arith}
-use Rattle.keysets.proofs.RowLaws.{storing-starts, storing-room, storing-next, storing-ends}
+use mathlib.Core.Path.{subst}
+use Rattle.model.specs.KeySets.{key_set}
+use Rattle.keysets.proofs.RowLaws.{Storing, storing-starts, storing-next, storing-ends}
 use Rattle.keysets.proofs.key_bytes.Goals as goal
 
-pub loop-rest-init : goal.loop-rest-init
-loop-rest-init c = storing-starts c.args.set c.requires
+pub loop-n-init : goal.loop-n-init
+loop-n-init c = let e = c.enumerate-n-items.ensures in rw (c.into_iter-n-iterator.ensures.into_iter_gives, e.source, e.count) (storing-starts (key_set c.args.set) c.requires)
 
-pub bounds-out-n : goal.bounds-out-n
-bounds-out-n c = let l = c.loop-rest in storing-room _ _ _ _ _ l.invariant c.lowest_key.ensures
-
-pub overflow_add-n : goal.overflow_add-n
-overflow_add-n c = let l = c.loop-rest in omega (arith, storing-room _ _ _ _ _ l.invariant c.lowest_key.ensures)
-
-pub loop-rest-smaller : goal.loop-rest-smaller
-loop-rest-smaller c = c.without_lowest-rest.ensures.0
-
-pub loop-rest-preserved : goal.loop-rest-preserved
-loop-rest-preserved c = let l = c.loop-rest in storing-next _ _ _ _ _ _ l.invariant c.lowest_key.ensures c.without_lowest-rest.ensures
+pub loop-n-preserved : goal.loop-n-preserved
+loop-n-preserved c =
+    let s = c.in-Some.ensures.steps in
+    rw (s.1, s.2) (storing-next _ _ _ _ _ (subst (λ ks. Storing (key_set c.args.set) c.loop-n.out ks c.loop-n.n-iterator.count) s.0 c.loop-n.invariant))
 
 pub returns : goal.returns
-returns c = storing-ends _ _ _ _ c.loop-rest.invariant c.loop-rest-test.false
+returns c = storing-ends _ _ _ _ c.loop-n.invariant c.in-None.ensures.steps.0.0

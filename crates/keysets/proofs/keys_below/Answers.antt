@@ -11,7 +11,7 @@ use Rattle.keysets.proofs.SetLaws.{count_most, below-is}
 use Rattle.keysets.proofs.keys_below.Goals as goal
 
 pub overflow_sub-result : goal.overflow_sub-result
-overflow_sub-result c = omega (arith, c.bit-this.ensures, pow_pos c.args.key)
+overflow_sub-result c = omega (arith, c.bit.ensures, pow_pos c.args.key)
 
 pub overflow_cast-result : goal.overflow_cast-result
 overflow_cast-result c = Fits-below {n = 64} tt (count_most c.args.set _ (search rules))
@@ -19,4 +19,4 @@ overflow_cast-result c = Fits-below {n = 64} tt (count_most c.args.set _ (search
 pub returns : goal.returns
 returns c =
     let a = c.args in
-    ap (λ (x : ℕ). ones (bit_and a.set (x - 1))) c.bit-this.ensures ∙ below-is a.set a.key (search rules)
+    ap (λ (x : ℕ). ones (bit_and a.set (x - 1))) c.bit.ensures ∙ below-is a.set a.key (search rules)

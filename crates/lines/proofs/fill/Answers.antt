@@ -1,26 +1,29 @@
-use mathlib.Core.Path.{refl, ◌∙◌}
+-- `lines::fill` meets its contract.
+use Prim.Native.Nat.{ℕ, ◌+◌, ◌-◌, min}
+use mathlib.Core.Path.{◌≡◌, refl, ap, ◌∙◌}
+use lib.ListN.{length, take, drop, length-drop}
+use lib.Seq.{length-take-le}
 use native.Mathlib.Omega.{arith}
-use Rattle.lines.proofs.JoinLaws.{left-more, left-none, line-here, line-end}
+use Rattle.lines.specs.Lines.{first_line}
+use Rattle.lines.proofs.JoinLaws.{line-within}
+use Rattle.lines.proofs.KeptLaws.{filled}
 use Rattle.lines.proofs.fill.Goals as goal
 
-pub loop-i-init : goal.loop-i-init
-loop-i-init c = (c.requires.0, c.requires.1, c.requires.2, (refl, refl))
-
-pub returns-then-b-eq10 : goal.returns-then-b-eq10
-returns-then-b-eq10 c =
-    let e = left-none c.args.input.now _ _ c.loop-i.i _ (line-here c.args.input.now c.loop-i.i (omega arith) c.if-b-eq10.true) c.loop-i.invariant.3 in
-    (c.loop-i.invariant.1, e.0, e.1)
-
-pub loop-i-preserved : goal.loop-i-preserved
-loop-i-preserved c =
-    let j = c.join-n in (
-      j.auto.part ∙ c.loop-i.invariant.0,
-      j.ensures.0,
-      omega arith,
-      left-more c.args.input.now _ _ c.loop-i.i _ _ (omega arith) c.if-b-eq10.false j.ensures.1 c.loop-i.invariant.3,
-    )
+pub slice_bounds-bytes-end : goal.slice_bounds-bytes-end
+slice_bounds-bytes-end c =
+    let bs = drop c.args.start c.args.input.now in
+    omega (arith, line-within bs, length-drop c.args.start c.args.input.now)
 
 pub returns : goal.returns
 returns c =
-    let e = left-none c.args.input.now _ _ c.loop-i.i _ (line-end c.args.input.now c.loop-i.i (omega arith)) c.loop-i.invariant.3 in
-    (c.loop-i.invariant.1, e.0, e.1)
+    let a = c.args in
+    let bs = drop a.start a.input.now in
+    let m = c.min-more in
+    let j : a.start + m.result - a.start ≡ m.result = omega arith in
+    let now = c.copy_from_slice.ensures.after ∙ ap (λ (n : ℕ). take n bs) j in
+    let long : length c.copy_from_slice.new.self ≡ m.result = omega (arith, line-within bs, length-drop a.start a.input.now, length-take-le m.result bs, ap length now) in
+    let room : m.result ≡ min (65 - a.len) (length (first_line bs)) = omega (arith, m.ensures, c.line_end-end.ensures) in (
+      omega arith,
+      c.line_end-end.ensures,
+      filled a.part.now bs c.copy_from_slice.new.self a.len m.result _ _ c.requires.0 c.requires.1 room now long refl,
+    )

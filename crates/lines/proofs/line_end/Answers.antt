@@ -1,18 +1,28 @@
-use mathlib.Core.Path.{refl, ap}
-use lib.ListN.{length}
-use native.Mathlib.Omega.{arith}
-use Rattle.lines.proofs.JoinLaws.{line-next, line-end}
+-- `lines::line_end` meets its contract.
+use Prim.Native.Nat.{ℕ, ◌+◌, ◌-◌}
+use mathlib.Core.Path.{refl, ap, ◌∙◌}
+use mathlib.Core.List.{List}
+use lib.Dec.{eqb}
+use lib.ListN.{length, take, drop}
+use native.Mathlib.Nat.{le_refl}
+use Rattle.std.proofs.Common.{rules, tests}
+use Rattle.std.proofs.lemmas.Iterator.{YieldsList-from_slice}
+use Rattle.std.proofs.lemmas.Iterator.Search.{position_from_yields_List}
+use Rattle.std.proofs.lemmas.Slice.{between_to_end}
+use Rattle.model.proofs.StdWords.{first_from_position}
+use Rattle.lines.specs.Lines.{newline, first_line}
+use Rattle.lines.proofs.StopLaws.{first-newline}
 use Rattle.lines.proofs.line_end.Goals as goal
-
-pub loop-i-init : goal.loop-i-init
-loop-i-init c = (c.requires, refl)
-
-pub loop-i-preserved : goal.loop-i-preserved
-loop-i-preserved c =
-    let input = c.args.input.now in
-    (omega arith, omega (arith, c.loop-i.invariant.1, ap length (line-next input c.loop-i.i (omega arith) (omega arith))))
 
 pub returns : goal.returns
 returns c =
     let input = c.args.input.now in
-    omega (arith, c.loop-i.invariant.1, ap length (line-end input c.loop-i.i (omega arith)))
+    let start = c.args.start in
+    let rest = take (length input - start) (drop start input) in
+    let ends = λ (b : ℕ). eqb b newline in
+    ap
+    (λ (n : ℕ). start + n)
+    (c.unwrap_or.ensures
+    ∙ first_from_position ends rest c.position.result (length rest) (position_from_yields_List ends _ _ c.position.result c.position.ensures.ran (YieldsList-from_slice rest c.iter.ensures.rest) (λ x b q k. search (rules, tests))) refl
+    ∙ first-newline rest
+    ∙ ap (λ (bs : List ℕ). length (first_line bs)) (between_to_end input start (length input) (le_refl _)))

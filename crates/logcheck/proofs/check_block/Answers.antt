@@ -30,12 +30,12 @@ filled c =
     let f = c.fill-first in
     kept-within c.args.part.now f.new.part c.args.len f.result.len _ c.requires.1 c.requires.2 (f.auto.part ∙ c.requires.1) f.ensures.0 f.ensures.2
 
-pub returns-then-end-input : goal.returns-then-end-input
+pub returns-then-first-input : goal.returns-then-first-input
 unfolding checking_of
-returns-then-end-input c =
-    let f = (goal.at.returns-then-end-input c).After-fill-first in
+returns-then-first-input c =
+    let f = (goal.at.returns-then-first-input c).After-fill-first in
     let a = f.args in (
-      ap (at a.table.now a.above) f.fill-first.ensures.2 ∙ sym (line-begun a.input.now 0 f.fill-first.result.end f.fill-first.ensures.1 a.table.now a.above (take a.len a.part.now) c.if-end-input.true),
+      ap (at a.table.now a.above) f.fill-first.ensures.2 ∙ sym (line-begun a.input.now 0 f.fill-first.result.end f.fill-first.ensures.1 a.table.now a.above (take a.len a.part.now) c.if-first-input.true),
       f.fill-first.ensures.0,
       omega (arith, filled f, line-within a.input.now),
     )
@@ -54,7 +54,7 @@ ended c =
     let f = c in
     let a = f.args in
     ap (λ (l : List ℕ). after_bytes (drop (f.fill-first.result.end + 1) a.input.now) (line_checked l a.table.now a.above)) f.fill-first.ensures.2
-    ∙ sym (line-ended a.input.now 0 f.fill-first.result.end f.fill-first.ensures.1 a.table.now a.above (take a.len a.part.now) (omega arith) c.if-end-input.false)
+    ∙ sym (line-ended a.input.now 0 f.fill-first.result.end f.fill-first.ensures.1 a.table.now a.above (take a.len a.part.now) (omega arith) c.if-first-input.false)
 
 pub returns-in_default : goal.returns-in_default
 unfolding checking_of

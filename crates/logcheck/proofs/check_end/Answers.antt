@@ -14,7 +14,7 @@ pub slice_bounds-judge_line-end : goal.slice_bounds-judge_line-end
 slice_bounds-judge_line-end c =
     sym (length-take-le c.args.len c.args.part.now (omega (arith, c.requires.1, c.requires.2)))
 
-pub returns : goal.returns
-returns c =
+pub returns-else-len-eq0 : goal.returns-else-len-eq0
+returns-else-len-eq0 c =
     let a = c.args in
     c.judge_line.ensures.0 ∙ end_line a.table.now a.above a.part.now a.len c.if-len-eq0.false (omega (arith, c.requires.1, c.requires.2))

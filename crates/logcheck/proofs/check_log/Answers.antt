@@ -21,8 +21,8 @@ returns-in_default c =
     let k = (goal.at.returns-in_default c).After-check_block-checked in
     verdict-stopped _ k.check_block-checked.result.verdict refl c.in_default.not-Clean ∙ checked k
 
-pub returns : goal.returns
-returns c =
-    let k = (goal.at.returns c).After-check_block-checked in
+pub returns-in-Clean : goal.returns-in-Clean
+returns-in-Clean c =
+    let k = (goal.at.returns-in-Clean c).After-check_block-checked in
     let d = k.check_block-checked in
     c.check_end.ensures ∙ ap (λ (v : Verdict). verdict_at (checking_of v d.new.table d.result.above d.new.part d.result.len)) (sym c.in-Clean.is) ∙ checked k

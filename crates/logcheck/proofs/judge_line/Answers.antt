@@ -1,55 +1,40 @@
 -- `logcheck::judge_line` meets its contract.
-use mathlib.Core.Path.{◌≡◌, sym, ◌∙◌}
-use mathlib.Core.Option.{some}
-use Rattle.shoplog.specs.Lines.{write, commit, read, line_in}
+use mathlib.Core.Path.{sym, ap, ◌∙◌}
+use Rattle.std.proofs.Common.{Some}
+use Rattle.shoplog.specs.Lines.{line_in}
+use Rattle.shoplog.specs.Logs.{finding_at}
 use Rattle.shoplog.proofs.LineRanges.{line-fits}
 use Rattle.logcheck.specs.Judged.{found, table_with}
 use Rattle.logcheck.proofs.ParsedLaws.{parsed-write, parsed-commit, parsed-read, parsed-none, judged, unjudged}
-use Rattle.logcheck.proofs.judge_line.Goals.{In-Commit, In-Read, In-Write}
+use Rattle.logcheck.proofs.judge_line.Goals.{in-Write, in-Commit, in-Read}
 use Rattle.logcheck.proofs.judge_line.Goals as goal
 
--- ── the line that was read ──
-is-write : (c : In-Write) → line_in c.args.line.now ≡ some (write c.in-Write.t c.in-Write.k)
-is-write c = parsed-write (line_in c.args.line.now) _ _ (sym c.in-Write.is ∙ c.parse_log_line-parsed.ensures)
-
-is-commit : (c : In-Commit) → line_in c.args.line.now ≡ some (commit c.in-Commit.t c.in-Commit.c)
-is-commit c = parsed-commit (line_in c.args.line.now) _ _ (sym c.in-Commit.is ∙ c.parse_log_line-parsed.ensures)
-
-is_read : (c : In-Read) → line_in c.args.line.now ≡ some (read c.in-Read.t c.in-Read.k c.in-Read.i)
-is_read c = parsed-read (line_in c.args.line.now) _ _ _ (sym c.in-Read.is ∙ c.parse_log_line-parsed.ensures)
+pub returns-in_default : goal.returns-in_default
+returns-in_default c =
+    rw c.number.ensures (unjudged c.args.table.now c.args.number (line_in c.args.line.now) (parsed-none _ (sym c.in_default.is ∙ c.parse_log_line.ensures)))
 
 pub judge_write-found-requires : goal.judge_write-found-requires
 judge_write-found-requires c =
-    let p = (goal.at.judge_write-found-requires c).In-Write in
-    (c.requires, (line-fits c.args.line.now _ (is-write p)).1)
-
-pub returns-in-Write : goal.returns-in-Write
-unfolding found table_with
-returns-in-Write c =
-    let j = c.judge_write-found in
-    let p = (goal.at.returns-in-Write c).In-Write in
-    judged _ _ _ _ _ _ _ (is-write p) j.ensures.0 j.ensures.1 c.verdict_at.ensures
-
-pub returns-in-Commit : goal.returns-in-Commit
-unfolding found table_with
-returns-in-Commit c =
-    let j = c.judge_commit-found in
-    let p = (goal.at.returns-in-Commit c).In-Commit in
-    judged _ _ _ _ _ _ _ (is-commit p) j.ensures.0 j.ensures.1 c.verdict_at-in-Commit.ensures
+    (c.requires, (line-fits c.args.line.now _ (parsed-write _ _ c.in-Write.key (ap Some (sym c.in-Write.is) ∙ sym c.in-Some.is ∙ c.parse_log_line.ensures))).1)
 
 pub judge_read-found-requires : goal.judge_read-found-requires
 judge_read-found-requires c =
-    let p = (goal.at.judge_read-found-requires c).In-Read in
-    (c.requires, (line-fits c.args.line.now _ (is_read p)).1)
+    (c.requires, (line-fits c.args.line.now _ (parsed-read _ _ c.in-Read.key _ (ap Some (sym c.in-Read.is) ∙ sym c.in-Some.is ∙ c.parse_log_line.ensures))).1)
 
-pub returns-in-Read : goal.returns-in-Read
+pub returns : goal.returns
 unfolding found table_with
-returns-in-Read c =
-    let j = c.judge_read-found in
-    let p = (goal.at.returns-in-Read c).In-Read in
-    judged _ _ _ _ _ _ _ (is_read p) j.ensures.0 j.ensures.1 c.verdict_at-in-Read.ensures
-
-pub returns-in-Malformed : goal.returns-in-Malformed
-returns-in-Malformed c =
-    let a = c.args in
-    unjudged a.table.now a.number (line_in a.line.now) (parsed-none _ (sym c.in-Malformed.is ∙ c.parse_log_line-parsed.ensures))
+returns c =
+    let n = c.args.number in
+    let v = c.verdict_at.ensures in
+    let p = sym c.in-Some.is ∙ c.parse_log_line.ensures in
+    elim c.match-parsed.branch [
+      | in-Write w ↦
+          let j = w.judge_write-found in
+          judged _ _ _ _ _ j.result _ (parsed-write _ _ _ (ap Some (sym w.in-Write.is) ∙ p)) j.ensures.0 (w.table-is ∙ j.ensures.1) (v ∙ ap (finding_at n) w.found-is)
+      | in-Commit w ↦
+          let j = w.judge_commit-found in
+          judged _ _ _ _ _ j.result _ (parsed-commit _ _ _ (ap Some (sym w.in-Commit.is) ∙ p)) j.ensures.0 (w.table-is ∙ j.ensures.1) (v ∙ ap (finding_at n) w.found-is)
+      | in-Read w ↦
+          let j = w.judge_read-found in
+          judged _ _ _ _ _ j.result _ (parsed-read _ _ _ _ (ap Some (sym w.in-Read.is) ∙ p)) j.ensures.0 (w.table-is ∙ j.ensures.1) (v ∙ ap (finding_at n) w.found-is)
+    ]

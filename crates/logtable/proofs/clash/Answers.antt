@@ -6,8 +6,8 @@ use Rattle.logtable.proofs.clash.Goals as goal
 
 pub returns-then-overwrites : goal.returns-then-overwrites
 unfolding clash ◌or◌
-returns-then-overwrites c = rw (sym c.overwrites.ensures ∙ c.if-overwrites.true)
+returns-then-overwrites c = rw (← c.overwrites.ensures, c.if-overwrites.true)
 
-pub returns : goal.returns
+pub returns-else-overwrites : goal.returns-else-overwrites
 unfolding clash ◌or◌
-returns c = rw (sym c.overwrites.ensures ∙ c.if-overwrites.false) c.overwrites-2.ensures
+returns-else-overwrites c = rw (sym c.overwrites.ensures ∙ c.if-overwrites.false) c.overwrites-else-overwrites.ensures

@@ -1,39 +1,29 @@
 -- `logtable::judge_commit` meets its contract.
-use Prim.Native.Nat.{ℕ, ◌<◌}
-use mathlib.Core.Path.{◌≡◌, sym, ap, ◌∙◌}
-use native.Mathlib.Omega.{arith}
-use Rattle.logtable.specs.Tables.{places, seat_of, after_commit}
+use Prim.Native.Nat.{ℕ}
+use mathlib.Core.Path.{refl, sym, ap, ◌∙◌}
+use Rattle.logtable.specs.Tables.{after_commit}
 use Rattle.logtable.specs.Findings.{commit_found}
 use Rattle.logtable.specs.Parts.{if_fine}
-use Rattle.logtable.proofs.FoundLaws.{not-fine, commit-seated}
-use Rattle.logtable.proofs.judge_commit.Goals.{After-commit_found-found, In-Fine}
+use Rattle.logtable.proofs.SeatLaws.{place-is, place-none}
+use Rattle.logtable.proofs.FoundLaws.{commit-nowhere, commit-here}
 use Rattle.logtable.proofs.judge_commit.Goals as goal
 
--- what is found, at the transaction's seat
-finding : (c : After-commit_found-found)
-    → (let a = c.args in c.commit_found-found.result ≡ commit_found a.table.now (seat_of a.table.now a.txn))
-finding c = c.commit_found-found.ensures ∙ ap (commit_found c.args.table.now) c.seat_of-place.ensures
-
-seated : (c : In-Fine) → c.seat_of-place.result < places
-seated c = commit-seated _ _ (sym c.commit_found-found.ensures ∙ c.in-Fine.is)
+pub returns-in-Some : goal.returns-in-Some
+unfolding if_fine after_commit
+returns-in-Some c =
+    let a = c.args in
+    let p = place-is _ c.in-Some.place c.seat_of.result c.seat_of.ensures c.in-Some.is in (
+      commit-here a.table.now c.in-Some.place p.1 _ (sym c.if-may_commit.true ∙ c.may_commit.ensures) ∙ ap (commit_found a.table.now) p.0,
+      ap (λ (q : ℕ). after_commit a.table.now q a.clock) p.0,
+    )
 
 pub returns-in_default : goal.returns-in_default
+unfolding if_fine
 returns-in_default c =
-    let f = (goal.at.returns-in_default c).After-commit_found-found in
-    (finding f, not-fine f.commit_found-found.result _ _ c.in_default.not-Fine)
+    let a = c.args in
+    let p = place-is _ c.in-Some.place c.seat_of.result c.seat_of.ensures c.in-Some.is in
+    (commit-here a.table.now c.in-Some.place p.1 _ (sym c.if-may_commit.false ∙ c.may_commit.ensures) ∙ ap (commit_found a.table.now) p.0, refl)
 
-pub overflow_add-table : goal.overflow_add-table
-overflow_add-table c = omega (arith, seated (goal.at.overflow_add-table c).In-Fine)
-
-pub offset_bounds-table-place : goal.offset_bounds-table-place
-offset_bounds-table-place c = omega (arith, seated (goal.at.offset_bounds-table-place c).In-Fine)
-
-pub bounds-table-place : goal.bounds-table-place
-bounds-table-place c = omega (arith, seated (goal.at.bounds-table-place c).In-Fine, c.requires)
-
-pub returns : goal.returns
-unfolding after_commit if_fine
-returns c =
-    let f = (goal.at.returns c).After-commit_found-found in
-    let a = f.args in
-    (sym c.in-Fine.is ∙ finding f, ap (λ (p : ℕ). after_commit a.table.now p a.clock) f.seat_of-place.ensures)
+pub returns-in_default-2 : goal.returns-in_default-2
+unfolding if_fine
+returns-in_default-2 c = (commit-nowhere c.args.table.now _ (place-none _ c.seat_of.result c.seat_of.ensures c.in_default.is), refl)

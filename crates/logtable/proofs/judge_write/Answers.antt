@@ -1,59 +1,36 @@
 -- `logtable::judge_write` meets its contract.
-use Prim.Native.Nat.{ℕ, ◌+◌, ◌<◌}
-use mathlib.Core.Path.{◌≡◌, sym, ap, ◌∙◌}
-use lib.ListN.{set, length-set}
-use native.Mathlib.Omega.{arith}
-use Rattle.logtable.specs.Tables.{places, seat_of, after_write}
+use Prim.Native.Nat.{ℕ, ◌+◌}
+use mathlib.Core.Path.{refl, sym, ap, ◌∙◌}
+use lib.ListN.{set}
+use Rattle.std.proofs.Common.{Err}
+use Rattle.logtable.specs.Tables.{after_write}
 use Rattle.logtable.specs.Findings.{write_found}
 use Rattle.logtable.specs.Parts.{if_fine}
+use Rattle.std.proofs.lemmas.Result.{err_from_is_err_and}
 use Rattle.logtable.proofs.KeyLaws.{key-put}
-use Rattle.logtable.proofs.FoundLaws.{not-fine, write-seated}
-use Rattle.logtable.proofs.judge_write.Goals.{After-write_found-found, In-Fine}
+use Rattle.logtable.proofs.SeatLaws.{place-is, place-none}
+use Rattle.logtable.proofs.FoundLaws.{write-nowhere}
 use Rattle.logtable.proofs.judge_write.Goals as goal
 
--- what is found, at the transaction's seat
-finding : (c : After-write_found-found)
-    → (let a = c.args in c.write_found-found.result ≡ write_found a.table.now (seat_of a.table.now a.txn) a.key)
-finding c = let a = c.args in c.write_found-found.ensures ∙ ap (λ (p : ℕ). write_found a.table.now p a.key) c.seat_of-place.ensures
-
-seated : (c : In-Fine) → c.seat_of-place.result < places
-seated c = write-seated _ _ _ (sym c.write_found-found.ensures ∙ c.in-Fine.is)
-
 pub returns-in_default : goal.returns-in_default
-returns-in_default c =
-    let f = (goal.at.returns-in_default c).After-write_found-found in
-    (finding f, not-fine f.write_found-found.result _ _ c.in_default.not-Fine)
+unfolding if_fine
+returns-in_default c = (write-nowhere c.args.table.now _ (place-none _ c.seat_of.result c.seat_of.ensures c.in_default.is) c.args.key, refl)
 
-pub overflow_add-set : goal.overflow_add-set
-overflow_add-set c = omega (arith, seated (goal.at.overflow_add-set c).In-Fine)
-
-pub offset_bounds-table-place : goal.offset_bounds-table-place
-offset_bounds-table-place c = omega (arith, seated (goal.at.offset_bounds-table-place c).In-Fine)
-
-pub bounds-table-place : goal.bounds-table-place
-bounds-table-place c = omega (arith, seated (goal.at.bounds-table-place c).In-Fine, (goal.at.bounds-table-place c).After-write_found-found.requires.0)
-
-pub offset_bounds-table-place-2 : goal.offset_bounds-table-place-2
-offset_bounds-table-place-2 c = omega (arith, seated (goal.at.offset_bounds-table-place-2 c).In-Fine)
-
-pub bounds-table-place-2 : goal.bounds-table-place-2
-bounds-table-place-2 c = omega (arith, seated (goal.at.bounds-table-place-2 c).In-Fine, (goal.at.bounds-table-place-2 c).After-write_found-found.requires.0)
-
-pub overflow_add-table : goal.overflow_add-table
-overflow_add-table c = omega (arith, seated (goal.at.overflow_add-table c).In-Fine)
-
-pub offset_bounds-table-place-3 : goal.offset_bounds-table-place-3
-offset_bounds-table-place-3 c = omega (arith, seated (goal.at.offset_bounds-table-place-3 c).In-Fine)
-
-pub bounds-table-place-3 : goal.bounds-table-place-3
-bounds-table-place-3 c = simp length-set (omega (arith, seated (goal.at.bounds-table-place-3 c).In-Fine, (goal.at.bounds-table-place-3 c).After-write_found-found.requires.0))
+pub returns-in_err-write_found : goal.returns-in_err-write_found
+unfolding if_fine
+returns-in_err-write_found c =
+    let a = c.args in
+    let p = place-is _ c.in-Some.place c.seat_of.result c.seat_of.ensures c.in-Some.is in
+    let e = err_from_is_err_and c.from_residual.result c.from_residual.ensures.1 in
+    rw (e.1) (ap Err e.2 ∙ sym c.in_err-write_found.was ∙ c.write_found.ensures ∙ ap (λ (q : ℕ). write_found a.table.now q a.key) p.0, refl)
 
 pub returns : goal.returns
-unfolding after_write if_fine
+unfolding if_fine after_write
 returns c =
     let a = c.args in
-    let p = c.seat_of-place.result in (
-      sym c.in-Fine.is ∙ finding (goal.at.returns c).After-write_found-found,
-      ap (λ (r : ℕ). set (set a.table.now p a.txn) (128 + p) r) (key-put _ _ _ c.requires.1 c.with_key-more.type_inv c.with_key-more.ensures)
-          ∙ ap (λ (q : ℕ). after_write a.table.now q a.txn a.key) c.seat_of-place.ensures,
+    let p = place-is _ c.in-Some.place c.seat_of.result c.seat_of.ensures c.in-Some.is in
+    rw c.from.ensures (
+      sym c.in_ok-write_found.was ∙ c.write_found.ensures ∙ ap (λ (q : ℕ). write_found a.table.now q a.key) p.0,
+      ap (λ (r : ℕ). set (set a.table.now c.in-Some.place a.txn) (128 + c.in-Some.place) r) (key-put _ _ _ c.requires.1 c.with_key-more.type_inv c.with_key-more.ensures)
+          ∙ ap (λ (q : ℕ). after_write a.table.now q a.txn a.key) p.0,
     )

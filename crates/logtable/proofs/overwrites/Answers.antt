@@ -3,10 +3,10 @@ use mathlib.Core.Path.{sym, ◌∙◌}
 use Rattle.model.specs.Lists.{◌and◌}
 use Rattle.logtable.proofs.overwrites.Goals as goal
 
-pub returns-then-not-has_key : goal.returns-then-not-has_key
+pub returns-then-has_key : goal.returns-then-has_key
 unfolding ◌and◌
-returns-then-not-has_key c = rw (sym c.has_key.ensures ∙ c.if-not-has_key.true)
+returns-then-has_key c = rw (sym c.has_key.ensures ∙ c.if-has_key.true) c.older_at.ensures
 
-pub returns : goal.returns
+pub returns-else-has_key : goal.returns-else-has_key
 unfolding ◌and◌
-returns c = rw (sym c.has_key.ensures ∙ c.if-not-has_key.false) c.older_at.ensures
+returns-else-has_key c = rw (← c.has_key.ensures, c.if-has_key.false)

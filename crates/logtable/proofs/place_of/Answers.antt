@@ -1,22 +1,20 @@
-use mathlib.Core.Path.{sym, ◌∙◌}
-use native.Mathlib.Nat.{zero-add}
+-- `logtable::place_of` meets its contract.
+use mathlib.Core.Path.{sym}
+use lib.Dec.{eqb}
+use lib.ListN.{take}
+use lib.Seq.{length-take-le}
 use native.Mathlib.Omega.{arith}
-use Rattle.logtable.specs.Tables.{place_of}
-use Rattle.logtable.proofs.SeatLaws.{search-hit, search-miss, search-end}
+use Rattle.std.proofs.Common.{rules, tests}
+use Rattle.std.proofs.lemmas.Iterator.{YieldsList-from_slice}
+use Rattle.std.proofs.lemmas.Iterator.Search.{position_from_yields_List}
+use Rattle.logtable.specs.Tables.{places}
+use Rattle.logtable.proofs.SeatLaws.{place-found}
 use Rattle.logtable.proofs.place_of.Goals as goal
 
-pub loop-i-init : goal.loop-i-init
-unfolding place_of
-loop-i-init c = (omega arith, sym (zero-add _))
-
-pub returns-then-table-i : goal.returns-then-table-i
-returns-then-table-i c =
-    sym (c.loop-i.invariant.1 ∙ search-hit c.args.table.now c.args.txn c.requires c.loop-i.i (omega arith) c.if-table-i.true)
-
-pub loop-i-preserved : goal.loop-i-preserved
-loop-i-preserved c =
-    (omega arith, c.loop-i.invariant.1 ∙ search-miss c.args.table.now c.args.txn c.requires c.loop-i.i (omega arith) c.if-table-i.false)
+pub slice_bounds-iter-end : goal.slice_bounds-iter-end
+slice_bounds-iter-end c = sym (length-take-le 64 c.args.table.now (omega (arith, c.requires)))
 
 pub returns : goal.returns
 returns c =
-    sym (c.loop-i.invariant.1 ∙ search-end c.args.table.now c.args.txn c.requires c.loop-i.i (omega arith))
+    place-found c.args.table.now c.args.txn c.requires _
+    (position_from_yields_List (eqb c.args.txn) _ _ c.position.result c.position.ensures.ran (YieldsList-from_slice (take places c.args.table.now) cc) (λ x b q k. search (rules, tests)))

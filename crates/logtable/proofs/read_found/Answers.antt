@@ -1,57 +1,63 @@
 -- `logtable::read_found` meets its contract.
-use mathlib.Core.Path.{◌≡◌, sym, ◌∙◌}
-use mathlib.Core.Bool.{cond}
-use borrow.Author.Tests.{le-leb, lt-leb, eq-eqb, ne_eqb}
-use Rattle.model.specs.Lists.{◌or◌, member}
-use Rattle.model.specs.KeySets.{key_set}
-use Rattle.shoplog.specs.declared.Finding.TheVariants.{Fine, Bad}
-use Rattle.logtable.specs.Tables.{written_at}
-use Rattle.logtable.specs.Findings.{read_found, is_unknown, unfit}
-use Rattle.logtable.proofs.FoundLaws.{known-seated}
-use Rattle.logtable.proofs.read_found.Goals.{Else-table-place-ne0}
+use Prim.Native.Nat.{ℕ}
+use mathlib.Core.Path.{◌≡◌, sym, ap, ◌∙◌}
+use mathlib.Core.Bool.{Bool, true, false, not, cond}
+use Rattle.model.specs.Lists.{◌or◌}
+use Rattle.shoplog.specs.Findings.{Finding, Fine, Bad}
+use Rattle.logtable.specs.Tables.{seat_of}
+use Rattle.logtable.specs.Findings.{is_unknown, unfit, read_found}
+use Rattle.logtable.specs.Parts.{author_if}
+use Rattle.logtable.proofs.FoundLaws.{read-full, read-here, known, unknown, known-seated}
+use Rattle.logtable.proofs.read_found.Goals.{After-may_read}
 use Rattle.logtable.proofs.read_found.Goals as goal
 
--- there is room, and the transaction has not committed: the rest decides
-unfinished : (c : Else-table-place-ne0)
-    → (let a = c.args in
-    read_found a.table.now a.place a.author a.key a.clock
-    ≡ cond (is_unknown a.table.now a.author a.key a.clock or member a.key (key_set (written_at a.table.now a.place)) or unfit a.table.now a.place a.key a.author) Bad Fine)
-unfolding read_found ◌or◌
-unfinished c =
-    rw (lt-leb 64 _ c.if-place-ge-PLACES.false, sym c.full_for.ensures ∙ c.if-full_for.false, eq-eqb _ 0 c.if-table-place-ne0.false)
-
-pub returns-then-place-ge-PLACES : goal.returns-then-place-ge-PLACES
-unfolding read_found ◌or◌
-returns-then-place-ge-PLACES c = rw (le-leb 64 _ c.if-place-ge-PLACES.true)
+-- there is room: what the other tests say decides
+rest : (c : After-may_read) → (a : ℕ) (b : Bool) → c.may_read.result ≡ b
+    → (let T = c.args.table.now in
+    cond (not b or is_unknown T a c.args.key c.args.id.clock or unfit T c.args.place c.args.key a) Bad Fine ≡ read_found T c.args.place a c.args.key c.args.id.clock)
+rest c a b e =
+    read-here c.args.table.now c.args.place a c.args.key c.args.id.clock c.requires.1 b (sym c.full_for.ensures ∙ c.if-full_for.false) (sym e ∙ c.may_read.ensures)
 
 pub returns-then-full_for : goal.returns-then-full_for
-unfolding read_found ◌or◌
-returns-then-full_for c = rw (lt-leb 64 _ c.if-place-ge-PLACES.false, sym c.full_for.ensures ∙ c.if-full_for.true)
+returns-then-full_for c =
+    let a = c.args in
+    ap (λ (f : Finding). author_if f (seat_of a.table.now a.id.txn)) (read-full a.table.now a.place _ a.key a.id.clock c.requires.1 (sym c.full_for.ensures ∙ c.if-full_for.true))
 
-pub returns-then-table-place-ne0 : goal.returns-then-table-place-ne0
-unfolding read_found ◌or◌
-returns-then-table-place-ne0 c =
-    rw (lt-leb 64 _ c.if-place-ge-PLACES.false, sym c.full_for.ensures ∙ c.if-full_for.false, ne_eqb _ 0 c.if-table-place-ne0.true)
-
-pub returns-then-is_unknown : goal.returns-then-is_unknown
+pub returns-then-not-may_read : goal.returns-then-not-may_read
 unfolding ◌or◌
-returns-then-is_unknown c = rw (unfinished (goal.at.returns-then-is_unknown c).Else-table-place-ne0, sym c.is_unknown.ensures ∙ c.if-is_unknown.true)
-
-pub returns-then-has_key : goal.returns-then-has_key
-unfolding ◌or◌
-returns-then-has_key c =
-    rw (unfinished (goal.at.returns-then-has_key c).Else-table-place-ne0, sym c.is_unknown.ensures ∙ c.if-is_unknown.false, sym c.has_key.ensures ∙ c.if-has_key.true)
+returns-then-not-may_read c =
+    let a = c.args in
+    let s = seat_of a.table.now a.id.txn in
+    ap (λ (f : Finding). author_if f s) (rest (goal.at.returns-then-not-may_read c).After-may_read s false c.if-not-may_read.true)
 
 pub unfit-requires : goal.unfit-requires
 unfit-requires c =
-    (c.requires.0, c.if-place-ge-PLACES.false, c.requires.1, known-seated _ _ _ _ (sym c.is_unknown.ensures ∙ c.if-is_unknown.false))
+    let a = c.args in
+    let u = known (is_unknown a.table.now (seat_of a.table.now a.id.txn) a.key a.id.clock) _ c.in-Some.author c.author_of.result c.author_of.ensures c.in-Some.is in
+    (c.requires.0, c.requires.1, c.requires.2, rw (u.1) (known-seated a.table.now _ a.key a.id.clock u.0))
 
-pub returns-then-unfit : goal.returns-then-unfit
+pub returns-in-Some : goal.returns-in-Some
 unfolding ◌or◌
-returns-then-unfit c =
-    rw (unfinished (goal.at.returns-then-unfit c).Else-table-place-ne0, sym c.is_unknown.ensures ∙ c.if-is_unknown.false, sym c.has_key.ensures ∙ c.if-has_key.false, sym c.unfit.ensures ∙ c.if-unfit.true)
+returns-in-Some c =
+    let a = c.args in
+    let n = c.in-Some.author in
+    let u = known (is_unknown a.table.now (seat_of a.table.now a.id.txn) a.key a.id.clock) _ n c.author_of.result c.author_of.ensures c.in-Some.is in
+    let v : is_unknown a.table.now n a.key a.id.clock ≡ false = rw (u.1) (u.0) in
+    rw (← u.1, ← rest (goal.at.returns-in-Some c).After-may_read n true c.if-not-may_read.false, v, sym c.unfit.ensures ∙ c.if-not-unfit.true)
 
-pub returns : goal.returns
+pub returns-in_default : goal.returns-in_default
 unfolding ◌or◌
-returns c =
-    rw (unfinished (goal.at.returns c).Else-table-place-ne0, sym c.is_unknown.ensures ∙ c.if-is_unknown.false, sym c.has_key.ensures ∙ c.if-has_key.false, sym c.unfit.ensures ∙ c.if-unfit.false)
+returns-in_default c =
+    let a = c.args in
+    let n = c.in-Some.author in
+    let u = known (is_unknown a.table.now (seat_of a.table.now a.id.txn) a.key a.id.clock) _ n c.author_of.result c.author_of.ensures c.in-Some.is in
+    let v : is_unknown a.table.now n a.key a.id.clock ≡ false = rw (u.1) (u.0) in
+    rw (← u.1, ← rest (goal.at.returns-in_default c).After-may_read n true c.if-not-may_read.false, v, sym c.unfit.ensures ∙ c.if-not-unfit.false)
+
+pub returns-in_default-2 : goal.returns-in_default-2
+unfolding ◌or◌
+returns-in_default-2 c =
+    let a = c.args in
+    let s = seat_of a.table.now a.id.txn in
+    let u = unknown (is_unknown a.table.now s a.key a.id.clock) s c.author_of.result c.author_of.ensures c.in_default.is in
+    rw (← rest (goal.at.returns-in_default-2 c).After-may_read s true c.if-not-may_read.false, u)

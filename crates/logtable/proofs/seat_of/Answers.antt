@@ -1,11 +1,8 @@
 -- `logtable::seat_of` meets its contract.
-use Rattle.logtable.proofs.SeatLaws.{seat-found, seat-new}
+use Rattle.std.proofs.Common.{rules}
+use Rattle.logtable.proofs.SeatLaws.{seat-either}
 use Rattle.logtable.proofs.seat_of.Goals as goal
-
-pub returns-then-place-lt-PLACES : goal.returns-then-place-lt-PLACES
-returns-then-place-lt-PLACES c =
-    seat-found c.args.table.now c.args.txn c.requires _ c.place_of-place.ensures c.if-place-lt-PLACES.true
 
 pub returns : goal.returns
 returns c =
-    seat-new c.args.table.now c.args.txn c.requires _ _ c.place_of-place.ensures c.if-place-lt-PLACES.false c.place_of.ensures
+    seat-either c.args.table.now c.args.txn c.requires c.place_of.result c.or_else.result (rw c.from.ensures at c.place_of.ensures) c.or_else.ensures (λ q. search rules)

@@ -1,24 +1,18 @@
 -- `logtable::write_found` meets its contract.
 use mathlib.Core.Path.{sym, ◌∙◌}
-use borrow.Author.Tests.{le-leb, lt-leb, eq-eqb, ne_eqb}
+use borrow.Author.Tests.{lt-leb, eq-eqb, ne_eqb}
 use Rattle.model.specs.Lists.{◌or◌}
 use Rattle.logtable.specs.Findings.{write_found}
 use Rattle.logtable.proofs.write_found.Goals as goal
 
-pub returns-then-place-ge-PLACES : goal.returns-then-place-ge-PLACES
-unfolding write_found ◌or◌
-returns-then-place-ge-PLACES c = rw (le-leb 64 _ c.if-place-ge-PLACES.true)
-
 pub returns-then-full_for : goal.returns-then-full_for
 unfolding write_found ◌or◌
-returns-then-full_for c = rw (lt-leb 64 _ c.if-place-ge-PLACES.false, sym c.full_for.ensures ∙ c.if-full_for.true)
+returns-then-full_for c = rw (lt-leb 64 _ c.requires.1, sym c.full_for.ensures ∙ c.if-full_for.true)
 
 pub returns-then-table-place-ne0 : goal.returns-then-table-place-ne0
 unfolding write_found ◌or◌
-returns-then-table-place-ne0 c =
-    rw (lt-leb 64 _ c.if-place-ge-PLACES.false, sym c.full_for.ensures ∙ c.if-full_for.false, ne_eqb _ 0 c.if-table-place-ne0.true)
+returns-then-table-place-ne0 c = rw (lt-leb 64 _ c.requires.1, sym c.full_for.ensures ∙ c.if-full_for.false, ne_eqb _ 0 c.if-table-place-ne0.true)
 
-pub returns : goal.returns
+pub returns-else-table-place-ne0 : goal.returns-else-table-place-ne0
 unfolding write_found ◌or◌
-returns c =
-    rw (lt-leb 64 _ c.if-place-ge-PLACES.false, sym c.full_for.ensures ∙ c.if-full_for.false, eq-eqb _ 0 c.if-table-place-ne0.false)
+returns-else-table-place-ne0 c = rw (lt-leb 64 _ c.requires.1, sym c.full_for.ensures ∙ c.if-full_for.false, eq-eqb _ 0 c.if-table-place-ne0.false)

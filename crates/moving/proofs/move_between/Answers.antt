@@ -13,7 +13,7 @@ use Rattle.model.specs.Slots.{Seen, committed}
 use Rattle.model.specs.Scan.{slots_seen, is_committed}
 use Rattle.model.specs.Moves.{too_wide}
 use Rattle.moving.proofs.MoveAnswers.{entries-wide, move-1-source, move-1-target, move-18, move-22, move-23, move-made, target-made, handed, Finds, scan-found, scan-refuses}
-use Rattle.moving.proofs.move_between.Goals.{Else-target-store_size, In-Found}
+use Rattle.moving.proofs.move_between.Goals.{Else-target-store_size, In-Found, then-source-store_size-via-then-source-store_size, then-source-store_size-via-else-source-store_size+then-target-store_size}
 use Rattle.moving.proofs.move_between.Goals as goal
 
 -- ── the stores, whose lengths are right ──
@@ -36,7 +36,7 @@ source-long : (e : Else-target-store_size) → length (source_of e) ≡ store_si
 source-long e = e.if-source-store_size.false ∙ e.store_size.ensures
 
 target-long : (e : Else-target-store_size) → length (target-of e) ≡ store_size (to-kind e)
-target-long e = e.if-target-store_size.false ∙ e.store_size-2.ensures
+target-long e = e.if-target-store_size.false ∙ e.store_size-else-source-store_size.ensures
 
 -- ── the scan ──
 finds : (k : In-Found) → Finds (kind_of k.args.from) k.args.source.now (k.if-source-store_size.false ∙ k.store_size.ensures) k.scan_of-scanned.result k.scan_of-scanned.ensures k.in-Found.found
@@ -54,12 +54,11 @@ wide_is k =
 pub returns-then-source-store_size : goal.returns-then-source-store_size
 returns-then-source-store_size c =
     let a = c.args in
-    handed _ _ (move-1-source (kind_of a.from) (kind_of a.to) a.source.now a.target.now (λ h. c.if-source-store_size.true (h ∙ sym c.store_size.ensures)))
-
-pub returns-then-target-store_size : goal.returns-then-target-store_size
-returns-then-target-store_size c =
-    let a = c.args in
-    handed _ _ (move-1-target (kind_of a.from) (kind_of a.to) a.source.now a.target.now (c.if-source-store_size.false ∙ c.store_size.ensures) (λ h. c.if-target-store_size.true (h ∙ sym c.store_size-2.ensures)))
+    rw c.number.ensures (handed _ _ (elim c.then-source-store_size.branch [
+      | then-source-store_size-via-then-source-store_size w ↦ move-1-source (kind_of a.from) (kind_of a.to) a.source.now a.target.now (λ h. w.if-source-store_size.true (h ∙ sym c.store_size.ensures))
+      | then-source-store_size-via-else-source-store_size+then-target-store_size w ↦
+          move-1-target (kind_of a.from) (kind_of a.to) a.source.now a.target.now (w.if-source-store_size.false ∙ c.store_size.ensures) (λ h. w.if-target-store_size.true (h ∙ sym w.store_size-else-source-store_size.ensures))
+    ]))
 
 pub returns-in_default : goal.returns-in_default
 returns-in_default c =
@@ -69,29 +68,29 @@ returns-in_default c =
     let m = handed _ _ (move-18 (from-kind e) (to-kind e) (source_of e) (target-of e) (source-long e) (target-long e) r.broken) in
     (r.answer ∙ m.0, m.1)
 
-pub returns-then-slots-wide : goal.returns-then-slots-wide
-returns-then-slots-wide c =
-    let k = (goal.at.returns-then-slots-wide c).In-Found in
-    let e = (goal.at.returns-then-slots-wide c).Else-target-store_size in
-    handed _ _ (move-22 (from-kind e) (to-kind e) (source_of e) (target-of e) (source-long e) (target-long e) (finds k).unbroken (omega (arith, c.if-slots-wide.true, c.wide.ensures, c.slots.ensures, (finds k).counted)))
+pub returns-then-slots-from : goal.returns-then-slots-from
+returns-then-slots-from c =
+    let k = (goal.at.returns-then-slots-from c).In-Found in
+    let e = (goal.at.returns-then-slots-from c).Else-target-store_size in
+    rw c.number-then-slots-from.ensures (handed _ _ (move-22 (from-kind e) (to-kind e) (source_of e) (target-of e) (source-long e) (target-long e) (finds k).unbroken (omega (arith, c.if-slots-from.true, c.from.ensures, c.slots.ensures, (finds k).counted))))
 
 pub returns-then-too_wide : goal.returns-then-too_wide
 returns-then-too_wide c =
     let k = (goal.at.returns-then-too_wide c).In-Found in
     let e = (goal.at.returns-then-too_wide c).Else-target-store_size in
-    handed _ _ (move-23 (from-kind e) (to-kind e) (source_of e) (target-of e) (source-long e) (target-long e) (finds k).unbroken (few k _ (omega (arith, c.if-slots-wide.false, c.wide.ensures)) c.slots.ensures) (sym (c.too_wide.ensures ∙ wide_is k) ∙ c.if-too_wide.true))
+    rw c.number-then-too_wide.ensures (handed _ _ (move-23 (from-kind e) (to-kind e) (source_of e) (target-of e) (source-long e) (target-long e) (finds k).unbroken (few k _ (omega (arith, c.if-slots-from.false, c.from.ensures)) c.slots.ensures) (sym (c.too_wide.ensures ∙ wide_is k) ∙ c.if-too_wide.true)))
 
 pub move_slots-end-requires : goal.move_slots-end-requires
 move_slots-end-requires c =
     let k = (goal.at.move_slots-end-requires c).In-Found in
     let e = (goal.at.move_slots-end-requires c).Else-target-store_size in
-    record { source_len = source-long e; target_len = target-long e; entries_value = (finds k).entries; source_bound = few k _ (omega (arith, c.if-slots-wide.false, c.wide.ensures)) c.slots.ensures; source_value = sym (c.too_wide.ensures ∙ wide_is k) ∙ c.if-too_wide.false }
+    record { source_len = source-long e; target_len = target-long e; entries_value = (finds k).entries; source_bound = few k _ (omega (arith, c.if-slots-from.false, c.from.ensures)) c.slots.ensures; source_value = sym (c.too_wide.ensures ∙ wide_is k) ∙ c.if-too_wide.false }
 
 pub returns : goal.returns
 returns c =
     let k = (goal.at.returns c).In-Found in
     let e = (goal.at.returns c).Else-target-store_size in
-    let m = handed _ _ (move-made (from-kind e) (to-kind e) (source_of e) (target-of e) (source-long e) (target-long e) (finds k).unbroken (few k _ (omega (arith, c.if-slots-wide.false, c.wide.ensures)) c.slots.ensures) (sym (c.too_wide.ensures ∙ wide_is k) ∙ c.if-too_wide.false)) in
+    let m = handed _ _ (move-made (from-kind e) (to-kind e) (source_of e) (target-of e) (source-long e) (target-long e) (finds k).unbroken (few k _ (omega (arith, c.if-slots-from.false, c.from.ensures)) c.slots.ensures) (sym (c.too_wide.ensures ∙ wide_is k) ∙ c.if-too_wide.false)) in
     let u = c.move_slots-end.new.target in (
       ap (λ (i : ℕ). A.Moved i) (finds k).counted ∙ m.0,
       target-made (from-kind e) (to-kind e) (source_of e) u c.clear.new.part c.move_slots-end.result (c.move_slots-end.auto.target ∙ target-long e) c.move_slots-end.ensures.0 c.move_slots-end.ensures.1 c.clear.ensures ∙ m.1,

@@ -11,21 +11,21 @@ use Rattle.model.specs.Slots.{seen, committed}
 use Rattle.model.proofs.ListedLaws.{kind_fits, zero_entry}
 use Rattle.recovery.proofs.ScanSteps.{store-short}
 use Rattle.moving.proofs.MoveLoop.{found-committed, found_none, slot-narrow, moving-none, moving-skips, moving-room, moving-part, moving-more, moving-all}
-use Rattle.moving.proofs.move_slots.Goals.{In-loop-d, then-id-ne0, else-id-ne0}
+use Rattle.moving.proofs.move_slots.Goals.{In-loop-d, then-entries-d-ne0, else-entries-d-ne0}
 use Rattle.moving.proofs.move_slots.Goals as goal
 
 -- ── the slot at hand ──
 low : (c : In-loop-d) → c.loop-d.d < (kind_of c.args.from).slots
-low c = omega (arith, c.loop-d-test.true, c.slots-count.ensures)
+low c = omega (arith, c.loop-d-test.true, c.slots-d-end.ensures)
 
 few : (c : In-loop-d) → c.loop-d.d < entry_places
 few c = let φ = kind_fits c.args.from in omega (arith, low c, φ.slots-fit)
 
 abbrev entry_of : In-loop-d → machine.Entry.Entry
-entry_of c = get_or c.args.entries c.loop-d.d zero_entry
+entry_of c = get_or c.args.entries.now c.loop-d.d zero_entry
 
 is-committed : (i : In-loop-d) → (entry_of i).id.txn ≢ 0 → seen (kind_of i.args.from) i.args.source.now i.loop-d.d ≡ committed (listed_entry (entry_of i))
-is-committed i n = found-committed (kind_of i.args.from) i.args.source.now i.args.entries i.requires.entries_value i.loop-d.d (low i) n
+is-committed i n = found-committed (kind_of i.args.from) i.args.source.now i.args.entries.now i.requires.entries_value i.loop-d.d (low i) n
 
 ends : (i : In-loop-d) → (entry_of i).id.txn ≢ 0 → i.loop-d.at + i.slot_size-room.result ≤ store_size (kind_of i.args.to)
 ends i n =
@@ -37,28 +37,16 @@ pub loop-d-init : goal.loop-d-init
 loop-d-init c =
     moving-none (kind_of c.args.from) (kind_of c.args.to) c.args.source.now c.args.target.now c.requires.target_len c.requires.source_bound
 
-pub offset_bounds-entries-d : goal.offset_bounds-entries-d
-offset_bounds-entries-d c = omega (arith, few (goal.at.offset_bounds-entries-d c).In-loop-d)
-
-pub bounds-entries-d : goal.bounds-entries-d
-bounds-entries-d c = few (goal.at.bounds-entries-d c).In-loop-d
-
 pub overflow_add-at : goal.overflow_add-at
-overflow_add-at c = omega (arith, ends (goal.at.overflow_add-at c).In-loop-d c.if-id-ne0.true, store-short c.args.to)
-
-pub slice_bounds-move_slot-count : goal.slice_bounds-move_slot-count
-slice_bounds-move_slot-count c = omega arith
-
-pub slice_bounds-move_slot-start : goal.slice_bounds-move_slot-start
-slice_bounds-move_slot-start c = omega arith
+overflow_add-at c = omega (arith, ends (goal.at.overflow_add-at c).In-loop-d c.if-entries-d-ne0.true, store-short c.args.to)
 
 pub slice_bounds-move_slot-end : goal.slice_bounds-move_slot-end
-slice_bounds-move_slot-end c = omega (arith, ends (goal.at.slice_bounds-move_slot-end c).In-loop-d c.if-id-ne0.true, c.loop-d.invariant.long)
+slice_bounds-move_slot-end c = omega (arith, ends (goal.at.slice_bounds-move_slot-end c).In-loop-d c.if-entries-d-ne0.true, c.loop-d.invariant.long)
 
 pub move_slot-requires : goal.move_slot-requires
 move_slot-requires c =
     let i = (goal.at.move_slot-requires c).In-loop-d in
-    let held = is-committed i c.if-id-ne0.true in
+    let held = is-committed i c.if-entries-d-ne0.true in
     let z = c.slot_size-room in
     let e = listed_entry (entry_of i) in record {
       source_len = c.requires.source_len;
@@ -68,28 +56,22 @@ move_slot-requires c =
       keys_len_bound = slot-narrow (kind_of c.args.from) (kind_of c.args.to) c.args.source.now c.loop-d.d e c.requires.source_value (low i) held;
     }
 
-pub overflow_add-at-then-id-ne0 : goal.overflow_add-at-then-id-ne0
-overflow_add-at-then-id-ne0 c = omega (arith, ends (goal.at.overflow_add-at-then-id-ne0 c).In-loop-d c.if-id-ne0.true, store-short c.args.to)
-
-pub overflow_add-d : goal.overflow_add-d
-overflow_add-d c = omega (arith, few (goal.at.overflow_add-d c).In-loop-d)
-
-pub loop-d-smaller : goal.loop-d-smaller
-loop-d-smaller c = omega (arith, c.loop-d-test.true)
+pub overflow_add-at-then-entries-d-ne0 : goal.overflow_add-at-then-entries-d-ne0
+overflow_add-at-then-entries-d-ne0 c = omega (arith, ends (goal.at.overflow_add-at-then-entries-d-ne0 c).In-loop-d c.if-entries-d-ne0.true, store-short c.args.to)
 
 pub loop-d-preserved : goal.loop-d-preserved
 loop-d-preserved c =
     let i = (goal.at.loop-d-preserved c).In-loop-d in
     let z = c.slot_size-room in
-    elim c.if-id-ne0.branch [
-      | then-id-ne0 w ↦
+    elim c.if-entries-d-ne0.branch [
+      | then-entries-d-ne0 w ↦
           rw (w.target-is, w.at-is)
-          (moving-more (kind_of c.args.from) (kind_of c.args.to) c.args.source.now c.loop-d.target c.loop-d.at c.loop-d.d c.loop-d.invariant (low i) (listed_entry (entry_of i)) (is-committed i w.if-id-ne0.true) z.result z.ensures
+          (moving-more (kind_of c.args.from) (kind_of c.args.to) c.args.source.now c.loop-d.target c.loop-d.at c.loop-d.d c.loop-d.invariant (low i) (listed_entry (entry_of i)) (is-committed i w.if-entries-d-ne0.true) z.result z.ensures
           w.move_slot.new.part w.move_slot.ensures w.move_slot.auto.part)
-      | else-id-ne0 w ↦
+      | else-entries-d-ne0 w ↦
           rw (w.target-is, w.at-is)
           (moving-skips (kind_of c.args.from) (kind_of c.args.to) c.args.source.now c.loop-d.target c.loop-d.at c.loop-d.d c.loop-d.invariant (low i)
-          (found_none (kind_of c.args.from) c.args.source.now c.args.entries c.requires.entries_value c.loop-d.d (low i) w.if-id-ne0.false))
+          (found_none (kind_of c.args.from) c.args.source.now c.args.entries.now c.requires.entries_value c.loop-d.d (low i) w.if-entries-d-ne0.false))
     ]
 
 pub shape_of-target : goal.shape_of-target
@@ -97,4 +79,4 @@ shape_of-target c = omega (arith, c.loop-d.invariant.long, c.requires.target_len
 
 pub returns : goal.returns
 returns c =
-    moving-all (kind_of c.args.from) (kind_of c.args.to) c.args.source.now c.loop-d.target c.loop-d.at c.loop-d.d c.loop-d.invariant (omega (arith, c.loop-d-test.false, c.slots-count.ensures))
+    moving-all (kind_of c.args.from) (kind_of c.args.to) c.args.source.now c.loop-d.target c.loop-d.at c.loop-d.d c.loop-d.invariant (omega (arith, c.loop-d-test.false, c.slots-d-end.ensures))

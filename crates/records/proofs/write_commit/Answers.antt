@@ -16,12 +16,9 @@ unfolding commit_record
 returns c =
     let n = c.key_count in
     let m = c.mark in
-    let b = c.field_bytes-keys in
     let a = c.args in
     let i = a.e.id in
-    let κ = kind_of a.kind in
-    let ks = κ.encode (key_set a.e.keys) in
-    let v = c.write_keys in
+    let ks = (kind_of a.kind).encode (key_set a.e.keys) in
     let l : length (drop 16 a.part.now) ≡ 8 = simp length-drop (omega arith) in
-    put-end c.write_head.new.part (head_bytes m.result n.result i) (drop 16 a.part.now) v.new.part ks 16 8 c.write_head.ensures (length-head m.result n.result i) l (v.ensures ∙ b.ensures)
+    put-end c.write_head.new.part (head_bytes m.result n.result i) (drop 16 a.part.now) c.copy_from_slice.new.self ks 16 8 c.write_head.ensures (length-head m.result n.result i) l (c.copy_from_slice.ensures.after ∙ c.field_bytes.ensures)
     ∙ ap₂ (λ (x k : ℕ). head_bytes x k i ++ ks) m.ensures n.ensures

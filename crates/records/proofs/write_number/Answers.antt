@@ -1,39 +1,31 @@
-use Prim.Native.Nat.{ℕ, ◌-◌}
-use mathlib.Core.Path.{◌≡◌, refl, ap}
-use lib.ListN.{length}
+use Prim.Native.Nat.{ℕ, suc, ◌-◌, ◌/◌, ◌%◌, ◌<◌, ◌≤◌}
+use mathlib.Core.Path.{◌≡◌, sym, ap, ◌∙◌}
+use mathlib.Core.List.{[], ◌∷◌, ◌++◌, append_assoc, append-nil}
+use lib.ListN.{length, take}
+use lib.Seq.{take-suc-set, take_all}
 use native.Mathlib.Omega.{arith}
+use native.Mathlib.Numerals.{add-one}
+use Rattle.model.specs.Limits.{byte_range}
 use Rattle.model.specs.Bytes.{bytes}
-use Rattle.records.proofs.ByteLaws.{bytes_next, bytes-end}
-use Rattle.records.proofs.WriteLoop.{written-more, written_all}
 use Rattle.records.proofs.write_number.Goals as goal
 
-pub loop-i-init : goal.loop-i-init
-loop-i-init c =
-    let n = length c.args.part.now in
-    let e : n - 0 ≡ n = omega arith in
-    (omega arith, refl, ap (λ (k : ℕ). bytes k c.args.x) e)
+-- the first byte, and those to come
+bytes_next : (i n x : ℕ) → i < n → bytes (n - i) x ≡ x % byte_range ∷ bytes (n - suc i) (x / byte_range)
+unfolding bytes
+bytes_next i n x o = let e : n - i ≡ suc (n - suc i) = omega arith in rw e
 
-pub overflow_cast-part : goal.overflow_cast-part
-overflow_cast-part c = omega arith
+bytes-end : (i n x : ℕ) → n ≤ i → bytes (n - i) x ≡ []
+unfolding bytes
+bytes-end i n x o = let e : n - i ≡ 0 = omega arith in rw e
 
-pub bounds-part-i : goal.bounds-part-i
-bounds-part-i c = omega arith
-
-pub overflow_add-i : goal.overflow_add-i
-overflow_add-i c = omega arith
-
-pub loop-i-smaller : goal.loop-i-smaller
-loop-i-smaller c = omega arith
-
-pub loop-i-preserved : goal.loop-i-preserved
-loop-i-preserved c =
-    let n = length c.args.part.now in
-    written-more n c.args.part.now (bytes n c.args.x) c.loop-i.i c.loop-i.part _ c.loop-i.invariant _ _ (omega arith) (omega arith) (bytes_next c.loop-i.i n c.loop-i.rest (omega arith))
-
-pub shape_of-part : goal.shape_of-part
-shape_of-part c = omega arith
+pub loop-byte-preserved : goal.loop-byte-preserved
+loop-byte-preserved c =
+    let l = c.loop-byte in
+    let o = bytes_next l.byte-index (length c.args.part.now) l.rest (omega arith) in
+    rw (add-one l.byte-index, take-suc-set l.part l.byte-index _ (omega arith), append_assoc) (ap (λ bs. take l.byte-index l.part ++ bs) (sym o) ∙ l.invariant)
 
 pub returns : goal.returns
 returns c =
-    let n = length c.args.part.now in
-    written_all n c.args.part.now (bytes n c.args.x) c.loop-i.i c.loop-i.part _ c.loop-i.invariant (omega arith) (bytes-end c.loop-i.i n c.loop-i.rest (omega arith))
+    let l = c.loop-byte in
+    let e = bytes-end l.byte-index (length c.args.part.now) l.rest (omega arith) in
+    sym (take_all l.byte-index l.part (omega arith)) ∙ sym (append-nil _) ∙ ap (λ bs. take l.byte-index l.part ++ bs) (sym e) ∙ l.invariant

@@ -1,12 +1,10 @@
--- `records::write_number` meets its contract.
+-- `records::write_number` meets its contract. The loop's invariant: the bytes written, and those of what is left.
 use Prim.Native.Nat.{◌-◌}
-use lib.ListN.{length}
+use mathlib.Core.Path.{◌≡◌}
+use mathlib.Core.List.{◌++◌}
+use lib.ListN.{length, take}
 use Rattle.model.specs.Bytes.{bytes}
-use Rattle.records.proofs.WriteLoop.{Written}
 use Rattle.records.proofs.write_number.Given as goal
 
-abbrev pub invariant-loop-i : goal.invariant-loop-i
-invariant-loop-i l = Written (length l.initial.part) l.initial.part (bytes (length l.initial.part) l.x) l.i l.part (bytes (length l.initial.part - l.i) l.rest)
-
-abbrev pub decreases-loop-i : goal.decreases-loop-i
-decreases-loop-i l = length l.initial.part - l.i
+abbrev pub invariant-loop-byte : goal.invariant-loop-byte
+invariant-loop-byte l = take l.byte-index l.part ++ bytes (length l.initial.part - l.byte-index) l.rest ≡ bytes (length l.initial.part) l.x

@@ -1,94 +1,51 @@
 -- `resp::bulk_in` meets its contract.
-use Prim.Native.Nat.{◌≤◌}
-use mathlib.Core.Path.{◌≡◌, sym}
+use mathlib.Core.Path.{◌≡◌}
 use mathlib.Core.List.{[], ◌∷◌}
 use mathlib.Core.Option.{some}
-use lib.ListN.{length, drop}
-use native.Mathlib.Omega.{arith}
+use Rattle.lines.specs.Lines.{newline}
 use Rattle.resp.specs.Streams.{line_end}
 use Rattle.resp.specs.Inverse.{after}
-use Rattle.resp.specs.Parts.{span_of, SpanFits}
-use Rattle.resp.proofs.AfterLaws.{begun, begun-long, not-begun}
-use Rattle.resp.proofs.BulkLaws.{no-bulk, bulk-unread, size_in, bulk-cut, bulk-other, bulk-short, bulk-unended, bulk-fits, bulk-read}
-use Rattle.resp.proofs.bulk_in.Goals.{Else-not-begins}
+use Rattle.resp.proofs.AfterLaws.{stripped-none, stripped-some}
+use Rattle.resp.proofs.BulkLaws.{no-bulk, bulk-sizeless, bulk-lineless, bulk-short, bulk-open, bulk-whole}
+use Rattle.resp.proofs.bulk_in.Goals.{In_ok-sized, In_ok-bytes, After-split_at}
 use Rattle.resp.proofs.bulk_in.Goals as goal
 
--- after the `$`
-long : (c : Else-not-begins) → 1 ≤ length c.args.s.now
-long c = begun-long (36 ∷ []) _ c.begins.ensures (c.if-not-begins.false)
+-- the `$`, and the end of the length's line
+dollar : (c : In_ok-sized) → after (36 ∷ []) c.args.s.now ≡ some c.in_ok-sized.sized.now
+dollar c = stripped-some (36 ∷ []) _ _ c.strip_prefix.ensures.cases c.in_ok-sized.sized c.in_ok-sized.was
 
-opens : (c : Else-not-begins) → after (36 ∷ []) c.args.s.now ≡ some (drop 1 c.args.s.now)
-opens c = begun (36 ∷ []) _ c.begins.ensures (c.if-not-begins.false)
+line : (c : In_ok-bytes) → after (newline ∷ []) c.in_ok-size.line.now ≡ some c.in_ok-bytes.bytes.now
+line c = stripped-some (newline ∷ []) _ _ c.strip_prefix-2.ensures.cases c.in_ok-bytes.bytes c.in_ok-bytes.was
 
-pub returns-then-not-begins : goal.returns-then-not-begins
-unfolding span_of SpanFits
-returns-then-not-begins c = (sym (no-bulk c.args.s.now (not-begun (36 ∷ []) _ c.begins.ensures (c.if-not-begins.true))), tt)
+pub returns-in_err-sized : goal.returns-in_err-sized
+returns-in_err-sized c = rw c.from_residual.ensures (no-bulk _ (stripped-none (36 ∷ []) _ _ c.strip_prefix.ensures.cases c.in_err-sized.was))
 
-pub slice_bounds-number_in-count : goal.slice_bounds-number_in-count
-slice_bounds-number_in-count c = long (goal.at.slice_bounds-number_in-count c).Else-not-begins
+pub returns-in_err-size : goal.returns-in_err-size
+returns-in_err-size c = rw c.from_residual-in_err-size.ensures (bulk-sizeless _ (dollar (goal.at.returns-in_err-size c).In_ok-sized) c.in_err-size.ensures)
 
-pub slice_bounds-number_in-start : goal.slice_bounds-number_in-start
-slice_bounds-number_in-start c = long (goal.at.slice_bounds-number_in-start c).Else-not-begins
+pub returns-in_err-bytes : goal.returns-in_err-bytes
+returns-in_err-bytes c =
+    rw c.from_residual-in_err-bytes.ensures
+    (bulk-lineless _ (dollar (goal.at.returns-in_err-bytes c).In_ok-sized) c.in_ok-size.ensures
+    (stripped-none (newline ∷ []) _ _ c.strip_prefix-2.ensures.cases c.in_err-bytes.was))
 
-pub returns-in_default : goal.returns-in_default
-unfolding span_of SpanFits
-returns-in_default c =
-    let p = (goal.at.returns-in_default c).Else-not-begins in
-    (sym (bulk-unread p.args.s.now (long p) (opens p) c.number_in-number.ensures c.in_default.is), tt)
+pub returns-then-size-bytes : goal.returns-then-size-bytes
+returns-then-size-bytes c =
+    let p = goal.at.returns-then-size-bytes c in
+    bulk-short _ (dollar p.In_ok-sized) c.in_ok-size.ensures (line p.In_ok-bytes) c.if-size-bytes.true
 
-pub overflow_add-start : goal.overflow_add-start
-overflow_add-start c =
-    let p = (goal.at.overflow_add-start c).Else-not-begins in
-    -- the place of the length's end is inside
-    omega (arith, size_in c.args.s.now (long p) (opens p) c.number_in-number.ensures c.in-Of.size c.in-Of.at c.in-Of.is)
-
-pub returns-then-s-start : goal.returns-then-s-start
-unfolding span_of SpanFits
-returns-then-s-start c =
-    let q = c in
-    let p = q.before.before.before.before in
-    (sym (bulk-cut p.args.s.now (long (goal.at.returns-then-s-start c).Else-not-begins) (opens (goal.at.returns-then-s-start c).Else-not-begins) q.number_in-number.ensures q.in-Of.size q.in-Of.at q.in-Of.is c.if-s-start.true), tt)
-
-pub returns-then-s-at-ne10 : goal.returns-then-s-at-ne10
-unfolding span_of SpanFits
-returns-then-s-at-ne10 c =
-    let o = c in
-    let q = o in
-    let p = q.before.before.before.before in
-    let s = p.args.s.now in
-    (sym (bulk-other s (long (goal.at.returns-then-s-at-ne10 c).Else-not-begins) (opens (goal.at.returns-then-s-at-ne10 c).Else-not-begins) q.number_in-number.ensures q.in-Of.size q.in-Of.at q.in-Of.is o.if-s-start.false c.if-s-at-ne10.true), tt)
-
-pub returns-then-size-s : goal.returns-then-size-s
-unfolding span_of SpanFits
-returns-then-size-s c =
-    let o = c in
-    let q = o in
-    let p = q.before.before.before.before in
-    let s = p.args.s.now in
-    (sym (bulk-short s (long (goal.at.returns-then-size-s c).Else-not-begins) (opens (goal.at.returns-then-size-s c).Else-not-begins) q.number_in-number.ensures q.in-Of.size q.in-Of.at q.in-Of.is o.if-s-start.false c.if-s-at-ne10.false c.if-size-s.true), tt)
-
-pub returns-then-not-begins-2 : goal.returns-then-not-begins-2
-unfolding span_of SpanFits line_end
-returns-then-not-begins-2 c =
-    let n = c in
-    let o = n in
-    let q = o in
-    let p = q.before.before.before.before in
-    let s = p.args.s.now in
-    let h = q.number_in-number.ensures in
-    let e = bulk-unended s (long (goal.at.returns-then-not-begins-2 c).Else-not-begins) (opens (goal.at.returns-then-not-begins-2 c).Else-not-begins) h q.in-Of.size q.in-Of.at q.in-Of.is o.if-s-start.false n.if-s-at-ne10.false (omega arith) c.begins-2.ensures (c.if-not-begins-2.true) in
-    (sym e, tt)
+pub returns-in_err-rest : goal.returns-in_err-rest
+unfolding line_end
+returns-in_err-rest c =
+    let p = goal.at.returns-in_err-rest c in
+    rw c.from_residual-in_err-rest.ensures
+    (bulk-open _ (dollar p.In_ok-sized) c.in_ok-size.ensures (line p.In_ok-bytes)
+    (rw (← c.split_at.ensures.back) (stripped-none line_end _ _ c.strip_prefix-3.ensures.cases c.in_err-rest.was)))
 
 pub returns : goal.returns
 unfolding line_end
 returns c =
-    let n = c in
-    let o = n in
-    let q = o in
-    let p = q.before.before.before.before in
-    let s = p.args.s.now in
-    let h = q.number_in-number.ensures in
-    let z = c.if-not-begins-2.false in (
-      bulk-read s (long (goal.at.returns c).Else-not-begins) (opens (goal.at.returns c).Else-not-begins) h q.in-Of.size q.in-Of.at q.in-Of.is o.if-s-start.false n.if-s-at-ne10.false (omega arith) c.begins-2.ensures z,
-      bulk-fits s (long (goal.at.returns c).Else-not-begins) (opens (goal.at.returns c).Else-not-begins) h q.in-Of.size q.in-Of.at q.in-Of.is o.if-s-start.false n.if-s-at-ne10.false (omega arith) c.begins-2.ensures z,
-    )
+    let p = goal.at.returns c in
+    rw c.split_at.ensures.front
+    (bulk-whole _ (dollar p.In_ok-sized) c.in_ok-size.ensures (line p.In_ok-bytes) c.in_ok-rest.rest.now
+    (rw (← c.split_at.ensures.back) (stripped-some line_end _ _ c.strip_prefix-3.ensures.cases c.in_ok-rest.rest c.in_ok-rest.was)))

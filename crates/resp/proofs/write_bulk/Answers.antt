@@ -24,26 +24,23 @@ bounds-out-feed c =
 pub write_bytes-end-requires : goal.write_bytes-end-requires
 write_bytes-end-requires c =
     let w = c.write_number-feed in
-    let s = c in
-    let o : w.result + 1 + length s.args.w.now ≤ length (set w.new.out w.result 10) =
-    omega (arith, length-set w.new.out w.result 10, numbered (goal.at.write_bytes-end-requires c).After-write_number-feed, w.ensures.1, s.requires.0, s.requires.1) in o
+    let o : w.result + 1 + length c.args.w.now ≤ length (set w.new.out w.result 10) =
+    omega (arith, length-set w.new.out w.result 10, numbered (goal.at.write_bytes-end-requires c).After-write_number-feed, w.ensures.1, c.requires.0, c.requires.1) in o
 
 pub write_bytes-requires : goal.write_bytes-requires
 write_bytes-requires c =
     let w = c.write_bytes-end in
     let n = c.write_number-feed in
-    let s = c in
-    let o : w.result + 2 ≤ length w.new.out = omega (arith, copied (goal.at.write_bytes-requires c).After-write_bytes-end, w.ensures.0, n.ensures.1, s.requires.0, s.requires.1) in o
+    let o : w.result + 2 ≤ length w.new.out = omega (arith, copied (goal.at.write_bytes-requires c).After-write_bytes-end, w.ensures.0, n.ensures.1, c.requires.0, c.requires.1) in o
 
 pub shape_of-out : goal.shape_of-out
 shape_of-out c = c.write_bytes.auto.out ∙ copied (goal.at.shape_of-out c).After-write_bytes-end
 
 pub returns : goal.returns
 returns c =
-    let s = c in
     let n = (goal.at.returns c).After-write_number-feed in
     let w₁ = n.write_number-feed in
     let w₂ = c.write_bytes-end in
     let w₃ = c.write_bytes in
-    bulk-written s.args.out.now w₁.new.out w₂.new.out w₃.new.out s.args.start w₁.result w₂.result w₃.result s.args.w.now
-    s.requires.0 s.requires.1 (numbered n) w₁.ensures w₂.ensures w₃.ensures
+    bulk-written c.args.out.now w₁.new.out w₂.new.out w₃.new.out c.args.start w₁.result w₂.result w₃.result c.args.w.now
+    c.requires.0 c.requires.1 (numbered n) w₁.ensures w₂.ensures w₃.ensures

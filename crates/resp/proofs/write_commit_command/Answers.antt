@@ -13,10 +13,9 @@ use Rattle.resp.proofs.write_commit_command.Goals as goal
 -- the name, and the keys' text
 name-is : (c : After-write_bytes-end) → Front c.write_bytes-end.new.out c.write_bytes-end.result (99 ∷ 47 ∷ c.args.id.now)
 name-is c =
-    let s = c in
     let w = c.write_bytes-end in
     all-front (replicate 64 0) w.new.out w.result _ (length-replicate {A = ℕ} 64 0)
-    (commit-name-written (replicate 64 0) w.new.out 99 w.result s.args.id.now (length-replicate {A = ℕ} 64 0) s.requires.0 w.ensures) (omega (arith, w.ensures.0, s.requires.0))
+    (commit-name-written (replicate 64 0) w.new.out 99 w.result c.args.id.now (length-replicate {A = ℕ} 64 0) c.requires.0 w.ensures) (omega (arith, w.ensures.0, c.requires.0))
 
 value-is : (c : After-write_keys-size) → Front c.write_keys-size.new.out c.write_keys-size.result (keys_text (key_set c.args.set))
 value-is c = let w = c.write_keys-size in short-front w.new.out w.result _ w.ensures.0 (omega (arith, w.ensures.1)) w.ensures.2
@@ -35,9 +34,8 @@ write_set-requires c =
 
 pub returns : goal.returns
 returns c =
-    let s = c in
     let n = (goal.at.returns c).After-write_bytes-end in
     let v = (goal.at.returns c).After-write_keys-size in
     let w = c.write_set in
-    command-written s.args.out.now w.new.out s.args.start w.result _ _
+    command-written c.args.out.now w.new.out c.args.start w.result _ _
     n.write_bytes-end.result v.write_keys-size.result n.write_bytes-end.new.out v.write_keys-size.new.out (name-is n) (value-is v) w.ensures

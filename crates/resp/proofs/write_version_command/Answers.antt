@@ -13,13 +13,12 @@ use Rattle.resp.proofs.write_version_command.Goals as goal
 -- the name, and the value's digits
 name-is : (c : After-write_bytes-end) → Front c.write_bytes-end.new.out c.write_bytes-end.result (118 ∷ 47 ∷ digits c.args.key ++ (47 ∷ c.args.id.now))
 name-is c =
-    let s = c in
     let n = c.write_number-at in
     let w = c.write_bytes-end in
     let l = length-replicate {A = ℕ} 64 0 in
     all-front (replicate 64 0) w.new.out w.result _ l
-    (name-written (replicate 64 0) n.new.out w.new.out 118 n.result w.result s.args.key s.args.id.now l s.requires.0 n.ensures w.ensures)
-    (omega (arith, w.ensures.0, n.ensures.1, s.requires.0))
+    (name-written (replicate 64 0) n.new.out w.new.out 118 n.result w.result c.args.key c.args.id.now l c.requires.0 (rw c.from.ensures at n.ensures) w.ensures)
+    (omega (arith, w.ensures.0, n.ensures.1, c.requires.0))
 
 value-is : (c : After-write_number-after) → Front c.write_number-after.new.out (c.write_number-after.result - 1) (digits c.args.value)
 value-is c =
@@ -41,9 +40,8 @@ write_set-requires c =
 
 pub returns : goal.returns
 returns c =
-    let s = c in
     let n = (goal.at.returns c).After-write_bytes-end in
     let v = (goal.at.returns c).After-write_number-after in
     let w = c.write_set in
-    command-written s.args.out.now w.new.out s.args.start w.result _ _
+    command-written c.args.out.now w.new.out c.args.start w.result _ _
     n.write_bytes-end.result (v.write_number-after.result - 1) n.write_bytes-end.new.out v.write_number-after.new.out (name-is n) (value-is v) w.ensures

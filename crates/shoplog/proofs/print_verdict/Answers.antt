@@ -1,4 +1,5 @@
 -- `shoplog::print_verdict` meets its contract.
+use mathlib.Core.Path.{sym}
 use native.Mathlib.Omega.{arith}
 use Rattle.shoplog.specs.Printed.{verdict_printed}
 use Rattle.shoplog.proofs.PrintedLaws.{word-printed, one-printed, two-printed}
@@ -23,5 +24,5 @@ returns-in-Refused c =
     let w = c.write_bytes-row in
     let m = c.write_number-line in
     let n = c.write_number-in-Refused in
-    rw c.in-Refused.is
+    rw (c.in-Refused.is, sym c.from.ensures)
     (two-printed c.args.out.now w.new.out m.new.out w.result m.result _ _ 44 c.requires (omega arith) w.ensures.0 w.ensures.1 m.ensures n.new.out n.result _ 10 n.ensures)

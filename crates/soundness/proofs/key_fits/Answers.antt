@@ -1,12 +1,13 @@
-use borrow.Author.Tests.{le-leb, lt-leb}
+use Rattle.std.proofs.Common.{arith}
+use Rattle.std.proofs.lemmas.Grind.{common_steps}
 use Rattle.model.specs.Lists.{◌and◌}
 use Rattle.soundness.specs.Parts.{fits}
 use Rattle.soundness.proofs.key_fits.Goals as goal
 
-pub returns-then-key-low : goal.returns-then-key-low
+pub returns-then-low-key : goal.returns-then-low-key
 unfolding fits ◌and◌
-returns-then-key-low c = rw (lt-leb _ _ c.if-key-low.true)
+returns-then-low-key c = grind (arith, common_steps)
 
-pub returns : goal.returns
+pub returns-else-low-key : goal.returns-else-low-key
 unfolding fits ◌and◌
-returns c = rw (le-leb _ _ c.if-key-low.false)
+returns-else-low-key c = grind (arith, common_steps)

@@ -1,29 +1,18 @@
-use mathlib.Core.Path.{refl, sym, ◌∙◌}
-use native.Mathlib.Omega.{arith}
-use lib.Dec.{eqb}
-use lib.ListN.{get_or}
-use borrow.Author.Tests.{eq-eqb, ne_eqb}
-use Rattle.model.proofs.RestLaws.{all_more, all-stop, all_end}
+use Rattle.std.proofs.Common.{◌≡◌, ◌∙◌, ◌+◌, ◌-◌, eqb, drop, arith, length-drop}
+use borrow.Author.Rules.{rules}
+use borrow.Author.Tests.{tests}
+use Rattle.std.proofs.lemmas.List.{take_all}
+use Rattle.std.proofs.lemmas.Iterator.Search.{all_from_yields_List}
+use Rattle.std.proofs.lemmas.Iterator.{YieldsList-from_slice}
+use Rattle.model.specs.Lists.{all}
+use Rattle.model.proofs.StdWords.{list_all-all, eqb-swap}
 use Rattle.soundness.specs.Parts.{none_past}
 use Rattle.soundness.proofs.none_past.Goals as goal
 
-pub loop-i-init : goal.loop-i-init
-unfolding none_past
-loop-i-init c = refl
-
-pub returns-then-txns-i-ne0 : goal.returns-then-txns-i-ne0
-returns-then-txns-i-ne0 c =
-    let l = c in
-    let ts = l.args.txns.now in
-    sym (l.loop-i.invariant ∙ all-stop (eqb 0) ts l.loop-i.i 0 (omega (arith, c.loop-i-test.true)) (ne_eqb 0 (get_or ts l.loop-i.i 0) (λ z. c.if-txns-i-ne0.true (sym z))))
-
-pub loop-i-preserved : goal.loop-i-preserved
-loop-i-preserved c =
-    let l = c in
-    let ts = l.args.txns.now in
-    l.loop-i.invariant ∙ all_more (eqb 0) ts l.loop-i.i 0 (omega (arith, c.loop-i-test.true)) (eq-eqb 0 (get_or ts l.loop-i.i 0) (sym c.if-txns-i-ne0.false))
-
 pub returns : goal.returns
+unfolding none_past
 returns c =
-    let l = c in
-    sym (l.loop-i.invariant ∙ all_end (eqb 0) l.args.txns.now l.loop-i.i (omega (arith, c.loop-i-test.false)))
+    let xs = drop (8 + c.args.most) c.args.txns.now in
+    let e : c.iter.result.rest.now ≡ xs = c.iter.ensures.rest ∙ take_all (72 - (8 + c.args.most)) xs (omega (arith, c.told-txns, length-drop (8 + c.args.most) c.args.txns.now)) in
+    all_from_yields_List (λ t. eqb t 0) _ _ _ c.all.ensures.ran (YieldsList-from_slice xs e) (λ x b q k. search (rules, tests)) ∙ list_all-all _ _
+    ∙ (λ i. all (λ t. eqb-swap t 0 i) xs)

@@ -1,28 +1,23 @@
-use mathlib.Core.Path.{sym}
-use native.Mathlib.Omega.{arith}
-use lib.Dec.{eqb}
-use lib.ListN.{get_or}
+use Rattle.std.proofs.Common.{sym, arith, eqb, get_or}
 use borrow.Author.Tests.{eq-eqb, ne_eqb}
 use Rattle.model.proofs.RestLaws.{count-more, count_less, count-end}
-use Rattle.soundness.proofs.times.Goals.{then-xs-j, else-xs-j}
+use Rattle.soundness.proofs.times.Goals.{then-y-x, else-y-x}
 use Rattle.soundness.proofs.times.Goals as goal
 
-pub loop-j-init : goal.loop-j-init
-loop-j-init c = (omega arith, omega arith)
-
-pub loop-j-preserved : goal.loop-j-preserved
-loop-j-preserved c =
-    let l = c in
-    let a = l.args in
-    let xs = a.xs.now in
-    let j = l.loop-j.j in
-    elim c.if-xs-j.branch [
-      | then-xs-j z ↦ (omega (arith, z.n-is), omega (arith, z.n-is, l.loop-j.invariant.1, count-more (eqb a.x) xs j 0 (omega arith) (eq-eqb a.x (get_or xs j 0) (sym z.if-xs-j.true))))
-      | else-xs-j z ↦ (omega (arith, z.n-is), omega (arith, z.n-is, l.loop-j.invariant.1, count_less (eqb a.x) xs j 0 (omega arith) (ne_eqb a.x (get_or xs j 0) (λ e. z.if-xs-j.false (sym e)))))
+pub loop-y-preserved : goal.loop-y-preserved
+loop-y-preserved c =
+    let a = c.args in
+    let l = c.loop-y in
+    elim c.if-y-x.branch [
+      | then-y-x w ↦ record {
+        within = omega arith;
+        counted = omega (arith, w.n-is, l.invariant.counted, count-more (eqb a.x) a.xs.now l.y-index 0 (omega arith) (eq-eqb a.x (get_or a.xs.now l.y-index 0) (sym w.if-y-x.true)));
+      }
+      | else-y-x w ↦ record {
+        within = omega arith;
+        counted = omega (arith, w.n-is, l.invariant.counted, count_less (eqb a.x) a.xs.now l.y-index 0 (omega arith) (ne_eqb a.x (get_or a.xs.now l.y-index 0) (λ e. w.if-y-x.false (sym e))));
+      }
     ]
 
 pub returns : goal.returns
-returns c =
-    let l = c in
-    let a = l.args in
-    omega (arith, l.loop-j.invariant.1, count-end (eqb a.x) a.xs.now l.loop-j.j (omega arith))
+returns c = omega (arith, c.loop-y.invariant.counted, count-end (eqb c.args.x) c.args.xs.now c.loop-y.y-index (omega arith))

@@ -8,17 +8,11 @@ use Rattle.model.specs.Listed.{listed_lives}
 use Rattle.model.proofs.ListedLaws.{zero_live, lives_at}
 use Rattle.stations.proofs.live_at.Goals as goal
 
-pub loop-i-init : goal.loop-i-init
-loop-i-init c = (omega arith, omega arith)
-
 pub returns-then-i-place : goal.returns-then-i-place
 unfolding live_at
 returns-then-i-place c =
     let z : length c.args.live ≡ 8 = search rules in
     sym (lives_at c.args.live _ (omega (arith, z)) live_beyond zero_live) ∙ ap (λ i. get_or (listed_lives c.args.live) i live_beyond) c.if-i-place.true
-
-pub loop-i-preserved : goal.loop-i-preserved
-loop-i-preserved c = (omega arith, omega arith)
 
 pub returns : goal.returns
 unfolding live_at

@@ -1,13 +1,33 @@
 -- `stations::named_at` meets its contract. Assumes nothing.
 use mathlib.Core.Path.{sym, ◌∙◌}
 use lib.ListN.{length-map}
+use borrow.Author.Tests.{eq-eqb, ne_eqb, le-leb, lt-leb}
+use Rattle.model.specs.Limits.{keys, live_places}
 use Rattle.model.specs.Listed.{listed_live, listed_lives}
-use Rattle.stations.proofs.RowLaws.{named-row-is, named-low}
+use Rattle.stations.specs.Found.{first_row, named_rows}
+use Rattle.stations.proofs.RowLaws.{place-row}
 use Rattle.stations.proofs.named_at.Goals as goal
 
-pub returns : goal.returns
-returns c =
-    let p = c.place_of-place in
-    let r = c.named_row in
-    let a = c.args in
-    (r.ensures ∙ named-row-is (listed_lives a.live) a.txn a.key p.result a.tested (length-map a.live listed_live ∙ c.well_formed.0.1.0.1) p.ensures, p.ensures, λ z. named-low a.txn a.key p.result a.tested (sym r.ensures ∙ z))
+pub returns-then-not-tested-clause-err : goal.returns-then-not-tested-clause-err
+unfolding first_row named_rows
+returns-then-not-tested-clause-err c = rw c.if-not-tested.true
+
+pub returns-then-txn-eq0-clause-err : goal.returns-then-txn-eq0-clause-err
+unfolding first_row named_rows
+returns-then-txn-eq0-clause-err c = rw (c.if-not-tested.false, eq-eqb _ 0 c.if-txn-eq0.true)
+
+pub returns-then-key-ge-KEYS_U8-clause-err : goal.returns-then-key-ge-KEYS_U8-clause-err
+unfolding first_row named_rows
+returns-then-key-ge-KEYS_U8-clause-err c = rw (c.if-not-tested.false, ne_eqb _ 0 c.if-txn-eq0.false, le-leb keys _ c.if-key-ge-KEYS_U8.true)
+
+pub returns-then-place-ge-LIVE-clause-err : goal.returns-then-place-ge-LIVE-clause-err
+unfolding first_row named_rows
+returns-then-place-ge-LIVE-clause-err c =
+    let q = place-row (listed_lives c.args.live) c.args.txn _ (length-map c.args.live listed_live ∙ c.well_formed.0.1.0.1) c.place_of-place.ensures in
+    rw (c.if-not-tested.false, ne_eqb _ 0 c.if-txn-eq0.false, lt-leb keys _ c.if-key-ge-KEYS_U8.false, sym q ∙ le-leb live_places _ c.if-place-ge-LIVE.true)
+
+pub returns-clause-ok : goal.returns-clause-ok
+unfolding first_row named_rows
+returns-clause-ok c =
+    let q = place-row (listed_lives c.args.live) c.args.txn _ (length-map c.args.live listed_live ∙ c.well_formed.0.1.0.1) c.place_of-place.ensures in
+    (rw (c.if-not-tested.false, ne_eqb _ 0 c.if-txn-eq0.false, lt-leb keys _ c.if-key-ge-KEYS_U8.false, sym q ∙ lt-leb live_places _ c.if-place-ge-LIVE.false), c.place_of-place.ensures, c.if-place-ge-LIVE.false)

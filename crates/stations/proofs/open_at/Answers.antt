@@ -1,26 +1,22 @@
 -- `stations::open_at` meets its contract. Assumes nothing.
-use Prim.Native.Nat.{ℕ}
-use mathlib.Core.Path.{◌≡◌, sym, ◌∙◌}
-use native.Mathlib.Omega.{arith}
+use mathlib.Core.Path.{sym, ◌∙◌}
+use Rattle.std.proofs.lemmas.Result.{err_from_is_err_and}
+use Rattle.model.specs.Listed.{listed_lives}
 use Rattle.stations.proofs.RowLaws.{open-early, open-closing, open_none}
 use Rattle.stations.proofs.open_at.Goals as goal
 
-pub returns-then-at-ne0 : goal.returns-then-at-ne0
-returns-then-at-ne0 c =
-    let n = c.named_at-at.ensures in
-    (open-early _ _ _ 0 _ _ n.0 c.if-at-ne0.true, n.1, n.2)
+pub returns-in_err-place : goal.returns-in_err-place
+returns-in_err-place c =
+    let a = c.args in
+    let p = err_from_is_err_and c.from_residual.result c.from_residual.ensures.1 in
+    rw (p.1, p.2) (record { ok = tt; err = open-early (listed_lives a.live) a.txn a.key a.tested _ c.in_err-place.ensures.err })
 
-pub phase_at-phase-requires : goal.phase_at-phase-requires
-phase_at-phase-requires c = c.named_at-at.ensures.2 c.if-at-ne0.false
+pub returns-then-is_closing-clause-err : goal.returns-then-is_closing-clause-err
+returns-then-is_closing-clause-err c =
+    let n = c.in_ok-place.ensures.ok in
+    open-closing _ _ _ _ n.0 _ n.1 _ c.phase_at.ensures (sym c.is_closing.ensures ∙ c.if-is_closing.true)
 
-pub returns-then-is_closing : goal.returns-then-is_closing
-returns-then-is_closing c =
-    let n = c.named_at-at.ensures in
-    let z = c.if-at-ne0.false in
-    (open-closing _ _ _ _ _ _ n.0 z n.1 _ c.phase_at-phase.ensures (sym c.is_closing.ensures ∙ c.if-is_closing.true), n.1, λ (x : ◌≡◌ {A = ℕ} 9 0). absurd (omega arith))
-
-pub returns : goal.returns
-returns c =
-    let n = c.named_at-at.ensures in
-    let z = c.if-at-ne0.false in
-    (open_none _ _ _ _ _ _ n.0 z n.1 _ c.phase_at-phase.ensures (sym c.is_closing.ensures ∙ c.if-is_closing.false), n.1, n.2)
+pub returns-clause-ok : goal.returns-clause-ok
+returns-clause-ok c =
+    let n = c.in_ok-place.ensures.ok in
+    (open_none _ _ _ _ n.0 _ n.1 _ c.phase_at.ensures (sym c.is_closing.ensures ∙ c.if-is_closing.false), n.1, n.2)

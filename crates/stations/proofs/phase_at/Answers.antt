@@ -9,17 +9,11 @@ use Rattle.model.proofs.ListedLaws.{zero_live, lives_at}
 use Rattle.model.specs.Stations.{live_at}
 use Rattle.stations.proofs.phase_at.Goals as goal
 
-pub loop-i-init : goal.loop-i-init
-loop-i-init c = (omega arith, omega arith)
-
 pub returns-then-i-place : goal.returns-then-i-place
 unfolding live_at
 returns-then-i-place c =
     let z : length c.args.live ≡ 8 = search rules in
     sym (ap (λ (l : Live). l.phase) (lives_at c.args.live _ (omega (arith, z)) live_beyond zero_live)) ∙ ap (λ i. (get_or (listed_lives c.args.live) i live_beyond).phase) c.if-i-place.true
-
-pub loop-i-preserved : goal.loop-i-preserved
-loop-i-preserved c = (omega arith, omega arith)
 
 pub returns : goal.returns
 unfolding live_at

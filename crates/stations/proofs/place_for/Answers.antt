@@ -1,18 +1,15 @@
-use mathlib.Core.Path.{refl, sym, ◌∙◌}
-use lib.Dec.{leb}
-use native.Mathlib.Omega.{arith}
-use borrow.Author.Tests.{le-leb, lt-leb}
-use Rattle.stations.proofs.Search.{from_start, from-hit, from-miss, from_end, first_taken}
+use mathlib.Core.Path.{refl, ◌∙◌}
+use borrow.Author.Rules.{rules}
+use borrow.Author.Tests.{tests}
+use Rattle.std.proofs.lemmas.Iterator.{YieldsList-from_slice}
+use Rattle.std.proofs.lemmas.Iterator.Search.{position_from_yields_List}
+use Rattle.model.specs.Lives.{read_key}
+use Rattle.model.proofs.StdWords.{first_from_position}
+use Rattle.stations.specs.Found.{at_least}
 use Rattle.stations.proofs.place_for.Goals as goal
 
-pub loop-i-init : goal.loop-i-init
-loop-i-init c = (omega arith, first_taken (leb c.args.key) c.args.keys.now 0 c.args.n c.requires ∙ from_start _ _ _ refl)
-
-pub returns-then-key-k : goal.returns-then-key-k
-returns-then-key-k c = sym (c.loop-i.invariant.1 ∙ from-hit _ _ _ (omega arith) (le-leb _ _ c.if-key-k.true))
-
-pub loop-i-preserved : goal.loop-i-preserved
-loop-i-preserved c = (omega arith, c.loop-i.invariant.1 ∙ from-miss _ _ _ (omega arith) (lt-leb _ _ c.if-key-k.false))
-
 pub returns : goal.returns
-returns c = sym (c.loop-i.invariant.1 ∙ from_end _ _ _ (omega arith))
+returns c =
+    let rs = c.args.reads.now in
+    c.unwrap_or.ensures
+    ∙ first_from_position (at_least read_key c.args.key) rs _ _ (position_from_yields_List _ _ _ _ c.position.ensures.ran (YieldsList-from_slice rs cc) (λ x b q k. search (rules, tests))) refl

@@ -1,10 +1,12 @@
 -- `stations::with_write` meets its contract.
 use Prim.Native.Nat.{◌<◌}
 use mathlib.Core.Path.{◌≡◌, sym, ◌∙◌}
+use Rattle.model.proofs.Tests.{and_second, not_of_false}
 use lib.Dec.{leb}
 use lib.ListN.{length}
 use native.Mathlib.Omega.{arith}
 use borrow.Author.Rules.{rules}
+use borrow.Author.Tests.{leb-false}
 use Rattle.model.specs.KeySets.{key_set}
 use Rattle.stations.proofs.Search.{first-at-most}
 use Rattle.stations.proofs.Sets.{has-written, written_below, write-replaced, write-added}
@@ -27,12 +29,15 @@ returns-then-has_key c =
     let long : length c.args.l.values ≡ 16 = search rules in
     write-replaced c.args.l long c.requires.keys_len_bound c.requires.l_value _ _ _ c.requires.key_lt_keys c.keys_below-at.ensures (sym c.has_key.ensures ∙ c.if-has_key.true)
 
-pub value_joined-values-requires : goal.value_joined-values-requires
-value_joined-values-requires c =
-    omega (arith, c.keys_below-at.ensures, first-at-most (leb c.args.key) (key_set c.args.l.keys), c.requires.keys_len_bound)
-
-pub returns : goal.returns
-returns c =
+-- the key is not there: there is room for it
+pub join-requires : goal.join-requires
+join-requires c =
     let long : length c.args.l.values ≡ 16 = search rules in
-    rw c.value_joined-values.ensures
+    let few = leb-false 16 (length (key_set c.args.l.keys)) (and_second _ _ c.requires.keys_value (not_of_false _ (sym (has-written c.args.l c.args.key) ∙ (sym c.has_key.ensures ∙ c.if-has_key.false)))) in
+    omega (arith, long, few, c.keys_below-at.ensures, first-at-most (leb c.args.key) (key_set c.args.l.keys))
+
+pub returns-else-has_key : goal.returns-else-has_key
+returns-else-has_key c =
+    let long : length c.args.l.values ≡ 16 = search rules in
+    rw (c.join.ensures, long)
     (write-added c.args.l long c.requires.keys_len_bound c.requires.l_value _ _ _ c.requires.key_lt_keys c.keys_below-at.ensures (sym c.has_key.ensures ∙ c.if-has_key.false) c.requires.keys_value _ c.with_key.ensures)

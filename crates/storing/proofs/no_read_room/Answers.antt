@@ -1,17 +1,12 @@
 -- `storing::no_read_room` meets its contract.
-use mathlib.Core.Path.{refl, sym, ◌∙◌}
-use mathlib.Core.Bool.{not}
+use mathlib.Core.Path.{sym, ◌∙◌}
 use Rattle.model.specs.Lists.{◌and◌}
-use Rattle.model.specs.Listed.{listed_live}
-use Rattle.model.specs.Lives.{has_read}
-use Rattle.model.proofs.Tests.{not-of-true, and-none-left}
 use Rattle.storing.proofs.no_read_room.Goals as goal
 
-pub returns-then-has_read : goal.returns-then-has_read
-returns-then-has_read c =
-    let a = c.args in
-    sym (and-none-left (not (has_read a.key (listed_live a.l))) _ (not-of-true _ (sym c.has_read.ensures ∙ c.if-has_read.true)))
-
-pub returns : goal.returns
+pub returns-then-not-has_read : goal.returns-then-not-has_read
 unfolding ◌and◌
-returns c = rw (sym c.has_read.ensures ∙ c.if-has_read.false) refl
+returns-then-not-has_read c = rw (sym c.has_read.ensures ∙ c.if-not-has_read.true)
+
+pub returns-else-not-has_read : goal.returns-else-not-has_read
+unfolding ◌and◌
+returns-else-not-has_read c = rw (c.if-not-has_read.false, sym c.has_read.ensures ∙ c.if-not-has_read.false)

@@ -1,5 +1,5 @@
 -- `sweeping::read_of` meets its contract.
-use Prim.Native.Nat.{ℕ, ◌≤◌, ◌-◌}
+use Prim.Native.Nat.{ℕ}
 use mathlib.Core.Bool.{false}
 use lib.ListN.{replicate}
 use Rattle.model.specs.Types.{Live}
@@ -9,8 +9,5 @@ use Rattle.reading.specs.Columns.{id_at, has_id}
 use Rattle.sweeping.proofs.MarkLoop.{AlsoAny}
 use Rattle.sweeping.proofs.read_of.Given as goal
 
-abbrev pub invariant-loop-i : goal.invariant-loop-i
-invariant-loop-i l = (l.i ≤ 8) × AlsoAny (λ (r : Live) (d : ℕ). has_id (reads_of r) (id_at l.clocks l.txns d)) (listed_lives l.live) 64 (replicate 64 false) l.i l.out
-
-abbrev pub decreases-loop-i : goal.decreases-loop-i
-decreases-loop-i l = 8 - l.i
+abbrev pub invariant-loop-l : goal.invariant-loop-l
+invariant-loop-l l = AlsoAny (λ (r : Live) (d : ℕ). has_id (reads_of r) (id_at l.clocks l.txns d)) (listed_lives l.live) 64 (replicate 64 false) l.l-index l.marks

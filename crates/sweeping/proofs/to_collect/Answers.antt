@@ -12,9 +12,9 @@ sifted-requires c = let o = c.newest_first-order.ensures in (o.fits, λ i u. (o.
 
 pub returns : goal.returns
 returns c κ r =
-    let s = c in
     let order = c.newest_first-order in
-    let l : length (listed_entries s.args.entries) ≡ 64 = listed-length s.args.entries ∙ s.well_formed.1.0.1.0.1 in
+    let e : length c.args.entries.now ≡ 64 = search rules in
+    let l : length (listed_entries c.args.entries.now) ≡ 64 = listed-length c.args.entries.now ∙ e in
     let x : length order.result.slots ≡ 64 = search rules in
     to-collect _ _ _ _ _ _ _
     (record { right = r; long = l; held = c.held_of-held.ensures; clocks = c.clocks_of-clocks.ensures; txns = c.txns_of-txns.ensures; rows = x; order = order.ensures; read_by = c.read_of-read.ensures })

@@ -1,36 +1,35 @@
 -- `transactions::clock_for` meets its contract. Assumes nothing.
 use Prim.Native.Nat.{ℕ, ◌+◌, ◌≤◌, max}
 use mathlib.Core.Path.{◌≡◌, sym, ap, ◌∙◌}
+use mathlib.Core.List.{List}
 use lib.Dec.{eqb}
 use native.Mathlib.Nat.{lt_irrefl}
 use native.Mathlib.Omega.{arith}
-use borrow.Author.Rules.{rules}
 use borrow.Author.Tests.{eq-eqb, ne_eqb}
-use Rattle.model.specs.Lists.{member}
+use Rattle.model.specs.Lists.{member, maximum}
 use Rattle.model.specs.Limits.{last_clock}
-use Rattle.model.specs.Listed.{listed_lives, listed_entries}
 use Rattle.model.specs.Clocks.{clock_above}
 use Rattle.model.proofs.ClockLaws.{greatest-is}
-use Rattle.stations.specs.Found.{clocks_in}
 use Rattle.transactions.specs.Committing.{clock_for}
-use Rattle.transactions.proofs.clock_for.Goals.{After-greatest_clock-greatest}
 use Rattle.transactions.proofs.clock_for.Goals as goal
 
 -- the last clock is taken where the greatest is the last
-last_taken : (c : After-greatest_clock-greatest) → eqb c.greatest_clock-greatest.result last_clock ≡ member last_clock (clocks_in (listed_lives c.args.live) (listed_entries c.args.entries))
-last_taken c =
-    let e = c.greatest_clock-greatest.ensures in
-    let o : c.greatest_clock-greatest.result ≤ last_clock = search rules in
-    ap (λ (n : ℕ). eqb n last_clock) e ∙ greatest-is _ last_clock (λ z. lt_irrefl 0 (omega arith)) (omega (arith, o, e))
+last_taken : (taken : List ℕ) (m : ℕ) → m ≡ maximum taken → m ≤ last_clock → member last_clock taken ≡ eqb m last_clock
+last_taken taken m e o = sym (ap (λ (n : ℕ). eqb n last_clock) e ∙ greatest-is taken last_clock (λ z. lt_irrefl 0 (omega arith)) (omega (arith, o, e)))
 
-pub returns-then-writes-eq0 : goal.returns-then-writes-eq0
+pub returns-in_err-next : goal.returns-in_err-next
 unfolding clock_for
-returns-then-writes-eq0 c = rw (eq-eqb _ 0 c.if-writes-eq0.true)
-
-pub returns-then-greatest : goal.returns-then-greatest
-unfolding clock_for
-returns-then-greatest c = rw (ne_eqb _ 0 c.if-writes-eq0.false, sym (last_taken (goal.at.returns-then-greatest c).After-greatest_clock-greatest), eq-eqb _ last_clock c.if-greatest.true)
+returns-in_err-next c =
+    let g = c.greatest_clock in
+    let o : g.result ≤ last_clock = omega (arith, g.type_inv) in
+    let q : g.result ≡ last_clock = omega (arith, g.type_inv, c.in_err-next.ensures) in
+    rw (c.from_residual.ensures, ne_eqb _ 0 c.if-writes-eq0.false, last_taken _ _ g.ensures o, eq-eqb _ last_clock q)
 
 pub returns : goal.returns
 unfolding clock_for clock_above
-returns c = rw (ne_eqb _ 0 c.if-writes-eq0.false, sym (last_taken (goal.at.returns c).After-greatest_clock-greatest), ne_eqb _ last_clock c.if-greatest.false) (c.greater.ensures ∙ ap (λ (n : ℕ). max c.args.given (n + 1)) c.greatest_clock-greatest.ensures)
+returns c =
+    let g = c.greatest_clock in
+    let n = c.in_ok-next.ensures in
+    let o : g.result ≤ last_clock = omega (arith, g.type_inv) in
+    rw (ne_eqb _ 0 c.if-writes-eq0.false, last_taken _ _ g.ensures o, ne_eqb g.result last_clock (λ z. lt_irrefl 0 (omega (arith, n.0))))
+    (c.max.ensures ∙ (ap (max c.args.given) n.1 ∙ ap (λ (m : ℕ). max c.args.given (m + 1)) g.ensures), omega arith)

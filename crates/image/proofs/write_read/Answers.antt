@@ -1,7 +1,0 @@
--- `image::write_read` meets its contract.
-use Rattle.image.proofs.Names.{start_bytes, read_bytes, row, flat, field_bytes}
-use Rattle.image.proofs.write_read.Goals as goal
-
-pub returns : goal.returns
-unfolding start_bytes read_bytes row flat field_bytes
-returns c = c.write_start.ensures

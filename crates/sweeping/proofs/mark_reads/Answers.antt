@@ -1,0 +1,15 @@
+use Rattle.model.specs.Lives.{reads_of}
+use Rattle.reading.specs.Columns.{has_id}
+use Rattle.sweeping.proofs.MarkLoop.{left-all, left-more, left-none, take-more, take-none}
+use Rattle.sweeping.proofs.mark_reads.Goals as goal
+
+pub loop-read-init : goal.loop-read-init
+unfolding reads_of
+loop-read-init c = left-all _ _ _ _ _ cc
+
+pub loop-read-preserved : goal.loop-read-preserved
+loop-read-preserved c = let h = c.in-Some.ensures.steps in left-more _ _ _ _ _ _ c.loop-read.invariant _ _ _ (take-more _ _ _ _ _ h.0 h.1) c.mark_id.ensures
+
+pub returns : goal.returns
+unfolding has_id
+returns c = left-none _ _ _ _ _ _ c.loop-read.invariant (take-none _ _ (λ o. (c.in-None.ensures.steps o).0))
