@@ -46,7 +46,7 @@ fn read(key: u8, base: u8) -> Read {
 fn live(txn: u32, reads: u8, base: u8) -> Live {
     let unread = Read {
         key: 0,
-        id: Id { clock: 0, txn: 0 },
+        id: Id::NONE,
     };
     let mut list = [unread; Station::READS];
     for (place, key) in list.iter_mut().zip(0..reads) {

@@ -21,6 +21,7 @@ use calls::{
 };
 use edits::{low8, low32};
 use input::read_full;
+use model::Refusal;
 use moving::{move_back, move_out};
 use sheet::Command;
 use std::io::Stdout;
@@ -58,7 +59,7 @@ fn acted(station: Station, store: &mut [u8], command: Command) -> Outcome {
         Command::Cut => scan_of(station.kind, store),
         Command::Malformed => Outcome {
             station,
-            answer: Answer::Refused(19, 0),
+            answer: Answer::Refused(Refusal::Malformed.number(), 0),
         },
         Command::Sweep(limit) => sweep(station, store, limit),
     }

@@ -96,7 +96,7 @@ fn read_stream<'a>(s: &'a [u8], room: &mut [u8]) -> Option<Pass<'a>>
 {
     let mut txns = [0u32; Station::SLOTS];
     let mut kept = 0;
-    let mut last = Id { clock: 0, txn: 0 };
+    let mut last = Id::NONE;
     let mut count = 0;
     let mut left = s;
     let mut rest = s;

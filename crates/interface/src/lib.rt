@@ -88,13 +88,11 @@ fn word_for(verb: u8) -> Word
 fn sweep_for(t: u32, k: u8, n: u64) -> Command
     ensures { result ≡ command_of (if_unused (eqb t 0 and eqb k 0) (Sweep n)) }
 {
-    if t != 0 {
-        return Command::Malformed;
+    if t == 0 && k == 0 {
+        Command::Sweep(n)
+    } else {
+        Command::Malformed
     }
-    if k != 0 {
-        return Command::Malformed;
-    }
-    Command::Sweep(n)
 }
 
 // What a request asks, whatever its bytes are.
@@ -267,16 +265,10 @@ fn keep(image: &mut [u8], last: Current)
 fn lengths_fit(image: usize, requests: usize, answers: usize) -> bool
     ensures { result ≡ fits image requests answers }
 {
-    if image != IMAGE {
-        return false;
-    }
-    if requests % REQUEST != 0 {
-        return false;
-    }
-    if answers % ANSWER != 0 {
-        return false;
-    }
-    answers / ANSWER == requests / REQUEST
+    image == IMAGE
+        && requests % REQUEST == 0
+        && answers % ANSWER == 0
+        && answers / ANSWER == requests / REQUEST
 }
 
 // Carries out requests over a station's image and a store, and answers each: 0. Where a length is wrong: 1, and nothing is written.
@@ -327,13 +319,7 @@ pub fn gorehimu_empty_wide(image: &mut [u8]) -> u32
 fn one_fits(image: usize, request: usize, answer: usize) -> bool
     ensures { result ≡ fits_one image request answer }
 {
-    if image != IMAGE {
-        return false;
-    }
-    if request != REQUEST {
-        return false;
-    }
-    answer == ANSWER
+    image == IMAGE && request == REQUEST && answer == ANSWER
 }
 
 // One request over a station's image and a store, answered: 0. Where a length is wrong: 1, and nothing is written.

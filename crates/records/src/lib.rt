@@ -110,6 +110,7 @@ pub fn carries_version(r: &[u8], key: u8, id: Id) -> bool
 }
 
 // The fields of a commit record.
+#[inline(always)]
 fn fields_in(r: &[u8]) -> Fields
     requires { length r.now ≡ record_size }
     ensures { result ≡ fields_in r.now }
@@ -162,6 +163,7 @@ impl Fields {
     }
 
     // The rules of a narrow commit record: its keys ascend, and the key bytes after them are zero.
+    #[inline(always)]
     fn keeps_rules(&self) -> bool
         ensures { result ≡ field_rules self.now }
     {
@@ -176,6 +178,7 @@ impl Fields {
 
     // The entry of a narrow slot that has its mark, if its other rules are kept.
     // Measured: the version records are compared with the key bytes, and not with the keys of the set.
+    #[inline(always)]
     fn narrow_entry(&self, w: &[u8]) -> Option<Entry>
         requires w_len { length w.now ≡ slot_size narrow_kind }
         requires f_value { self.now ≡ fields_in (take record_size w.now) }
@@ -192,6 +195,7 @@ impl Fields {
     }
 
     // The entry of a wide slot that has its mark, if its other rules are kept.
+    #[inline(always)]
     fn wide_entry(&self, w: &[u8]) -> Option<Entry>
         requires w_len { length w.now ≡ slot_size wide_kind }
         requires f_value { self.now ≡ fields_in (take record_size w.now) }
@@ -207,6 +211,7 @@ impl Fields {
 }
 
 // Each version record of a slot carries its key, and the id. Records above the count are leftovers and are not read.
+#[inline(always)]
 fn carries_keys(w: &[u8], id: Id, ks: &[u8]) -> bool
     requires { record_size * (length ks.now + 1) ≤ length w.now }
     ensures { (κ : Layout) → result ≡ versions_carry (record_at κ w.now 0) id 1 ks.now }
@@ -221,6 +226,7 @@ fn carries_keys(w: &[u8], id: Id, ks: &[u8]) -> bool
 }
 
 // The same, by the keys of a set.
+#[inline(always)]
 fn carries_set(w: &[u8], id: Id, set: u64) -> bool
     requires { record_size * (length (key_set set) + 1) ≤ length w.now }
     ensures { (κ : Layout) → result ≡ versions_carry (record_at κ w.now 0) id 1 (key_set set) }
@@ -235,6 +241,7 @@ fn carries_set(w: &[u8], id: Id, set: u64) -> bool
 }
 
 // The entry of a slot that has its mark, if its other rules are kept.
+#[inline(always)]
 fn written_entry(kind: Kind, w: &[u8], f: &Fields) -> Option<Entry>
     requires w_len { length w.now ≡ slot_size (kind_of kind) }
     requires f_value { f.now ≡ fields_in (take record_size w.now) }

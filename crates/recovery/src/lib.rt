@@ -37,6 +37,7 @@ fn is_repeated(marks: &[bool; 256], txns: &[u32; Station::SLOTS], below: usize, 
 
 // The entries of the committed slots, each at its slot's place, and how many they are. From the lowest slot up: the first that breaks the rules is
 // refused. The numbers found stand in a column of their own.
+#[inline(always)]
 #[tactic(auto, using(crate::proofs::ScanSteps::slots_fit))]
 fn read_entries(
     kind: Kind,

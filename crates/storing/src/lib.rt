@@ -103,9 +103,13 @@ pub fn get(station: Station, tested: bool, store: &[u8], txn: u32, key: u8) -> C
     requires { tested ≡ sound (listed station) }
     ensures { IsChange station (get (listed station) store.now txn key) result }
 {
-    try_get(station, tested, store, txn, key).unwrap_or_else(|refusal| refused(station, refusal))
+    match try_get(station, tested, store, txn, key) {
+        Ok(change) => change,
+        Err(refusal) => refused(station, refusal),
+    }
 }
 
+#[inline(always)]
 fn try_get(
     station: Station,
     tested: bool,
@@ -169,9 +173,13 @@ pub fn step(station: Station, tested: bool, store: &mut [u8], txn: u32) -> Chang
     requires { tested ≡ sound (listed station) }
     ensures { (IsChange station (step (listed station) store.old txn) result) × (store.new ≡ stored (step (listed station) store.old txn).stores store.old) }
 {
-    try_step(station, tested, store, txn).unwrap_or_else(|refusal| refused(station, refusal))
+    match try_step(station, tested, store, txn) {
+        Ok(change) => change,
+        Err(refusal) => refused(station, refusal),
+    }
 }
 
+#[inline(always)]
 fn try_step(station: Station, tested: bool, store: &mut [u8], txn: u32) -> Result<Change, Refusal>
     requires { tested ≡ sound (listed station) }
     ensures ok { IfOk result (IsChange station (step (listed station) store.old txn)) }
@@ -212,9 +220,13 @@ pub fn collect(station: Station, tested: bool, store: &mut [u8], slot: u8) -> Ch
     requires { tested ≡ sound (listed station) }
     ensures { (IsChange station (collect (listed station) store.old slot) result) × (store.new ≡ stored (collect (listed station) store.old slot).stores store.old) }
 {
-    try_collect(station, tested, store, slot).unwrap_or_else(|refusal| refused(station, refusal))
+    match try_collect(station, tested, store, slot) {
+        Ok(change) => change,
+        Err(refusal) => refused(station, refusal),
+    }
 }
 
+#[inline(always)]
 fn try_collect(
     station: Station,
     tested: bool,

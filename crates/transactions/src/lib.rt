@@ -29,9 +29,13 @@ pub fn start(station: Station, tested: bool, txn: u32) -> Change
     requires { tested ≡ sound (listed station) }
     ensures { IsChange station (start (listed station) txn) result }
 {
-    try_start(station, tested, txn).unwrap_or_else(|refusal| refused(station, refusal))
+    match try_start(station, tested, txn) {
+        Ok(change) => change,
+        Err(refusal) => refused(station, refusal),
+    }
 }
 
+#[inline(always)]
 fn try_start(station: Station, tested: bool, txn: u32) -> Result<Change, Refusal>
     requires { tested ≡ sound (listed station) }
     ensures ok { IfOk result (IsChange station (start (listed station) txn)) }
@@ -62,9 +66,13 @@ pub fn put(station: Station, tested: bool, txn: u32, key: u8, value: u64) -> Cha
     requires { tested ≡ sound (listed station) }
     ensures { IsChange station (put (listed station) txn key value) result }
 {
-    try_put(station, tested, txn, key, value).unwrap_or_else(|refusal| refused(station, refusal))
+    match try_put(station, tested, txn, key, value) {
+        Ok(change) => change,
+        Err(refusal) => refused(station, refusal),
+    }
 }
 
+#[inline(always)]
 fn try_put(station: Station, tested: bool, txn: u32, key: u8, value: u64) -> Result<Change, Refusal>
     requires { tested ≡ sound (listed station) }
     ensures ok { IfOk result (IsChange station (put (listed station) txn key value)) }
@@ -169,9 +177,13 @@ pub fn commit(station: Station, tested: bool, txn: u32, clock: u64) -> Change
     requires { tested ≡ sound (listed station) }
     ensures { IsChange station (commit (listed station) txn clock) result }
 {
-    try_commit(station, tested, txn, clock).unwrap_or_else(|refusal| refused(station, refusal))
+    match try_commit(station, tested, txn, clock) {
+        Ok(change) => change,
+        Err(refusal) => refused(station, refusal),
+    }
 }
 
+#[inline(always)]
 fn try_commit(station: Station, tested: bool, txn: u32, clock: u64) -> Result<Change, Refusal>
     requires { tested ≡ sound (listed station) }
     ensures ok { IfOk result (IsChange station (commit (listed station) txn clock)) }
@@ -208,9 +220,13 @@ pub fn abort(station: Station, tested: bool, txn: u32) -> Change
     requires { tested ≡ sound (listed station) }
     ensures { IsChange station (abort (listed station) txn) result }
 {
-    try_abort(station, tested, txn).unwrap_or_else(|refusal| refused(station, refusal))
+    match try_abort(station, tested, txn) {
+        Ok(change) => change,
+        Err(refusal) => refused(station, refusal),
+    }
 }
 
+#[inline(always)]
 fn try_abort(station: Station, tested: bool, txn: u32) -> Result<Change, Refusal>
     requires { tested ≡ sound (listed station) }
     ensures ok { IfOk result (IsChange station (abort (listed station) txn)) }

@@ -1,17 +1,15 @@
 -- `interface::lengths_fit` meets its contract.
+use Rattle.std.proofs.Common.{arith}
+use Rattle.std.proofs.lemmas.Grind.{common_steps}
 use Rattle.interface.proofs.LengthLaws.{no-image, no-requests, no-answers, one_each}
 use Rattle.interface.proofs.lengths_fit.Goals as goal
 
-pub returns-then-image-ne-IMAGE : goal.returns-then-image-ne-IMAGE
-returns-then-image-ne-IMAGE c = no-image c.args.image _ _ c.if-image-ne-IMAGE.true
-
-pub returns-then-requests-ne0 : goal.returns-then-requests-ne0
-returns-then-requests-ne0 c = no-requests _ c.args.requests _ c.if-requests-ne0.true
-
-pub returns-then-answers-ne0 : goal.returns-then-answers-ne0
-returns-then-answers-ne0 c = no-answers _ _ c.args.answers c.if-answers-ne0.true
-
-pub returns : goal.returns
-returns c =
+pub returns-then-answers-eq0 : goal.returns-then-answers-eq0
+returns-then-answers-eq0 c =
     let a = c.args in
-    one_each a.image a.requests a.answers c.if-image-ne-IMAGE.false c.if-requests-ne0.false c.if-answers-ne0.false
+    grind (arith, common_steps, one_each a.image a.requests a.answers)
+
+pub returns-else-answers-eq0 : goal.returns-else-answers-eq0
+returns-else-answers-eq0 c =
+    let a = c.args in
+    grind (arith, common_steps, no-image a.image a.requests a.answers, no-requests a.image a.requests a.answers, no-answers a.image a.requests a.answers)
