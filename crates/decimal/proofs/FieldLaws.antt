@@ -1,15 +1,17 @@
 -- Fields: the place of the first byte that ends one, and what is after it.
 use Prim.Native.Nat.{ℕ, suc, ◌+◌, ◌-◌, ◌<◌, ◌≤◌}
 use mathlib.Core.Path.{◌≡◌, refl, sym, ap, ◌∙◌}
+use mathlib.Core.Logic.{◌≢◌}
 use mathlib.Core.Bool.{Bool, true, false, cond}
 use mathlib.Core.List.{List, [], ◌∷◌}
 use mathlib.Core.Option.{some, none}
 use lib.Dec.{eqb}
-use lib.ListN.{length, take, drop, get_or, length-drop, length-take}
+use lib.ListN.{length, take, drop, get_or, length-drop, drop_of_length-le, length-take}
 use lib.Seq.{take_all, drop-cons}
 use native.Mathlib.Nat.{le_of_suc-le-suc, not-suc-le-zero}
 use native.Mathlib.Omega.{arith}
 use native.Mathlib.Numerals.{add-one}
+use borrow.Author.Tests.{eq-eqb, ne_eqb}
 use Rattle.model.specs.Lists.{first}
 use Rattle.decimal.specs.Fields.{field, after_field}
 
@@ -38,6 +40,17 @@ module _ (end : ℕ) where
   after-no : (b : ℕ) (bs : List ℕ) → eqb b end ≡ false → after_field end (b ∷ bs) ≡ after_field end bs
   unfolding after_field
   after-no b bs h = rw h
+
+  -- the field from a place on: at the byte that ends it, before that, past the last byte
+  pub field-here : (s : List ℕ) (i : ℕ) → i < length s → get_or s i 0 ≡ end → field end (drop i s) ≡ []
+  field-here s i o h = ap (field end) (rest-next s i o) ∙ field-yes (get_or s i 0) (drop (i + 1) s) (eq-eqb (get_or s i 0) end h)
+
+  pub field_next : (s : List ℕ) (i : ℕ) → i < length s → get_or s i 0 ≢ end → field end (drop i s) ≡ get_or s i 0 ∷ field end (drop (i + 1) s)
+  field_next s i o h = ap (field end) (rest-next s i o) ∙ field-no (get_or s i 0) (drop (i + 1) s) (ne_eqb (get_or s i 0) end h)
+
+  pub field_end : (s : List ℕ) (i : ℕ) → length s ≤ i → field end (drop i s) ≡ []
+  unfolding field
+  field_end s i h = ap (field end) (drop_of_length-le s h)
 
   -- a field is as long as the place of the first byte that ends it
   first-ends : (t : Bool) (b n : ℕ) (bs : List ℕ) → n ≡ length bs → elim t [ true ↦ 0 | false ↦ suc n ] ≡ length (cond t [] (b ∷ bs))

@@ -1,24 +1,25 @@
 -- A decimal read digit by digit.
-use Prim.Native.Nat.{ℕ, ◌+◌, ◌*◌, ◌-◌, ◌<◌, ◌≤◌}
+use Prim.Native.Nat.{ℕ, suc, ◌+◌, ◌*◌, ◌-◌, ◌<◌, ◌≤◌}
 use mathlib.Core.Path.{◌≡◌, refl, sym, ap, subst, ◌∙◌}
+use mathlib.Core.Logic.{◌≢◌}
 use mathlib.Core.Bool.{Bool, true, false, not, cond, ◌&&◌, true≢false}
 use mathlib.Core.List.{List, [], ◌∷◌, ◌++◌, append-nil}
 use mathlib.Core.Option.{Option, some, none, none-ne-some, some-injective}
 use lib.Dec.{eqb, ltb, leb}
-use lib.ListN.{length, take, drop, get_or}
-use native.Mathlib.Nat.{lt_irrefl, le_refl}
+use lib.ListN.{length, drop, get_or}
+use native.Mathlib.Nat.{lt_irrefl, suc-ne-zero, le_refl}
 use native.Mathlib.Omega.{arith}
-use borrow.Author.Tests.{ltb-true, leb-true, lt-ltb, le-ltb, ne_eqb}
+use borrow.Author.Tests.{ltb-true, leb-true, lt-ltb, le-ltb, le-leb, eq-eqb, ne_eqb}
 use Rattle.std.specs.Prelude as P
 use Rattle.std.specs.Prelude.{Some, None}
 use Rattle.std.proofs.lemmas.Option.{none-some, some_pair_parts}
 use Rattle.std.specs.Char.{is_ascii_digit}
 use Rattle.model.specs.Lists.{◌and◌, ◌or◌, all}
-use Rattle.model.proofs.Tests.{and_left, and_right, and_intro, and-none-left, and-none-right}
+use Rattle.model.proofs.Tests.{and_left, and_right, and_intro, or-none, or-intro-left, or-intro-right, not_of_false, not-of-true, and-none-left, and-none-right}
 use Rattle.model.proofs.ListLaws.{all_head, all_tail}
 use Rattle.decimal.specs.Digits.{is_digit, number_from, is_decimal, number_below}
 use Rattle.decimal.specs.Fields.{field, starts_number, number_read}
-use Rattle.decimal.proofs.FieldLaws.{field-no, rest-next, field-taken}
+use Rattle.decimal.proofs.FieldLaws.{field-yes, field-no, field_next}
 
 -- what digits make after those that made n, if it is below a bound
 unfoldable pub read_on : ℕ → ℕ → List ℕ → Option ℕ
@@ -62,12 +63,12 @@ pub digit-high : (b : ℕ) → is_digit b ≡ true → b ≤ 57
 unfolding is_digit
 digit-high b h = leb-true b 57 (and_right _ _ h)
 
-module _ (bound n : ℕ) (bs : List ℕ) (i : ℕ) (o : i < length bs) where
-  pub read_next : is_digit (get_or bs i 0) ≡ true → read_on bound n (drop i bs) ≡ read_on bound (n * 10 + (get_or bs i 0 - 48)) (drop (i + 1) bs)
-  read_next h = ap (read_on bound n) (rest-next bs i o) ∙ read-cons bound n (get_or bs i 0) (drop (i + 1) bs) h
+module _ (end bound n : ℕ) (s : List ℕ) (i : ℕ) (o : i < length s) (d : get_or s i 0 ≢ end) where
+  pub read_next : is_digit (get_or s i 0) ≡ true → read_on bound n (field end (drop i s)) ≡ read_on bound (n * 10 + (get_or s i 0 - 48)) (field end (drop (i + 1) s))
+  read_next h = ap (read_on bound n) (field_next end s i o d) ∙ read-cons bound n (get_or s i 0) (field end (drop (i + 1) s)) h
 
-  pub read-other : is_digit (get_or bs i 0) ≡ false → read_on bound n (drop i bs) ≡ none
-  read-other h = ap (read_on bound n) (rest-next bs i o) ∙ read-not bound n (get_or bs i 0) (drop (i + 1) bs) h
+  pub read-other : is_digit (get_or s i 0) ≡ false → read_on bound n (field end (drop i s)) ≡ none
+  read-other h = ap (read_on bound n) (field_next end s i o d) ∙ read-not bound n (get_or s i 0) (field end (drop (i + 1) s)) h
 
 pub read-over : (bound n : ℕ) (bs : List ℕ) → bound ≤ n → read_on bound n bs ≡ none
 read-over bound n bs h = read-refused bound n bs (and-none-right _ _ (le-ltb (number_from n bs) bound (omega (arith, grows n bs))))
@@ -75,6 +76,48 @@ read-over bound n bs h = read-refused bound n bs (and-none-right _ _ (le-ltb (nu
 pub read-end : (bound n : ℕ) (bs : List ℕ) → bs ≡ [] → n < bound → read_on bound n bs ≡ some n
 unfolding read_on number_from all ◌and◌
 read-end bound n bs e l = ap (read_on bound n) e ∙ (rw (lt-ltb n bound l))
+
+-- ── the start of a decimal ──
+module _ (end : ℕ) where
+  pub start-empty : (s : List ℕ) → length s ≡ 0 → starts_number (field end s) ≡ false
+  unfolding starts_number field
+  start-empty [] h = and-none-left _ _ refl
+  start-empty (b ∷ bs) h = absurd (suc-ne-zero _ h)
+
+  pub start-end : (s : List ℕ) → length s ≢ 0 → get_or s 0 0 ≡ end → starts_number (field end s) ≡ false
+  unfolding starts_number
+  start-end [] o h = absurd (o refl)
+  start-end (b ∷ bs) o h = rw (field-yes end b bs (eq-eqb b end h)) (and-none-left _ _ refl)
+
+  pub start-digit : (s : List ℕ) → length s ≢ 0 → get_or s 0 0 ≢ end → get_or s 0 0 ≢ 48 → starts_number (field end s) ≡ true
+  unfolding starts_number
+  start-digit [] o h z = absurd (o refl)
+  start-digit (b ∷ bs) o h z = rw (field-no end b bs (ne_eqb b end h)) (and_intro _ _ (le-leb 1 (length (b ∷ field end bs)) (omega arith)) (or-intro-right _ _ (not_of_false _ (ne_eqb b 48 z))))
+
+  pub start-only : (s : List ℕ) → length s ≡ 1 → starts_number (field end s) ≡ not (eqb (get_or s 0 0) end)
+  unfolding starts_number field
+  start-only [] l = absurd (suc-ne-zero 0 (sym l))
+  start-only (b ∷ []) l = go (eqb b end) refl
+    where
+      go : (t : Bool) → eqb b end ≡ t → starts_number (field end (b ∷ [])) ≡ not t
+      go true e = rw (field-yes end b [] e) (and-none-left _ _ refl)
+      go false e = rw (field-no end b [] e) (and_intro _ _ refl (or-intro-left _ _ refl))
+  start-only (b ∷ x ∷ bs) l = absurd (suc-ne-zero (length bs) (omega arith))
+
+  pub start-zero : (s : List ℕ) → length s ≢ 0 → length s ≢ 1 → get_or s 0 0 ≢ end → get_or s 0 0 ≡ 48 → starts_number (field end s) ≡ eqb (get_or s 1 0) end
+  unfolding starts_number
+  start-zero [] o l h z = absurd (o refl)
+  start-zero (b ∷ []) o l h z = absurd (l refl)
+  start-zero (b ∷ x ∷ bs) o l h z = go (eqb x end) refl
+    where
+      go : (t : Bool) → eqb x end ≡ t → starts_number (field end (b ∷ x ∷ bs)) ≡ t
+      go true e = rw (field-no end b (x ∷ bs) (ne_eqb b end h), field-yes end x bs e) (and_intro _ _ refl (or-intro-left _ _ refl))
+      go false e =
+          rw (field-no end b (x ∷ bs) (ne_eqb b end h), field-no end x bs e)
+          (and-none-right _ _ (or-none _ _ (ne_eqb (length (b ∷ x ∷ field end bs)) 1 (λ q. suc-ne-zero (length (field end bs)) (le-one q))) (not-of-true _ (eq-eqb b 48 z))))
+        where
+          le-one : length (b ∷ x ∷ field end bs) ≡ 1 → suc (length (field end bs)) ≡ 0
+          le-one q = omega arith
 
 -- ── the whole of it ──
 both-needed : (a t z : Bool) → (a and z) ≡ false → (a and t and z) ≡ false
@@ -136,15 +179,11 @@ unfolding number_read
 read_as none m r n at h e = absurd (none-some (n, at) (sym h ∙ e))
 read_as (some x) m r n at h e = let p = some_pair_parts x n m at (sym h ∙ e) in (ap some p.0, sym p.1)
 
--- what is read of the first field, taken as a part
-module _ (end bound : ℕ) (s : List ℕ) (at : ℕ) (e : at ≡ length (field end s)) where
-  part : take at s ≡ field end s
-  part = ap (λ (n : ℕ). take n s) e ∙ field-taken end s
-
-  pub as-unread : number_below bound (take at s) ≡ none → None ≡ number_read (number_below bound (field end s)) (length (field end s))
+module _ (o : Option ℕ) (m : ℕ) where
+  pub as-unread : o ≡ none → None ≡ number_read o m
   unfolding number_read
-  as-unread h = rw (← part, h)
+  as-unread h = rw h
 
-  pub as_read : (n : ℕ) → number_below bound (take at s) ≡ some n → Some (n, at) ≡ number_read (number_below bound (field end s)) (length (field end s))
+  pub as_read : (n at : ℕ) → o ≡ some n → m ≡ at → Some (n, at) ≡ number_read o m
   unfolding number_read
-  as_read n h = rw (sym (ap (number_below bound) part) ∙ h, e)
+  as_read n at h e = rw (h, e)

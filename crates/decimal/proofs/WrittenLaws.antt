@@ -3,8 +3,7 @@ use Prim.Native.Nat.{ℕ, suc, ◌+◌, ◌<◌, ◌≤◌, zero-le}
 use mathlib.Core.Path.{◌≡◌, sym, ap, ap₂, ◌∙◌}
 use mathlib.Core.List.{List, [], ◌∷◌, ◌++◌, append_assoc}
 use lib.ListN.{length, take, drop, set, length-append, length-take, length-drop}
-use lib.Seq.{take-append_seam, drop-drop, take_at, drop_at, set_split, take-set-le}
-use borrow.Rule.Slice.PartMut.{put_mid}
+use lib.Seq.{take-length, take-append_seam, drop-drop, paste, take_at, drop_at, set_split, take-set-le}
 use native.Mathlib.Omega.{arith}
 use native.Mathlib.Numerals.{add-one}
 use Rattle.decimal.specs.Written.{written}
@@ -34,10 +33,10 @@ written-more s at v w h =
     sym (drop-drop (length w) (at + length v) _) ∙ ap (drop (length w)) (written-dropped s at v (omega arith)) ∙ drop-drop (length w) (at + length v) s ∙ ap (λ (i : ℕ). drop i s) k in
     ap₂ (λ (a b : List ℕ). a ++ (w ++ b)) t d ∙ (simp append_assoc)
 
--- a part that became w
-pub put-written : (s w now : List ℕ) (at k : ℕ) → now ≡ w → k ≡ length w → put_mid at k s now ≡ written s at w
+-- a copy come to its end
+pub pasted-all : (s : List ℕ) (at : ℕ) (w : List ℕ) (i : ℕ) → i ≡ length w → paste s at w i ≡ written s at w
 unfolding written
-put-written s w now at k e q = rw (e, q) (ap (λ (rest : List ℕ). take at s ++ (w ++ rest)) (drop-drop (length w) at s))
+pasted-all s at w i e = rw (e, take-length w) (append_assoc (take at s) w (drop (at + length w) s))
 
 -- from the last byte to the first: one byte stored, and then those before it
 pub written_last : (s : List ℕ) (base at a : ℕ) (w : List ℕ) → at ≡ base + length w → at < length s → written (set s at a) base w ≡ written s base (w ++ (a ∷ []))

@@ -13,29 +13,31 @@ pub fn field_end(s: &[u8], end: u8) -> usize
     s.iter().position(|&b| b == end).unwrap_or(s.len())
 }
 
-// A field has a byte, and no 0 before another.
-fn starts_number(field: &[u8]) -> bool
-    ensures { result ≡ starts_number field.now }
+// The first field has a byte, and no 0 before another.
+fn starts_number(s: &[u8], end: u8) -> bool
+    ensures { result ≡ starts_number (field end s.now) }
 {
-    match field {
+    match s {
         [] => false,
-        [_] => true,
-        [first, ..] => *first != b'0',
+        [only] => *only != end,
+        [first, second, ..] => *first != end && (*first != b'0' || *second == end),
     }
 }
 
-// A field that is a decimal and at most max, with its length. The test comes before the digit is added, so that no sum wraps.
+// A field that is a decimal and at most max, with its length. It is read no further than to the first byte that is no digit or makes too much: of a long
+// input that is refused the rest is not looked at. The test comes before the digit is added, so that no sum wraps.
 pub fn number_in(s: &[u8], end: u8, max: u64) -> Option<(u64, usize)>
     requires { 9 ≤ max }
     ensures { result ≡ number_read (number_below (suc max) (field end s.now)) (length (field end s.now)) }
 {
-    let size = field_end(s, end);
-    let field = &s[..size];
-    if !starts_number(field) {
+    if !starts_number(s, end) {
         return None;
     }
     let mut sum = 0;
-    for &b in field {
+    for (i, &b) in s.iter().enumerate() {
+        if b == end {
+            return Some((sum, i));
+        }
         if !b.is_ascii_digit() {
             return None;
         }
@@ -45,7 +47,7 @@ pub fn number_in(s: &[u8], end: u8, max: u64) -> Option<(u64, usize)>
         }
         sum = sum * 10 + digit;
     }
-    Some((sum, size))
+    Some((sum, s.len()))
 }
 
 // How many digits a number has.
@@ -79,12 +81,13 @@ pub fn write_number(out: &mut [u8], start: usize, x: u64, end: u8) -> usize
     after + 1
 }
 
-// Bytes written over others, from a place on; the place after them.
+// Bytes written over others, from a place on; the place after them. Byte by byte: here `copy_from_slice` asked the host of a C archive for memmove.
 pub fn write_bytes(out: &mut [u8], start: usize, w: &[u8]) -> usize
     requires { start + length w.now ≤ length out.old }
     ensures { (result ≡ start + length w.now) × (out.new ≡ written out.old start w.now) }
 {
-    let after = start + w.len();
-    out[start..after].copy_from_slice(w);
-    after
+    for (i, &b) in w.iter().enumerate() {
+        out[start + i] = b;
+    }
+    start + w.len()
 }

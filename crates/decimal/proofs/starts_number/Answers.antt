@@ -1,26 +1,21 @@
 -- `decimal::starts_number` meets its contract.
-use mathlib.Core.Path.{◌≡◌}
-use lib.ListN.{length}
+use mathlib.Core.Path.{sym}
 use native.Mathlib.Omega.{arith}
-use borrow.Author.Tests.{le-leb, ne_eqb}
-use Rattle.model.specs.Lists.{◌and◌, ◌or◌}
-use Rattle.decimal.specs.Fields.{starts_number}
+use borrow.Author.Tests.{eq-eqb, ne_eqb}
+use Rattle.decimal.proofs.ReadLaws.{start-empty, start-end, start-digit, start-only, start-zero}
 use Rattle.decimal.proofs.starts_number.Goals as goal
 
 pub returns-in-empty : goal.returns-in-empty
-unfolding starts_number ◌and◌ ◌or◌
-returns-in-empty c =
-    let e : length c.args.field.now ≡ 0 = omega arith in
-    rw e
+returns-in-empty c = sym (start-empty c.args.end c.args.s.now (omega arith))
 
 pub returns-in-len1 : goal.returns-in-len1
-unfolding starts_number ◌and◌ ◌or◌
-returns-in-len1 c =
-    let e : length c.args.field.now ≡ 1 = omega arith in
-    rw e
+returns-in-len1 c = sym (start-only c.args.end c.args.s.now (omega arith))
 
-pub returns-in-len1-up : goal.returns-in-len1-up
-unfolding starts_number ◌and◌ ◌or◌
-returns-in-len1-up c =
-    let n = length c.args.field.now in
-    rw (le-leb 1 n (omega arith), ne_eqb n 1 (λ e. omega arith))
+pub returns-then-first-ne48 : goal.returns-then-first-ne48
+returns-then-first-ne48 c = rw (ne_eqb _ 48 c.if-first-ne48.true) (sym (start-digit c.args.end c.args.s.now (λ z. omega arith) c.if-first-end.true c.if-first-ne48.true))
+
+pub returns-else-first-ne48 : goal.returns-else-first-ne48
+returns-else-first-ne48 c = sym (start-zero c.args.end c.args.s.now (λ z. omega arith) (λ z. omega arith) c.if-first-end.true c.if-first-ne48.false)
+
+pub returns-else-first-end : goal.returns-else-first-end
+returns-else-first-end c = rw (eq-eqb _ _ c.if-first-end.false) (sym (start-end c.args.end c.args.s.now (λ z. omega arith) c.if-first-end.false))
