@@ -5,8 +5,8 @@
 ghost use Rattle.std.specs.Prelude.{◌<◌};
 
 use calls::{
-    Answer, Entry, Id, Kind, Live, Outcome, Phase, Read, Station, abort, collect, commit, get, put,
-    scan, scan_wide, start, step, sweep,
+    Answer, Entry, Id, Live, Outcome, Phase, Read, Station, abort, collect, commit, get, put, scan,
+    scan_wide, start, step, sweep,
 };
 use desk::{Request, act};
 use moving::{move_back, move_out};
@@ -64,7 +64,7 @@ fn live(txn: u32, reads: u8, base: u8) -> Live {
 
 // Slots below `entries` are held; places below `lives` are open with `reads` reads at the versions of slots `base` and `base + 1`.
 fn station(entries: u8, lives: u8, reads: u8, base: u8) -> Station {
-    let mut s = Station::empty(Kind::Narrow);
+    let mut s = Station::empty();
     for (place, slot) in s.entries.iter_mut().zip(0..entries) {
         *place = entry(slot);
     }

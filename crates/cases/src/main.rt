@@ -21,7 +21,7 @@ use calls::{
 };
 use edits::{low8, low32};
 use input::read_full;
-use model::Refusal;
+use model::{Refusal, empty_of};
 use moving::{move_back, move_out};
 use sheet::Command;
 use std::io::Stdout;
@@ -116,7 +116,7 @@ struct Case {
 impl Case {
     fn begin(&mut self, kind: Kind) {
         self.store.fill(0);
-        self.station = Station::empty(kind);
+        self.station = empty_of(kind);
     }
 
     // A write that fails is not told.
@@ -145,8 +145,7 @@ impl Case {
             (true, true) => b"; as given\n",
             (true, false) => b"; new store\n",
             (false, false) => b"; new station and store\n",
-            (false, true) if self.station == Station::empty(self.station.kind) =>
-                b"; empty station\n",
+            (false, true) if self.station == empty_of(self.station.kind) => b"; empty station\n",
             (false, true) => b"; new station\n",
         };
         self.say(text);
@@ -294,7 +293,7 @@ fn main(rt: HostRuntime) {
     let mut case = Case {
         stdout: rt.stdout(),
         is_quiet: false,
-        station: Station::empty(Kind::Narrow),
+        station: Station::empty(),
         store: [0; SPACE],
         given: [0; SPACE],
     };

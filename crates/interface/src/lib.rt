@@ -32,6 +32,7 @@ use exporting::export;
 use image::{IMAGE, read_image, write_image};
 use importing::import;
 use logcheck::check_log;
+use model::empty_of;
 use moving::move_between;
 use records::{id_in, write_number};
 use resp::Transfer;
@@ -227,7 +228,7 @@ fn run_requests(first: Current, store: &mut [u8], requests: &[u8], answers: &mut
 fn unsound_station() -> Station
     ensures { listed result ≡ unsound_station }
 {
-    let mut station = Station::empty(Kind::Narrow);
+    let mut station = Station::empty();
     station.entries[0].keys = 1;
     station
 }
@@ -297,7 +298,7 @@ fn write_empty(kind: Kind, image: &mut [u8]) -> u32
     if image.len() != IMAGE {
         return 1;
     }
-    write_image(image, Station::empty(kind));
+    write_image(image, empty_of(kind));
     0
 }
 

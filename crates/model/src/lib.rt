@@ -167,27 +167,20 @@ impl Station {
 
     pub const WIDE_STORE: usize = Station::WIDE_SLOT * Station::WIDE_SLOTS;
 
-    // The station with nothing in it, of a kind. Measured: made of blank and no_entry it is not inlined, and a scan costs a copy more.
-    pub fn empty(kind: Kind) -> Station
-        ensures { listed result ≡ empty_station (kind_of kind) }
+    // The station made from nothing.
+    #[tactic(auto, unfolding(crate::specs::Listed::kind_of))]
+    pub fn empty() -> Station
+        ensures { listed result ≡ empty_station narrow_kind }
     {
-        let live = Live {
-            txn: 0,
-            phase: Phase::Unused,
-            keys: 0,
-            values: [0; Station::WRITE_PLACES],
-            read_count: 0,
-            reads: [Read::NONE; Station::READS],
-        };
-        let entry = Entry {
-            id: Id::NONE,
-            keys: 0,
-        };
-        Station {
-            live: [live; Station::LIVE],
-            entries: [entry; Station::SLOTS],
-            kind,
-        }
+        empty_of(Kind::Narrow)
+    }
+
+    // And of the wide kind.
+    #[tactic(auto, unfolding(crate::specs::Listed::kind_of))]
+    pub fn empty_wide() -> Station
+        ensures { listed result ≡ empty_station wide_kind }
+    {
+        empty_of(Kind::Wide)
     }
 }
 
@@ -267,6 +260,29 @@ impl Kind {
             Kind::Narrow => Station::STORE,
             Kind::Wide => Station::WIDE_STORE,
         }
+    }
+}
+
+// The station with nothing in it, of a kind. Measured: made of blank and no_entry it is not inlined, and a scan costs a copy more.
+pub fn empty_of(kind: Kind) -> Station
+    ensures { listed result ≡ empty_station (kind_of kind) }
+{
+    let live = Live {
+        txn: 0,
+        phase: Phase::Unused,
+        keys: 0,
+        values: [0; Station::WRITE_PLACES],
+        read_count: 0,
+        reads: [Read::NONE; Station::READS],
+    };
+    let entry = Entry {
+        id: Id::NONE,
+        keys: 0,
+    };
+    Station {
+        live: [live; Station::LIVE],
+        entries: [entry; Station::SLOTS],
+        kind,
     }
 }
 

@@ -12,7 +12,7 @@ ghost use Rattle.model.specs.declared.Answer.TheVariants.{Found};
 ghost use Rattle.model.specs.Scan.{scan};
 ghost use Rattle.recovery.specs.Marks.{Marked};
 
-use model::{Answer, Entry, Kind, Outcome, Refusal, Station};
+use model::{Answer, Entry, Kind, Outcome, Refusal, Station, empty_of};
 use records::{Slot, read_slot};
 
 // One of the first `below` numbers is the transaction's.
@@ -37,7 +37,6 @@ fn is_repeated(marks: &[bool; 256], txns: &[u32; Station::SLOTS], below: usize, 
 
 // The entries of the committed slots, each at its slot's place, and how many they are. From the lowest slot up: the first that breaks the rules is
 // refused. The numbers found stand in a column of their own.
-#[inline(always)]
 #[tactic(auto, using(crate::proofs::ScanSteps::slots_fit))]
 fn read_entries(
     kind: Kind,
@@ -74,21 +73,20 @@ fn read_entries(
     Ok(found)
 }
 
-// A refused scan hands back the empty station.
+// A refused scan hands back the empty station. Measured: where each arm hands a station back, two more are zeroed.
 pub fn scan_of(kind: Kind, store: &[u8]) -> Outcome
     ensures { listed_outcome result ≡ outcome_of (scan (kind_of kind) store.now) }
 {
-    let mut station = Station::empty(kind);
-    match read_entries(kind, store, &mut station.entries) {
-        Ok(found) => Outcome {
-            answer: Answer::Found(found),
-            station,
-        },
-        Err(answer) => Outcome {
-            answer,
-            station: Station::empty(kind),
-        },
-    }
+    let mut station = empty_of(kind);
+    let mut entries = station.entries;
+    let answer = match read_entries(kind, store, &mut entries) {
+        Ok(found) => {
+            station.entries = entries;
+            Answer::Found(found)
+        }
+        Err(answer) => answer,
+    };
+    Outcome { station, answer }
 }
 
 // A narrow store's scan, and a wide one's.

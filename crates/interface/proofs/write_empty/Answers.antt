@@ -19,4 +19,4 @@ unfolding image_of
 returns c =
     let w = c.write_image.ensures in
     let e = eq-eqb (length c.args.image.now) image_size c.if-image-ne-IMAGE.false in
-    record { value = cond_yes _ _ _ e; image_after = w.bytes_after ∙ ap station_bytes (sym w.station_value ∙ ap numbered c.empty.ensures) ∙ cond_yes _ _ _ e }
+    record { value = cond_yes _ _ _ e; image_after = w.bytes_after ∙ ap station_bytes (sym w.station_value ∙ ap numbered c.empty_of.ensures) ∙ cond_yes _ _ _ e }
