@@ -239,30 +239,44 @@ pub fn record_of(e: Entry, key: u8) -> usize
 }
 
 // ---- what a call needs
-// The place of a call's transaction, or the first of rows 2, 3, 4 and 8 that applies. A call without a key gives 0.
+// Why a call goes no further: the refusal that comes first; and the place of its transaction all the same, the number of places where it has none.
+#[derive(Clone, Copy)]
+pub struct Denied {
+    pub refusal: Refusal,
+    pub place: usize,
+}
+
+impl From<Denied> for Refusal {
+    ghost from_gives = { λ d r. r ≡ d.refusal };
+
+    fn from(denied: Denied) -> Refusal {
+        denied.refusal
+    }
+}
+
+// The place of a call's transaction; refused by the first of rows 2, 3, 4 and 8 that applies. A call without a key gives 0.
 pub fn named_at(
     live: [Live; Station::LIVE],
     tested: bool,
     txn: u32,
     key: u8,
-) -> Result<usize, Refusal>
+) -> Result<usize, Denied>
     ensures ok { IfOk result (λ place. (first_row (named_rows (listed_lives live) txn key tested) ≡ 0) × (place ≡ place_in txn (listed_lives live)) × (place < live_places)) }
-    ensures err { IfErr result (λ refusal. number_of refusal ≡ first_row (named_rows (listed_lives live) txn key tested)) }
+    ensures err { IfErr result (λ denied. (number_of denied.refusal ≡ first_row (named_rows (listed_lives live) txn key tested)) × (denied.place ≡ place_in txn (listed_lives live))) }
 {
-    if !tested {
-        return Err(Refusal::Unsound);
-    }
-    if txn == 0 {
-        return Err(Refusal::TransactionZero);
-    }
-    if key >= Station::KEYS_U8 {
-        return Err(Refusal::KeyRange);
-    }
     let place = place_of(live, txn);
-    if place >= Station::LIVE {
-        return Err(Refusal::NotLive);
-    }
-    Ok(place)
+    let refusal = if !tested {
+        Refusal::Unsound
+    } else if txn == 0 {
+        Refusal::TransactionZero
+    } else if key >= Station::KEYS_U8 {
+        Refusal::KeyRange
+    } else if place >= Station::LIVE {
+        Refusal::NotLive
+    } else {
+        return Ok(place);
+    };
+    Err(Denied { refusal, place })
 }
 
 // The same of an open transaction, with row 9 after the others.
@@ -271,13 +285,14 @@ pub fn open_at(
     tested: bool,
     txn: u32,
     key: u8,
-) -> Result<usize, Refusal>
+) -> Result<usize, Denied>
     ensures ok { IfOk result (λ place. (first_row (open_rows (listed_lives live) txn key tested) ≡ 0) × (place ≡ place_in txn (listed_lives live)) × (place < live_places)) }
-    ensures err { IfErr result (λ refusal. number_of refusal ≡ first_row (open_rows (listed_lives live) txn key tested)) }
+    ensures err { IfErr result (λ denied. (number_of denied.refusal ≡ first_row (open_rows (listed_lives live) txn key tested)) × (denied.place ≡ place_in txn (listed_lives live))) }
 {
     let place = named_at(live, tested, txn, key)?;
     if phase_at(live, place).is_closing() {
-        return Err(Refusal::IsClosing);
+        let refusal = Refusal::IsClosing;
+        return Err(Denied { refusal, place });
     }
     Ok(place)
 }

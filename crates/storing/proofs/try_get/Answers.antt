@@ -166,7 +166,7 @@ pub returns-in_err-place-clause-err : goal.returns-in_err-place-clause-err
 returns-in_err-place-clause-err c =
     let a = c.args in
     let p = err_from_is_err_and c.from_residual.result c.from_residual.ensures.1 in
-    rw (p.1, p.2) (get_refused (listed a.station) a.store.now a.txn a.key (c.if-store-store_size.false ∙ c.store_size.ensures) a.tested c.requires _ c.in_err-place.ensures.err)
+    rw (p.1, p.2) (get_refused (listed a.station) a.store.now a.txn a.key (c.if-store-store_size.false ∙ c.store_size.ensures) a.tested c.requires _ c.in_err-place.ensures.err.0)
 
 pub value_under-requires : goal.value_under-requires
 value_under-requires c = record { keys_len_bound = omega (arith, writes (goal.at.value_under-requires c).In_ok-place); l_value = sym c.has_written.ensures ∙ c.if-has_written.true }

@@ -117,7 +117,7 @@ returns-then-store-store_size c =
 pub returns-in_err-place : goal.returns-in_err-place
 returns-in_err-place c =
     let a = c.args in
-    let q = step-refused (listed a.station) a.store.now a.txn (c.if-store-store_size.false ∙ c.store_size.ensures) a.tested c.requires _ c.in_err-place.ensures.err in
+    let q = step-refused (listed a.station) a.store.now a.txn (c.if-store-store_size.false ∙ c.store_size.ensures) a.tested c.requires _ c.in_err-place.ensures.err.0 in
     let p = err_from_is_err_and c.from_residual.result c.from_residual.ensures.1 in
     record { ok = rw p.1 tt; err = rw (p.1, p.2) q; store = refused-stores _ _ _ a.store.now q }
 

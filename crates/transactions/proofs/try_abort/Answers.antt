@@ -10,7 +10,7 @@ use Rattle.transactions.proofs.try_abort.Goals as goal
 pub returns-in_err-place-clause-err : goal.returns-in_err-place-clause-err
 returns-in_err-place-clause-err c =
     let p = err_from_is_err_and c.from_residual.result c.from_residual.ensures.1 in
-    rw (p.1, p.2) (abort_refused (listed c.args.station) c.args.txn c.args.tested c.requires _ c.in_err-place.ensures.err)
+    rw (p.1, p.2) (abort_refused (listed c.args.station) c.args.txn c.args.tested c.requires _ c.in_err-place.ensures.err.0)
 
 pub returns-clause-ok : goal.returns-clause-ok
 returns-clause-ok c =

@@ -20,7 +20,7 @@ pub returns-in_err-place-clause-err : goal.returns-in_err-place-clause-err
 returns-in_err-place-clause-err c =
     let a = c.args in
     let p = err_from_is_err_and c.from_residual.result c.from_residual.ensures.1 in
-    rw (p.1, p.2) (put_refused (listed a.station) a.txn a.key a.value a.tested c.requires _ c.in_err-place.ensures.err)
+    rw (p.1, p.2) (put_refused (listed a.station) a.txn a.key a.value a.tested c.requires _ c.in_err-place.ensures.err.0)
 
 pub returns-then-not-has_written-clause-err : goal.returns-then-not-has_written-clause-err
 returns-then-not-has_written-clause-err c =
