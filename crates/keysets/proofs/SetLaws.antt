@@ -1,13 +1,12 @@
 -- What the bits of a set say of its keys.
 use Prim.Native.Nat.{ℕ, suc, ◌+◌, ◌-◌, ◌*◌, ◌%◌, ◌^◌, ◌≤◌, ◌<◌}
-use mathlib.Core.Path.{◌≡◌, refl, sym, ap, ap₂, subst, ◌∙◌}
+use mathlib.Core.Path.{◌≡◌, refl, sym, ap, subst, ◌∙◌}
 use mathlib.Core.Bool.{Bool, true, false, not, true≢false}
 use mathlib.Core.List.{List, [], ◌∷◌}
 use lib.Dec.{eqb, leb}
 use lib.ListN.{length}
-use lib.Pow.{pow_pos, pow-add, pow-lt, shl_exact}
-use native.Mathlib.Nat.{add-mul, mod_self}
-use lib.Bits.{bit_and, bit_or, and_le_l, and_le_r, and_mask, and_block, and_self}
+use lib.Pow.{pow_pos, pow-lt, shl_exact}
+use lib.Bits.{bit_and, bit_or, and_le_l, and_le_r, and_mask}
 use lib.Count.{ones, ones-le, count_trailing_zeros}
 use native.Mathlib.Omega.{arith}
 use borrow.Author.Tests.{eq-eqb, ne_eqb, eqb-true}
@@ -16,7 +15,7 @@ use Rattle.model.specs.Limits.{keys, number_range}
 use Rattle.model.specs.KeySets.{key_set, set_number}
 use Rattle.model.proofs.Tests.{and_intro, and-none-left, and-none-right, not_of_false, not-of-true}
 use Rattle.model.proofs.ListLaws.{member-yes, member-no}
-use Rattle.model.proofs.InsertLaws.{ascending-from, ascending-head, ascending-tail}
+use Rattle.model.proofs.InsertLaws.{ascending-from, ascending-tail}
 use Rattle.model.proofs.KeySetLaws.{key_below, key-beyond, one_key, ones_below, lowest-first, ascending-same, set-and, set-or, set-none, set-ascends, set-number, set-ones, number-set}
 use Rattle.keysets.specs.Parts.{IsLowest, IsRest}
 
@@ -110,36 +109,3 @@ rest-is n k h (o, (ks, e)) =
     let tail : ascending 0 keys ks ≡ true = ascending-from (suc k) 0 keys ks (omega arith) (ascending-tail 0 keys k ks up) in
     let rest : n - 2 ^ k ≡ set_number ks = omega (arith, whole) in
     (omega (arith, whole), (omega (arith, whole, pow_pos k), (k, e ∙ ap (λ (x : List ℕ). k ∷ x) (sym (ap key_set rest ∙ number-set ks tail)))))
-
--- what is higher than a key, as a multiple
-multiple : (lo : ℕ) (ks : List ℕ) → ascending lo keys ks ≡ true → (a : ℕ) × (set_number ks ≡ a * 2 ^ lo)
-unfolding set_number
-multiple lo [] h = (0, omega arith)
-multiple lo (k ∷ ks) h = go (multiple lo ks (ascending-from (suc k) lo keys ks (omega (arith, up)) (ascending-tail lo keys k ks h)))
-  where
-    up : lo ≤ k
-    up = (ascending-head lo keys k ks h).0
-
-    power : 2 ^ k ≡ 2 ^ (k - lo) * 2 ^ lo
-    power = let e : k ≡ k - lo + lo = omega (arith, up) in ap (λ (n : ℕ). 2 ^ n) e ∙ pow-add 2 (k - lo) lo
-
-    go : (a : ℕ) × (set_number ks ≡ a * 2 ^ lo) → (a : ℕ) × (2 ^ k + set_number ks ≡ a * 2 ^ lo)
-    go (a, e) = (2 ^ (k - lo) + a, ap₂ (λ (x y : ℕ). x + y) power e ∙ sym (add-mul (2 ^ (k - lo)) a (2 ^ lo)))
-
-pub cleared : (n k : ℕ) → n < number_range → IsLowest n k → bit_and n (n - 1) ≡ n - 2 ^ k
-unfolding set_number
-cleared n k h (o, (ks, e)) = go (multiple (suc k) ks (ascending-tail 0 keys k ks (subst (λ (x : List ℕ). ascending 0 keys x ≡ true) e (set-ascends n))))
-  where
-    whole : 2 ^ k + set_number ks ≡ n
-    whole = sym (ap set_number e) ∙ set-number n h
-
-    small : 2 ^ k < 2 ^ suc k
-    small = pow-lt (omega arith)
-
-    go : (a : ℕ) × (set_number ks ≡ a * 2 ^ suc k) → bit_and n (n - 1) ≡ n - 2 ^ k
-    go (a, m) =
-        let p = pow_pos k in
-        let i : n ≡ a * 2 ^ suc k + 2 ^ k = omega (arith, whole, m) in
-        let j : n - 1 ≡ a * 2 ^ suc k + (2 ^ k - 1) = omega (arith, whole, m, p) in
-        let none : bit_and (2 ^ k) (2 ^ k - 1) ≡ 0 = and_mask (2 ^ k) k ∙ mod_self (2 ^ k) in
-        ap₂ bit_and i j ∙ (and_block (suc k) a a (2 ^ k) (2 ^ k - 1) small (omega (arith, small)) ∙ (ap₂ (λ (x y : ℕ). x * 2 ^ suc k + y) (and_self a) none ∙ omega (arith, whole, m)))

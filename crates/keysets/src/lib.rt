@@ -89,12 +89,12 @@ pub fn lowest_key(set: u64) -> u8
     set.trailing_zeros() as u8
 }
 
-// The set without its lowest key: one less has ones below it in its place, and no other bit changed.
+// The set without its lowest key.
 pub fn without_lowest(set: u64) -> u64
     requires { 0 < set }
     ensures { IsRest set result }
 {
-    set & (set - 1)
+    set - bit(lowest_key(set))
 }
 
 // The key with n lower ones.

@@ -2,3 +2,4 @@ pub mod ListSteps
 pub mod ByteLaws
 pub mod FieldLaws
 pub mod SlotSteps
+pub mod WriteLoop

@@ -323,12 +323,14 @@ pub fn write_zero(part: &mut [u8])
     part.fill(0);
 }
 
-// Bytes over the front of the part lent.
+// Bytes over the front of the part lent. One by one: here `copy_from_slice` asked the host of a C archive for memmove.
 pub fn copy(part: &mut [u8], bytes: &[u8])
     requires { length bytes.now ≤ length part.old }
     ensures { take (length bytes.now) part.new ≡ bytes.now }
 {
-    part[..bytes.len()].copy_from_slice(bytes);
+    for (i, &byte) in bytes.iter().enumerate() {
+        part[i] = byte;
+    }
 }
 
 // Zeros from a place on.

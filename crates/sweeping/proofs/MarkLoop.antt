@@ -1,7 +1,7 @@
 -- Loops that mark more and more: over rows, and for one element of a list after the other.
 use Prim.Native.Nat.{ℕ, zero, suc, ◌+◌, ◌<◌, ◌≤◌}
-use mathlib.Core.Path.{◌≡◌, refl, sym, ap, ap₂, ◌∙◌}
-use mathlib.Core.Bool.{Bool, true, false, ◌||◌}
+use mathlib.Core.Path.{◌≡◌, refl, sym, ap, ◌∙◌}
+use mathlib.Core.Bool.{Bool, true, false}
 use mathlib.Core.List.{List, [], ◌∷◌}
 use lib.ListN.{length, take, get_or, set, length-set}
 use lib.Seq.{take_all}
@@ -9,15 +9,10 @@ use native.Mathlib.Nat.{not-suc-le-zero, lt_irrefl}
 use native.Mathlib.Numerals.{add-one}
 use native.Mathlib.Omega.{arith}
 use Rattle.model.specs.Lists.{◌or◌, any}
-use Rattle.model.proofs.Tests.{or-false, or_assoc}
+use Rattle.model.proofs.Tests.{or-intro-right, or-false, or_assoc}
 use Rattle.model.proofs.ListLaws.{at_set, any-yes, any-no}
 use Rattle.reading.proofs.Loops.{any-take-more}
 use Rattle.sweeping.specs.Marks.{AlsoMarked}
-
-or-is : (a b : Bool) → (a || b) ≡ (a or b)
-unfolding ◌or◌
-or-is true b = refl
-or-is false b = refl
 
 first-or : {A : Type 0} (p : A → Bool) (x : A) (xs : List A) → (p x or any p xs) ≡ any p (x ∷ xs)
 unfolding ◌or◌
@@ -40,17 +35,24 @@ module _ (p : ℕ → Bool) (m : ℕ) (xs : List Bool) where
   marking-start l = record { fits = omega arith; long = l; passed = λ j o. absurd (not-suc-le-zero o); left = λ j o. refl }
 
   module _ (d : ℕ) (ys : List Bool) (h : Marking p m d xs ys) where
+    inside : d < m → d < length ys
+    inside o = omega (arith, o, h.long)
+
     -- row d is marked where it was, or passes
-    pub marking-next : d < m → (x : Bool) → x ≡ p d → Marking p m (d + 1) xs (set ys d (get_or ys d false || x))
-    marking-next o x e = record {
+    row-written : d < m → (y : Bool) → y ≡ (get_or xs d false or p d) → Marking p m (d + 1) xs (set ys d y)
+    row-written o y e = record {
       fits = omega arith;
-      long = length-set ys d _ ∙ h.long;
-      passed = at_set (λ j y. j < d + 1 → y ≡ (get_or xs j false or p j)) ys d _ false inside (λ u. or-is (get_or ys d false) x ∙ ap₂ (λ (a b : Bool). a or b) (h.left d (omega arith)) e) (λ j n u. h.passed j (omega arith));
-      left = at_set (λ j y. d + 1 ≤ j → y ≡ get_or xs j false) ys d _ false inside (λ u. absurd (lt_irrefl d (omega arith))) (λ j n u. h.left j (omega arith));
+      long = length-set ys d y ∙ h.long;
+      passed = at_set (λ j x. j < d + 1 → x ≡ (get_or xs j false or p j)) ys d y false (inside o) (λ u. e) (λ j n u. h.passed j (omega arith));
+      left = at_set (λ j x. d + 1 ≤ j → x ≡ get_or xs j false) ys d y false (inside o) (λ u. absurd (lt_irrefl d (omega arith))) (λ j n u. h.left j (omega arith));
     }
-      where
-        inside : d < length ys
-        inside = omega (arith, h.long)
+
+    -- row d does not pass, and stays; or it does, and is marked
+    pub marking-skip : d < m → p d ≡ false → Marking p m (d + 1) xs (set ys d (get_or ys d false))
+    marking-skip o e = row-written o _ (h.left d (omega arith) ∙ (sym (or-false (get_or xs d false)) ∙ ap (λ (b : Bool). get_or xs d false or b) (sym e)))
+
+    pub marking-hit : d < m → p d ≡ true → Marking p m (d + 1) xs (set ys d true)
+    marking-hit o e = row-written o true (sym (or-intro-right (get_or xs d false) _ e))
 
     pub marking-all : m ≤ d → AlsoMarked p m xs ys
     marking-all o j u = h.passed j (omega arith)

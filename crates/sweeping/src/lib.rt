@@ -45,7 +45,9 @@ fn mark_id(
     ensures { AlsoMarked (λ d. same_id (id_at clocks.now txns.now d) id) Limits.entry_places marks.old marks.new }
 {
     for (d, mark) in marks.iter_mut().enumerate() {
-        *mark |= has_id(clocks, txns, d, id);
+        if has_id(clocks, txns, d, id) {
+            *mark = true;
+        }
     }
 }
 
