@@ -253,7 +253,7 @@ fn try_collect(
     if !is_superseded(station.entries, d) {
         return Err(Refusal::Newest);
     }
-    if is_read(station.live, e.id) {
+    if is_read(&station.live, e.id) {
         return Err(Refusal::IsRead);
     }
     let at = record_place(kind, d, 0);
