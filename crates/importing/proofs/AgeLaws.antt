@@ -2,26 +2,15 @@
 use Prim.Native.Nat.{ℕ, zero, suc, ◌≤◌}
 use mathlib.Core.Path.{◌≡◌, refl, sym, ◌∙◌}
 use mathlib.Core.Logic.{inl}
-use mathlib.Core.Bool.{true, false, not, true≢false}
+use mathlib.Core.Bool.{true, false, true≢false}
 use mathlib.Core.List.{List, [], ◌∷◌, ◌++◌}
 use lib.ListN.{drop}
-use Rattle.std.specs.Prelude.{Some}
-use Rattle.std.specs.Ordering.{is_le, is_some_and, partial_ordering_then, nat_cmp}
-use Rattle.std.proofs.lemmas.Bool.Decides.{nat_tests}
-use native.Mathlib.Omega.{arith}
 use Rattle.model.specs.declared.Id.{Id}
-use Rattle.model.specs.Lists.{◌and◌, ◌or◌}
 use Rattle.model.specs.Ids.{older, no_id}
 use Rattle.model.proofs.Tests.{and_left, and_right, and_intro, and-none-left, and-none-right}
 use Rattle.model.proofs.IdLaws.{is-older}
 use Rattle.resp.specs.Streams.{Transaction, oldest_first}
 use Rattle.resp.proofs.OldestLast.{ordered-tail}
-
--- ── `<=` on ids ──
--- clock first, then transaction: it holds where the second is not the older of the two
-pub le-older : (i j : Id) → is_some_and is_le (partial_ordering_then (Some (nat_cmp i.clock j.clock)) (Some (nat_cmp i.txn j.txn))) ≡ not (older j i)
-unfolding older ◌or◌ ◌and◌
-le-older i j = grind (arith, nat_tests)
 
 -- the last one's id; another where there is none
 unfoldable pub last_id : Id → List Transaction → Id

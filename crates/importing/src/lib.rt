@@ -13,6 +13,7 @@ ghost use Rattle.importing.specs.Passes.{VersionsFound, TakenFound, PassFound, B
 
 use keysets::with_key;
 use model::{Entry, Id, Kind, Refusal, Station};
+use reading::is_older;
 use records::{write_commit, write_version};
 use recovery::has_txn;
 use resp::{COMMAND, ID_TEXT, Transfer, version_in, write_commit_command, write_id};
@@ -103,7 +104,7 @@ fn read_stream<'a>(s: &'a [u8], room: &mut [u8]) -> Option<Pass<'a>>
     while !left.is_empty() {
         let place = Station::SLOT * (Station::SLOTS - kept);
         let (id, more) = transaction_in(left, &mut room[place..place + Station::SLOT])?;
-        if id <= last || has_txn(&txns, kept, id.txn) {
+        if !is_older(last, id) || has_txn(&txns, kept, id.txn) {
             return None;
         }
         last = id;

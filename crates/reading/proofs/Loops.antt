@@ -4,10 +4,14 @@ use mathlib.Core.Path.{◌≡◌, refl, sym, ap, ◌∙◌}
 use mathlib.Core.Bool.{Bool, true, false}
 use mathlib.Core.List.{List, [], ◌∷◌, map}
 use lib.ListN.{length, take, get_or}
+use Rattle.std.proofs.lemmas.List.{take_min}
 use native.Mathlib.Nat.{not-suc-le-zero, le_of_suc-le-suc}
 use native.Mathlib.Numerals.{add-one}
 use Rattle.model.specs.Lists.{◌or◌, any}
+use Rattle.model.specs.Types.{Live}
+use Rattle.model.specs.Lives.{reads_of}
 use Rattle.model.proofs.ListLaws.{any-yes, any-no}
+use Rattle.model.proofs.InsideLaws.{reads-are}
 
 module _ {A : Type 0} where
   -- one of the first i + 1 passes: one of the first i, or the next
@@ -32,3 +36,8 @@ pub any-map : {A B : Type 0} (p : B → Bool) (f : A → B) (xs : List A) → an
 unfolding any
 any-map p f [] = refl
 any-map p f (x ∷ xs) = λ z. elim (p (f x)) [ true ↦ true | false ↦ any-map p f xs z ]
+
+-- as many of an array's reads as the transaction has are its reads
+pub reads_taken : (l : Live) → take (length (reads_of l)) l.reads ≡ reads_of l
+unfolding reads_of
+reads_taken l = ap (λ (n : ℕ). take n l.reads) (reads-are l) ∙ take_min l.read_count l.reads

@@ -21,7 +21,7 @@ unfoldable pub kind_found : P.Option machine.LineKind → Option LineKind
 kind_found None = none
 kind_found (Some v) = some (kind_of v)
 
--- the fields that a line names are not 0, and the others are
+-- a ticket, a clock and an author are not 0 where a line names them, and what it does not name is 0
 abbrev pub is_named : LineKind → ℕ → ℕ → ℕ → ℕ → Bool
 is_named is_write t k c a = not (eqb t 0) && (eqb c 0 && eqb a 0)
 is_named is_commit t k c a = not (eqb t 0) && (eqb k 0 && not (eqb c 0) && eqb a 0)

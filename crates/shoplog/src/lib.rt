@@ -69,7 +69,7 @@ fn kind_in(s: &[u8]) -> Option<LineKind>
     }
 }
 
-// Fields that a line of the kind names are not 0, and the others are.
+// A ticket, a clock and an author are not 0 where a line of the kind names them, and what it does not name is 0.
 #[tactic(auto, unfolding(crate::specs::Parts::kind_of))]
 fn is_named(kind: LineKind, t: u32, k: u8, c: u64, a: u32) -> bool
     ensures { result ≡ is_named (kind_of kind) t k c a }

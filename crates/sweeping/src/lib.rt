@@ -21,7 +21,7 @@ ghost use Rattle.sweeping.specs.Order.{AreToCollect, AreToCollectOf};
 ghost use Rattle.sweeping.specs.Rows.{sweep_rows};
 
 use keysets::is_within;
-use model::{Answer, Entry, Id, Kind, Live, Outcome, Refusal, Station, no_entry};
+use model::{Answer, Entry, Id, Kind, Live, Outcome, Refusal, Station, no_entry, read_count};
 use reading::{Candidates, clocks_of, held_of, newest_first, txns_of};
 use records::carries_entry;
 use storing::{record_place, store_zero};
@@ -60,7 +60,7 @@ fn mark_reads(
 )
     ensures { AlsoMarked (λ d. has_id (reads_of (listed_live l.now)) (id_at clocks.now txns.now d)) Limits.entry_places marks.old marks.new }
 {
-    for read in l.reads.iter().take(usize::from(l.read_count)) {
+    for read in l.reads.iter().take(read_count(*l)) {
         mark_id(marks, clocks, txns, read.id);
     }
 }

@@ -1,11 +1,13 @@
-use Rattle.model.specs.Lives.{reads_of}
+use mathlib.Core.Path.{ap, ◌∙◌}
+use lib.ListN.{take}
+use Rattle.model.specs.Listed.{listed_live}
 use Rattle.reading.specs.Columns.{has_id}
+use Rattle.reading.proofs.Loops.{reads_taken}
 use Rattle.sweeping.proofs.MarkLoop.{left-all, left-more, left-none, take-more, take-none}
 use Rattle.sweeping.proofs.mark_reads.Goals as goal
 
 pub loop-read-init : goal.loop-read-init
-unfolding reads_of
-loop-read-init c = left-all _ _ _ _ _ cc
+loop-read-init c = left-all _ _ _ _ _ ((cc) ∙ (ap (λ n. take n c.args.l.now.reads) c.read_count.ensures.value ∙ reads_taken (listed_live c.args.l.now)))
 
 pub loop-read-preserved : goal.loop-read-preserved
 loop-read-preserved c = let h = c.in-Some.ensures.steps in left-more _ _ _ _ _ _ c.loop-read.invariant _ _ _ (take-more _ _ _ _ _ h.0 h.1) c.mark_id.ensures
