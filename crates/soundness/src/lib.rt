@@ -9,7 +9,7 @@ ghost use Rattle.model.specs.Sound.{is_no_read, is_no_live, entry_right, sound};
 ghost use Rattle.soundness.specs.Parts.{fits, is_zero, writes_right, reads_right, lists_right, counts_right, shape, named_by, place_fits, slot_free, none_past};
 
 use keysets::{has_key, key_count};
-use model::{Entry, Kind, Live, Phase, Read, Station};
+use model::{Entry, Kind, Live, Phase, Read, Station, write_count};
 
 // Transactions, live and held, at most.
 const TXNS: usize = Station::LIVE + Station::SLOTS;
@@ -90,7 +90,7 @@ fn shape_right(kind: Kind, l: &Live) -> bool
         Phase::Unused => unused_right(l),
         Phase::Open => lists_right(kind, l),
         Phase::Closing(_, clock, stored) => {
-            counts_right(clock, stored, key_count(l.keys)) && lists_right(kind, l)
+            counts_right(clock, stored, write_count(*l)) && lists_right(kind, l)
         }
     }
 }

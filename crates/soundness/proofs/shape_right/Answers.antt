@@ -1,10 +1,7 @@
 use Rattle.std.proofs.Common.{◌≡◌, ◌∙◌, sym, ap, Bool, true, false}
 use Rattle.model.specs.declared.Phase.{Phase}
-use Rattle.model.specs.KeySets.{key_set}
 use Rattle.model.specs.Lists.{◌and◌}
-use Rattle.model.specs.Lives.{writes_of, write_count}
 use Rattle.model.specs.Listed.{kind_of, listed_live}
-use Rattle.model.proofs.ValuedLaws.{valued-count}
 use Rattle.soundness.specs.Parts.{lists_right, counts_right, shape_right, shape}
 use Rattle.soundness.proofs.shape_right.Goals.{After-counts_right}
 use Rattle.soundness.proofs.shape_right.Goals as goal
@@ -19,12 +16,11 @@ returns-in-Open c = c.lists_right.ensures ∙ sym (ap (λ (p : Phase). shape_rig
 
 -- a closing transaction's counts, by how many keys it writes
 counts : (c : After-counts_right) (b : Bool) → c.counts_right.result ≡ b → shape (kind_of c.args.kind) (listed_live c.args.l.now) ≡ (b and lists_right (kind_of c.args.kind) (listed_live c.args.l.now))
-unfolding shape_right writes_of
+unfolding shape_right
 counts c b e =
     let l = c.args.l.now in
-    let n : c.key_count.result ≡ write_count (listed_live l) = c.key_count.ensures ∙ sym (valued-count (key_set l.keys) l.values) in
     ap (λ (p : Phase). shape_right (kind_of c.args.kind) p (listed_live l)) c.in-Closing.is
-    ∙ ap (λ (x : Bool). x and lists_right (kind_of c.args.kind) (listed_live l)) (sym (c.counts_right.ensures ∙ ap (counts_right _ _) n) ∙ e)
+    ∙ ap (λ (x : Bool). x and lists_right (kind_of c.args.kind) (listed_live l)) (sym (c.counts_right.ensures ∙ ap (counts_right _ _) c.write_count.ensures) ∙ e)
 
 pub returns-then-counts_right : goal.returns-then-counts_right
 unfolding ◌and◌

@@ -12,10 +12,10 @@ returns-in_err-place c =
     let e = c.in_err-place.ensures.err in
     rw (p.1, p.2) (record { ok = tt; err = (open-early (listed_lives a.live) a.txn a.key a.tested _ e.0, e.1) })
 
-pub returns-then-is_closing-clause-err : goal.returns-then-is_closing-clause-err
-returns-then-is_closing-clause-err c =
+pub returns-then-is_closing : goal.returns-then-is_closing
+returns-then-is_closing c =
     let n = c.in_ok-place.ensures.ok in
-    (open-closing _ _ _ _ n.0 _ n.1 _ c.phase_at.ensures (sym c.is_closing.ensures ∙ c.if-is_closing.true), n.1)
+    record { ok = tt; err = (open-closing _ _ _ _ n.0 _ n.1 _ c.phase_at.ensures (sym c.is_closing.ensures ∙ c.if-is_closing.true), n.1) }
 
 pub returns-clause-ok : goal.returns-clause-ok
 returns-clause-ok c =
