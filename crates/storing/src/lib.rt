@@ -179,7 +179,6 @@ pub fn step(station: Station, tested: bool, store: &mut [u8], txn: u32) -> Chang
     }
 }
 
-#[inline(always)]
 fn try_step(station: Station, tested: bool, store: &mut [u8], txn: u32) -> Result<Change, Refusal>
     requires { tested ≡ sound (listed station) }
     ensures ok { IfOk result (IsChange station (step (listed station) store.old txn)) }
@@ -226,7 +225,6 @@ pub fn collect(station: Station, tested: bool, store: &mut [u8], slot: u8) -> Ch
     }
 }
 
-#[inline(always)]
 fn try_collect(
     station: Station,
     tested: bool,
