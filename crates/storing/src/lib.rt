@@ -179,6 +179,7 @@ pub fn step(station: Station, tested: bool, store: &mut [u8], txn: u32) -> Chang
     }
 }
 
+// Measured: marked `#[inline(always)]`, as try_get is, it copies the station once more.
 fn try_step(station: Station, tested: bool, store: &mut [u8], txn: u32) -> Result<Change, Refusal>
     requires { tested ≡ sound (listed station) }
     ensures ok { IfOk result (IsChange station (step (listed station) store.old txn)) }
@@ -225,6 +226,7 @@ pub fn collect(station: Station, tested: bool, store: &mut [u8], slot: u8) -> Ch
     }
 }
 
+// Measured: marked so too, a collect zeroes two places more.
 fn try_collect(
     station: Station,
     tested: bool,

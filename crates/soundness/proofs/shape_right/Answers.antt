@@ -1,3 +1,4 @@
+use native.Mathlib.Omega.{arith}
 use Rattle.std.proofs.Common.{◌≡◌, ◌∙◌, sym, ap, Bool, true, false}
 use Rattle.model.specs.declared.Phase.{Phase}
 use Rattle.model.specs.Lists.{◌and◌}
@@ -20,7 +21,7 @@ unfolding shape_right
 counts c b e =
     let l = c.args.l.now in
     ap (λ (p : Phase). shape_right (kind_of c.args.kind) p (listed_live l)) c.in-Closing.is
-    ∙ ap (λ (x : Bool). x and lists_right (kind_of c.args.kind) (listed_live l)) (sym (c.counts_right.ensures ∙ ap (counts_right _ _) c.write_count.ensures) ∙ e)
+    ∙ ap (λ (x : Bool). x and lists_right (kind_of c.args.kind) (listed_live l)) (sym (c.counts_right.ensures ∙ ap (counts_right _ _) (omega (arith, c.write_count.ensures))) ∙ e)
 
 pub returns-then-counts_right : goal.returns-then-counts_right
 unfolding ◌and◌
