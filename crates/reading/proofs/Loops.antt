@@ -37,7 +37,7 @@ unfolding any
 any-map p f [] = refl
 any-map p f (x ∷ xs) = λ z. elim (p (f x)) [ true ↦ true | false ↦ any-map p f xs z ]
 
--- as many of an array's reads as the transaction has are its reads
-pub reads_taken : (l : Live) → take (length (reads_of l)) l.reads ≡ reads_of l
+-- as many of a place's reads as the transaction has are its reads
+pub reads_taken : (l : Live) (n : ℕ) → n ≡ length (reads_of l) → take n l.reads ≡ reads_of l
 unfolding reads_of
-reads_taken l = ap (λ (n : ℕ). take n l.reads) (reads-are l) ∙ take_min l.read_count l.reads
+reads_taken l n e = ap (λ (j : ℕ). take j l.reads) (e ∙ reads-are l) ∙ take_min l.read_count l.reads
